@@ -1,7 +1,7 @@
 -- The subcommand that the words name, and what clap gives its arguments where it finds no fault in the words.
-use Rattle.std.proofs.Common.{◌≡◌, ◌∙◌, ◌||◌, ◌&&◌, ◌⊎◌, inl, inr, not, ℕ, Bool, true, false, List, [], ◌∷◌, refl, sym, ap, subst, subst₂, Option, Some, None, Result, Ok, Err, is_some, codes}
+use Rattle.std.proofs.Common.{◌≡◌, ◌∙◌, ◌||◌, ◌&&◌, ◌++◌, ◌⊎◌, inl, inr, not, ℕ, Bool, true, false, List, [], ◌∷◌, refl, sym, ap, ap₂, subst, subst₂, Option, Some, None, Result, Ok, Err, is_some, codes}
 use mathlib.Core.Path.{fun_ext}
-use Rattle.std.specs.Prelude.{◌≢◌, ⊤, IfOk, IfSome, IsSome, cond, find, option_map, slice_get, string_bytes, unwrap_or}
+use Rattle.std.specs.Prelude.{◌≢◌, ⊤, IfOk, IfSome, IsSome, cond, find, map, option_map, string_bytes, take, unwrap_or}
 use Rattle.std.specs.List.{list_any}
 use Rattle.std.specs.Option.{option_map_or}
 use Rattle.std.specs.Str.{bytes_eq}
@@ -9,7 +9,7 @@ use Rattle.std.proofs.lemmas.Slice.Eq.{bytes_eq-Decides}
 use Rattle.std.proofs.lemmas.Option.{same_Some}
 use Rattle.clap.specs.Kinds.{FailsBy, Kinds, check_kinds}
 use Rattle.clap.specs.Simple.{App, Shape, argument_words, built, entered, label_of, names_of, rows_at}
-use Rattle.clap.specs.Walk.{Names, Row, Rule, Text, answers_to, has_long, has_short, nothing_held, rows_after, stop_after, walk_from}
+use Rattle.clap.specs.Walk.{Names, Row, Rule, Text, action_of, answers_to, has_long, has_short, is_empty, nothing_held, reading_by, rows_after, stop_after, takes_values, used_as, values_or_missing, walk_from}
 use Rattle.clap.specs.Takes.{is_given}
 use Rattle.clap.specs.Faults.{level_fault, entered_fault, check_fault, fault_of, is_simple_and_free, walk_fault}
 use Rattle.clap.specs.Words.{HasMatchesOf, first_of, first_value, found_of, is_simple, matched_of, raw_values, rows_of, subcommand_name_of, subcommand_of, subcommand_rows, subcommand_rows_of}
@@ -18,12 +18,20 @@ use Rattle.std.specs.Box.{box_value}
 use Rattle.clap.specs.declared.ArgMatches.{ArgMatches}
 use Rattle.clap.specs.declared.error.Error.{Error}
 use Rattle.clap.proofs.WalkLemmas.{first_value-rows, raw_values-rows}
-use Rattle.dconf_args.specs.Asked.{AreWordsOf, AsksToUpdate, HasValue, IsAskedBy, IsOf, IsParsedBy, IsPlacedBy, Takes, is_set, profile_file}
+use Rattle.dconf_args.specs.Asked.{AsksToUpdate, HasValue, IsAskedBy, IsNamedBy, IsOf, IsParsedBy, IsPlacedBy, Takes, is_set}
 use Rattle.dconf_args.specs.declared.commands.Command.{Command}
 use Rattle.dconf_args.specs.CommandLine.{command_line, show_line}
 use Rattle.dconf_args.specs.declared.place.Place.{Place}
 use Rattle.dconf_args.proofs.Stops.{IsNotHelp, StopsAt, or_else_nil, walk_not_help}
+use Rattle.dconf_args.specs.Taken.{is_among}
 use Rattle.dconf_args.proofs.Filled.{OnlyAsks, walk_filled, given_first, is_option}
+use Rattle.dconf_args.proofs.Lines.{first_not}
+use Rattle.clap.proofs.SimpleLemmas.{is_nil}
+use Rattle.clap.specs.declared.builder.ArgAction.{ArgAction}
+use Rattle.clap.specs.declared.builder.ArgAction.TheVariants as action
+use Rattle.clap.specs.declared.builder.value_parser.Reading.{Reading}
+use Rattle.std.specs.List.{list_all}
+use Rattle.std.proofs.lemmas.Bool.{and_parts}
 
 -- no fault of a level
 no_fault : (s : Shape) (names : Names) (words : List Text) (has : Bool) (below : Kinds) → level_fault s names nothing_held words has below ≡ []
@@ -73,218 +81,110 @@ check_gives s rows id e w =
 abbrev pub line : App
 line = built command_line
 
-abbrev IsRunName : Text → Type 0
-IsRunName name =
-    (name ≡ codes "read") ⊎ ((name ≡ codes "write") ⊎ ((name ≡ codes "reset") ⊎ ((name ≡ codes "list") ⊎ ((name ≡ codes "dump") ⊎ ((name ≡ codes "load") ⊎ ((name ≡ codes "origin") ⊎ ((name ≡ codes "list-locks") ⊎ ((name ≡ codes "compile") ⊎ ((name ≡ codes "check") ⊎ ((name ≡ codes "repair") ⊎ ((name ≡ codes "show") ⊎ (name ≡ codes "explain"))))))))))))
+-- the action only asks for help or the version
+abbrev only_asks : ArgAction → Bool
+only_asks action.Help = true
+only_asks action.Version = true
+only_asks _ = false
 
--- one that runs, or `update`
-abbrev IsCommandName : Text → Type 0
-IsCommandName name = IsRunName name ⊎ (name ≡ codes "update")
+asks_alone : (x : ArgAction) (id : Text) (how : Reading) (values : List Text) (rows : List Row) → only_asks x ≡ true → used_as x id how values rows ≡ rows
+asks_alone action.Set id how values rows e = cc
+asks_alone action.SetTrue id how values rows e = cc
+asks_alone action.SetFalse id how values rows e = cc
+asks_alone action.Count id how values rows e = cc
+asks_alone action.Append id how values rows e = cc
+asks_alone action.Help id how values rows e = refl
+asks_alone action.HelpShort id how values rows e = cc
+asks_alone action.HelpLong id how values rows e = cc
+asks_alone action.Version id how values rows e = refl
 
-abbrev pub Each : {X : Type 0} → (X → Type 0) → List X → Type 0
-Each P [] = ⊤
-Each P (x ∷ rest) = P x × Each P rest
+-- a rule of a word in its place, of an option, or of a flag that only asks
+abbrev is_plain_rule : Rule → Bool
+is_plain_rule a = is_some a.index || (is_option a.id || (not (takes_values a) && only_asks (action_of a)))
 
--- a rule of a word in its place, of an option, or of a flag that only asks for help
-abbrev IsPlainRule : Rule → Type 0
-IsPlainRule a = (is_some a.index ≡ true) ⊎ OnlyAsks (Some a)
-
-met_asks : (a : Rule) (t : Bool) → IsPlainRule a → (not (is_some a.index) && t) ≡ true → OnlyAsks (Some a)
-met_asks a t (inl placed) met = let other : false ≡ true = rw placed at met in cc
-met_asks a t (inr asks) met = asks
-
-flags_ask : (named : Rule → Bool) (rules : List Rule) → Each IsPlainRule rules → OnlyAsks (find (λ a. not (is_some a.index) && named a) rules)
-flags_ask named [] each = tt
-flags_ask named (a ∷ rest) each = go (not (is_some a.index) && named a) refl (flags_ask named rest each.1)
+plain_asks : (a : Rule) → is_plain_rule a ≡ true → is_some a.index ≡ false → OnlyAsks (Some a)
+plain_asks a e other = go (is_option a.id) (takes_values a) (only_asks (action_of a)) refl refl refl (rw other at e)
   where
-    go : (t : Bool) → (not (is_some a.index) && named a) ≡ t → OnlyAsks (find (λ x. not (is_some x.index) && named x) rest)
-        → OnlyAsks (cond t (Some a) (find (λ x. not (is_some x.index) && named x) rest))
-    go true met later = met_asks a (named a) each.0 met
+    go : (free takes asks : Bool) → is_option a.id ≡ free → takes_values a ≡ takes → only_asks (action_of a) ≡ asks → (free || (not takes && asks)) ≡ true
+        → OnlyAsks (Some a)
+    go true takes asks f t q p = inl f
+    go false true asks f t q p = cc
+    go false false true f t q p = inr (t, λ rows. asks_alone (action_of a) a.id (reading_by a) (values_or_missing a []) rows q)
+    go false false false f t q p = cc
+
+-- what a search finds passes each test that all pass
+found_passes : {X : Type 0} (all test : X → Bool) (xs : List X) → list_all all xs ≡ true → IfSome (find test xs) (λ x. (all x ≡ true) × (test x ≡ true))
+found_passes all test [] e = tt
+found_passes all test (x ∷ rest) e = go (test x) refl (found_passes all test rest (and_parts _ _ e).1)
+  where
+    go : (t : Bool) → test x ≡ t → IfSome (find test rest) (λ y. (all y ≡ true) × (test y ≡ true))
+        → IfSome (cond t (Some x) (find test rest)) (λ y. (all y ≡ true) × (test y ≡ true))
+    go true met later = ((and_parts _ _ e).0, met)
     go false met later = later
 
--- its flags only ask for help, but for options, and its name is a command's
-record IsPlainSub (s : Shape) : Type 0 where
-  rules : Each IsPlainRule s.rules
-  name : IsCommandName s.name
+flags_ask : (named : Rule → Bool) (rules : List Rule) → list_all is_plain_rule rules ≡ true → OnlyAsks (find (λ a. not (is_some a.index) && named a) rules)
+flags_ask named rules e = go _ (found_passes is_plain_rule (λ a. not (is_some a.index) && named a) rules e)
+  where
+    go : (o : Option Rule) → IfSome o (λ a. (is_plain_rule a ≡ true) × ((not (is_some a.index) && named a) ≡ true)) → OnlyAsks o
+    go None met = tt
+    go (Some a) met = plain_asks a met.0 (first_not _ _ met.1)
+
+abbrev command_names : List Text
+command_names = map (λ s. s.name) command_line.subs
+
+-- its flags only ask, but for options, and its name is a command's
+abbrev is_ours : Shape → Bool
+is_ours s = list_all is_plain_rule s.rules && is_among s.name command_names
 
 -- it is one of ours or, after ours, clap's own `help`
-pub record IsOffered (s : Shape) : Type 0 where
-  pub alone : s.aliases ≡ []
-  ours : s.name ≢ codes "help" → IsPlainSub s
+abbrev pub is_offered : Shape → Bool
+is_offered s = is_empty s.aliases && (bytes_eq s.name (codes "help") || is_ours s)
 
-each_found : (P : Shape → Type 0) (test : Shape → Bool) (subs : List Shape) → Each P subs → IfSome (find test subs) (λ s. P s × (test s ≡ true))
-each_found P test [] each = tt
-each_found P test (s ∷ rest) each = go (test s) refl (each_found P test rest each.1)
+pub all_offered : list_all is_offered line.subs ≡ true
+all_offered = refl
+
+ours : (s : Shape) → (bytes_eq s.name (codes "help") || is_ours s) ≡ true → s.name ≢ codes "help" → is_ours s ≡ true
+ours s e other = go (bytes_eq s.name (codes "help")) refl e
   where
-    go : (t : Bool) → test s ≡ t → IfSome (find test rest) (λ x. P x × (test x ≡ true)) → IfSome (cond t (Some s) (find test rest)) (λ x. P x × (test x ≡ true))
-    go true e later = (each.0, e)
-    go false e later = later
-
--- the commands as they are built
-abbrev shape_at : ℕ → Shape
-shape_at n = unwrap_or (slice_get line.subs n) show_line.top
-
-read_is_plain : IsPlainSub (shape_at 0)
-read_is_plain = record {
-  rules = (inl refl, (inr (inl refl), (inr (inl refl), (inr (inl refl), (inr (inl refl), (inr (inr (refl, λ rows. refl)), tt))))));
-  name = inl (inl refl);
-}
-
-write_is_plain : IsPlainSub (shape_at 1)
-write_is_plain = record {
-  rules = (inl refl, (inl refl, (inr (inl refl), (inr (inl refl), (inr (inl refl), (inr (inr (refl, λ rows. refl)), tt))))));
-  name = inl (inr (inl refl));
-}
-
-reset_is_plain : IsPlainSub (shape_at 2)
-reset_is_plain = record {
-  rules = (inl refl, (inr (inl refl), (inr (inl refl), (inr (inl refl), (inr (inl refl), (inr (inr (refl, λ rows. refl)), tt))))));
-  name = inl (inr (inr (inl refl)));
-}
-
-list_is_plain : IsPlainSub (shape_at 3)
-list_is_plain = record {
-  rules = (inl refl, (inr (inl refl), (inr (inl refl), (inr (inl refl), (inr (inr (refl, λ rows. refl)), tt)))));
-  name = inl (inr (inr (inr (inl refl))));
-}
-
-dump_is_plain : IsPlainSub (shape_at 4)
-dump_is_plain = record {
-  rules = (inl refl, (inr (inl refl), (inr (inl refl), (inr (inl refl), (inr (inl refl), (inr (inr (refl, λ rows. refl)), tt))))));
-  name = inl (inr (inr (inr (inr (inl refl)))));
-}
-
-load_is_plain : IsPlainSub (shape_at 5)
-load_is_plain = record {
-  rules = (inl refl, (inr (inl refl), (inr (inl refl), (inr (inl refl), (inr (inl refl), (inr (inl refl), (inr (inr (refl, λ rows. refl)), tt)))))));
-  name = inl (inr (inr (inr (inr (inr (inl refl))))));
-}
-
-origin_is_plain : IsPlainSub (shape_at 6)
-origin_is_plain = record {
-  rules = (inl refl, (inr (inl refl), (inr (inl refl), (inr (inl refl), (inr (inr (refl, λ rows. refl)), tt)))));
-  name = inl (inr (inr (inr (inr (inr (inr (inl refl)))))));
-}
-
-explain_is_plain : IsPlainSub (shape_at 7)
-explain_is_plain = record {
-  rules = (inl refl, (inr (inl refl), (inr (inl refl), (inr (inl refl), (inr (inr (refl, λ rows. refl)), tt)))));
-  name = inl (inr (inr (inr (inr (inr (inr (inr (inr (inr (inr (inr (inr refl))))))))))));
-}
-
-list_locks_is_plain : IsPlainSub (shape_at 8)
-list_locks_is_plain = record {
-  rules = (inl refl, (inr (inl refl), (inr (inl refl), (inr (inl refl), (inr (inr (refl, λ rows. refl)), tt)))));
-  name = inl (inr (inr (inr (inr (inr (inr (inr (inl refl))))))));
-}
-
-compile_is_plain : IsPlainSub (shape_at 9)
-compile_is_plain = record {
-  rules = (inl refl, (inr (inl refl), (inl refl, (inr (inr (refl, λ rows. refl)), tt))));
-  name = inl (inr (inr (inr (inr (inr (inr (inr (inr (inl refl)))))))));
-}
-
-update_is_plain : IsPlainSub (shape_at 10)
-update_is_plain = record {
-  rules = (inl refl, (inr (inr (refl, λ rows. refl)), tt));
-  name = inr refl;
-}
-
-check_is_plain : IsPlainSub (shape_at 11)
-check_is_plain = record {
-  rules = (inl refl, (inr (inr (refl, λ rows. refl)), tt));
-  name = inl (inr (inr (inr (inr (inr (inr (inr (inr (inr (inl refl))))))))));
-}
-
-repair_is_plain : IsPlainSub (shape_at 12)
-repair_is_plain = record {
-  rules = (inl refl, (inl refl, (inr (inr (refl, λ rows. refl)), tt)));
-  name = inl (inr (inr (inr (inr (inr (inr (inr (inr (inr (inr (inl refl)))))))))));
-}
-
-show_is_plain : IsPlainSub (shape_at 13)
-show_is_plain = record {
-  rules = (inl refl, (inl refl, (inr (inr (refl, λ rows. refl)), tt)));
-  name = inl (inr (inr (inr (inr (inr (inr (inr (inr (inr (inr (inr (inl refl))))))))))));
-}
-
-pub offered_subs : Each IsOffered line.subs
-offered_subs = (
-  record { alone = refl; ours = λ _. read_is_plain },
-  (
-    record { alone = refl; ours = λ _. write_is_plain },
-    (
-      record { alone = refl; ours = λ _. reset_is_plain },
-      (
-        record { alone = refl; ours = λ _. list_is_plain },
-        (
-          record { alone = refl; ours = λ _. dump_is_plain },
-          (
-            record { alone = refl; ours = λ _. load_is_plain },
-            (
-              record { alone = refl; ours = λ _. origin_is_plain },
-              (
-                record { alone = refl; ours = λ _. explain_is_plain },
-                (
-                  record { alone = refl; ours = λ _. list_locks_is_plain },
-                  (
-                    record { alone = refl; ours = λ _. compile_is_plain },
-                    (
-                      record { alone = refl; ours = λ _. update_is_plain },
-                      (
-                        record { alone = refl; ours = λ _. check_is_plain },
-                        (
-                          record { alone = refl; ours = λ _. repair_is_plain },
-                          (record { alone = refl; ours = λ _. show_is_plain }, (record { alone = refl; ours = λ other. absurd (other refl) }, tt)),
-                        ),
-                      ),
-                    ),
-                  ),
-                ),
-              ),
-            ),
-          ),
-        ),
-      ),
-    ),
-  ),
-)
+    go : (t : Bool) → bytes_eq s.name (codes "help") ≡ t → (t || is_ours s) ≡ true → is_ours s ≡ true
+    go true same f = absurd (other ((bytes_eq-Decides s.name (codes "help")).0 same))
+    go false same f = f
 
 -- the subcommand of this name
 abbrev pub sub_named : Text → Shape
 sub_named name = unwrap_or (find (λ s. answers_to name (label_of s)) line.subs) show_line.top
 
-pub answers_alone : (name asked : Text) (aliases : List Text) → aliases ≡ [] → answers_to asked (name, aliases) ≡ true → name ≡ asked
-answers_alone name asked aliases none e = go (bytes_eq name asked) refl (rw none at e)
+pub answers_alone : (s : Shape) (asked : Text) → is_offered s ≡ true → answers_to asked (label_of s) ≡ true → s.name ≡ asked
+answers_alone s asked offered e = go (bytes_eq s.name asked) refl (rw (is_nil s.aliases (and_parts _ _ offered).0) at e)
   where
-    go : (t : Bool) → bytes_eq name asked ≡ t → (t || false) ≡ true → name ≡ asked
-    go true same f = (bytes_eq-Decides name asked).0 same
+    go : (t : Bool) → bytes_eq s.name asked ≡ t → (t || false) ≡ true → s.name ≡ asked
+    go true same f = (bytes_eq-Decides s.name asked).0 same
     go false same f = cc
 
 -- what clap gives the arguments of the subcommand that it met
 pub record Enters (met : Option (Text × List Row)) : Type 0 where
   pub name : Text
-  pub one : IsCommandName name
+  pub one : is_among name command_names ≡ true
   pub rows : List Row
   pub named : met ≡ Some (name, rows)
   pub given : (id : Text) → is_option id ≡ false → wants (sub_named name).rules id ≡ true → IsSome (first_of id rows)
 
 sub_entered : (asked : Text) (words : List Text) (o : Option Shape) → asked ≢ codes "help" → find (λ s. answers_to asked (label_of s)) line.subs ≡ o
-    → IfSome o (λ s. IsOffered s × (answers_to asked (label_of s) ≡ true))
+    → IfSome o (λ s. (is_offered s ≡ true) × (answers_to asked (label_of s) ≡ true))
     → option_map_or (λ s. level_fault s [] nothing_held words false []) o [] ≡ []
     → is_some (option_map (λ s. rows_at s words) o) ≡ true → Enters (option_map (λ s. rows_at s words) o)
 sub_entered asked words None other found offered fault met = cc
 sub_entered asked words (Some s) other found offered fault met =
     let rows = rows_after s.rules [] words in
-    let named : s.name ≡ asked = answers_alone s.name asked s.aliases offered.0.alone offered.1 in
-    let plain : IsPlainSub s = offered.0.ours (λ help. other (sym named ∙ help)) in
+    let named : s.name ≡ asked = answers_alone s asked offered.0 offered.1 in
+    let plain = and_parts _ _ (ours s (and_parts _ _ offered.0).1 (λ help. other (sym named ∙ help))) in
     let same : sub_named s.name ≡ s = ap sub_named named ∙ ap (λ (o : Option Shape). unwrap_or o show_line.top) found in
     let checked = (no_fault s [] words false [] fault).2 in
-    let filled = walk_filled s.rules (λ name. flags_ask (λ a. has_long a name) s.rules plain.rules) (λ x. flags_ask (λ a. has_short a x) s.rules plain.rules) []
+    let filled = walk_filled s.rules (λ name. flags_ask (λ a. has_long a name) s.rules plain.0) (λ x. flags_ask (λ a. has_short a x) s.rules plain.0) []
     nothing_held words (tt, tt) in
     record {
       name = s.name;
-      one = plain.name;
+      one = plain.1;
       rows = rows;
       named = refl;
       given = λ id other wanted. given_first id rows other filled (check_gives s rows id checked (subst (λ (x : Shape). wants x.rules id ≡ true) same wanted));
@@ -293,7 +193,7 @@ sub_entered asked words (Some s) other found offered fault met =
 entered_gives : (stop : Option (Text × List Text)) → StopsAt IsNotHelp stop → entered_fault line stop ≡ [] → is_some (entered line stop) ≡ true → Enters (entered line stop)
 entered_gives None other fault met = cc
 entered_gives (Some p) other fault met =
-    sub_entered p.0 p.1 _ other refl (each_found IsOffered (λ s. answers_to p.0 (label_of s)) line.subs offered_subs) fault met
+    sub_entered p.0 p.1 _ other refl (found_passes is_offered (λ s. answers_to p.0 (label_of s)) line.subs all_offered) fault met
 
 met_below : (rows : List Row) (has : Bool) → check_fault line.top rows has ≡ [] → has ≡ true
 met_below rows true e = refl
@@ -307,6 +207,70 @@ enters words e =
     let other : StopsAt IsNotHelp stop = walk_not_help line.top (names_of line) refl nothing_held args level.0 in
     entered_gives stop other level.1 (met_below (rows_after line.top.rules (names_of line) args) (is_some (entered line stop)) level.2)
 
+-- ---- what clap gives the subcommand of this name
+
+-- it is none of these
+abbrev pub NoneOf : Text → List Text → Type 0
+NoneOf name [] = ⊤
+NoneOf name (x ∷ rest) = (name ≢ x) × NoneOf name rest
+
+last_name : (name : Text) (others : List Text) (x : Text) → is_among name (others ++ x ∷ []) ≡ true → NoneOf name others → name ≡ x
+last_name name [] x e none = go (bytes_eq x name) refl e
+  where
+    go : (t : Bool) → bytes_eq x name ≡ t → (t || false) ≡ true → name ≡ x
+    go true same f = sym ((bytes_eq-Decides x name).0 same)
+    go false same f = cc
+last_name name (y ∷ rest) x e none = go (bytes_eq y name) refl e (λ f. last_name name rest x f none.1)
+  where
+    go : (t : Bool) → bytes_eq y name ≡ t → (t || is_among name (rest ++ x ∷ [])) ≡ true → (is_among name (rest ++ x ∷ []) ≡ true → name ≡ x) → name ≡ x
+    go true same f later = absurd (none.0 (sym ((bytes_eq-Decides y name).0 same)))
+    go false same f later = later f
+
+module _ (words : List Text) (name : Text) (sub : ArgMatches) (p : IsNamedBy words name sub) where
+  met : Enters (subcommand_of command_line words)
+  met = enters words p.sound
+
+  same : ◌≡◌ {A = Text × List Row} (met.name, met.rows) (name, rows_of (found_of sub))
+  same = same_Some _ _ (sym met.named ∙ p.named)
+
+  -- one that is no other command is `show`
+  pub is_show : NoneOf name (take 13 command_names) → name ≡ codes "show"
+  is_show = last_name name (take 13 command_names) (codes "show") (subst (λ (n : Text). is_among n command_names ≡ true) (ap (λ q. q.0) same) met.one)
+
+  -- a word that it requires has a value
+  pub given : (asked : Text) → name ≡ asked → (id : Text) → is_option id ≡ false → wants (sub_named asked).rules id ≡ true → HasValue sub id
+  given asked is id other wanted =
+      let named : asked ≡ met.name = sym is ∙ sym (ap (λ q. q.0) same) in
+      rw (first_value-rows (found_of sub) id, sym (ap (λ q. q.1) same)) (met.given id other (subst (λ (n : Text). wants (sub_named n).rules id ≡ true) named wanted))
+
+  -- what clap found says the same as the rows of the words
+  pub asked_by : (command : Command) → IsOf name sub command → IsAskedBy words command
+  asked_by command of = record {
+    rows = rows_of (found_of sub);
+    named = p.named ∙ ap (λ (n : Text). Some (n, rows_of (found_of sub))) (sym of.0);
+    values = subst₂ (λ f g. Takes f g command) (fun_ext (first_value-rows (found_of sub))) (fun_ext (raw_values-rows (found_of sub))) of.1;
+  }
+
+  pub asks_to_update : (folder : Option Text) → name ≡ codes "update" → folder ≡ first_value (found_of sub) (codes "FOLDER") → AsksToUpdate words folder
+  asks_to_update folder is f = record {
+    rows = rows_of (found_of sub);
+    named = p.named ∙ ap (λ (n : Text). Some (n, rows_of (found_of sub))) is;
+    folder_value = sym (first_value-rows (found_of sub) (codes "FOLDER")) ∙ sym f;
+  }
+
+  -- and its options say where the store is
+  pub placed_by : (place : Place) → place.is_users ≡ is_set (first_value (found_of sub) (codes "user"))
+      → option_map string_bytes place.folder ≡ first_value (found_of sub) (codes "store")
+      → option_map string_bytes place.profile ≡ first_value (found_of sub) (codes "profile") → IsPlacedBy words place
+  placed_by place u f q = record {
+    name = name;
+    rows = rows_of (found_of sub);
+    named = p.named;
+    user_value = ap is_set (sym (first_value-rows (found_of sub) (codes "user"))) ∙ sym u;
+    folder_value = sym (first_value-rows (found_of sub) (codes "store")) ∙ sym f;
+    profile_value = sym (first_value-rows (found_of sub) (codes "profile")) ∙ sym q;
+  }
+
 -- ---- what a parse gave
 
 name_by_rows : (m : ArgMatches) → subcommand_name_of m ≡ option_map (λ p. p.0) (subcommand_rows_of m)
@@ -315,104 +279,31 @@ name_by_rows m = elim (out-ArgMatches m).subcommand as (λ o. option_map (λ b. 
   | Some b ↦ refl
 ]
 
--- the name of the subcommand that was met
-met_name : (words : List Text) (m : ArgMatches) (p : IsParsedBy words m) → subcommand_name_of m ≡ Some (enters words p.sound).name
-met_name words m p = name_by_rows m ∙ ap (option_map (λ q. q.0)) (p.met ∙ (enters words p.sound).named)
+module _ {X : Type 0} (words : List Text) (m : ArgMatches) (p : IsParsedBy words m) (f : X → Text) (g : X → List Row) (o : Option X)
+    (names : option_map f o ≡ subcommand_name_of m) (rows : option_map g o ≡ option_map (λ q. q.1) (subcommand_rows_of m)) where
+  abbrev pair : X → Text × List Row
+  pair x = (f x, g x)
 
--- one that is no other command is `show`
-pub named_show : (words : List Text) (m : ArgMatches) → IsParsedBy words m
-    → subcommand_name_of m ≢ Some (codes "update")
-    → subcommand_name_of m ≢ Some (codes "check")
-    → subcommand_name_of m ≢ Some (codes "compile")
-    → subcommand_name_of m ≢ Some (codes "read")
-    → subcommand_name_of m ≢ Some (codes "origin")
-    → subcommand_name_of m ≢ Some (codes "repair")
-    → subcommand_name_of m ≢ Some (codes "list")
-    → subcommand_name_of m ≢ Some (codes "list-locks")
-    → subcommand_name_of m ≢ Some (codes "dump")
-    → subcommand_name_of m ≢ Some (codes "write")
-    → subcommand_name_of m ≢ Some (codes "reset")
-    → subcommand_name_of m ≢ Some (codes "load")
-    → subcommand_name_of m ≢ Some (codes "explain")
-    → subcommand_name_of m ≡ Some (codes "show")
-named_show words m p not_update not_check not_compile not_read not_origin not_repair not_list not_list_locks not_dump not_write not_reset not_load not_explain = go (enters words p.sound).one
-  where
-    among : IsRunName (enters words p.sound).name → subcommand_name_of m ≡ Some (codes "show")
-    among (inl read) = absurd (not_read (met_name words m p ∙ ap Some read))
-    among (inr (inl write)) = absurd (not_write (met_name words m p ∙ ap Some write))
-    among (inr (inr (inl reset))) = absurd (not_reset (met_name words m p ∙ ap Some reset))
-    among (inr (inr (inr (inl list)))) = absurd (not_list (met_name words m p ∙ ap Some list))
-    among (inr (inr (inr (inr (inl dump))))) = absurd (not_dump (met_name words m p ∙ ap Some dump))
-    among (inr (inr (inr (inr (inr (inl load)))))) = absurd (not_load (met_name words m p ∙ ap Some load))
-    among (inr (inr (inr (inr (inr (inr (inl origin))))))) = absurd (not_origin (met_name words m p ∙ ap Some origin))
-    among (inr (inr (inr (inr (inr (inr (inr (inl list_locks)))))))) = absurd (not_list_locks (met_name words m p ∙ ap Some list_locks))
-    among (inr (inr (inr (inr (inr (inr (inr (inr (inl compile))))))))) = absurd (not_compile (met_name words m p ∙ ap Some compile))
-    among (inr (inr (inr (inr (inr (inr (inr (inr (inr (inl check)))))))))) = absurd (not_check (met_name words m p ∙ ap Some check))
-    among (inr (inr (inr (inr (inr (inr (inr (inr (inr (inr (inl repair))))))))))) = absurd (not_repair (met_name words m p ∙ ap Some repair))
-    among (inr (inr (inr (inr (inr (inr (inr (inr (inr (inr (inr (inl show)))))))))))) = met_name words m p ∙ ap Some show
-    among (inr (inr (inr (inr (inr (inr (inr (inr (inr (inr (inr (inr explain)))))))))))) = absurd (not_explain (met_name words m p ∙ ap Some explain))
+  pairs : (r : Option (Text × List Row)) (x : Option X) → option_map f x ≡ option_map (λ q. q.0) r → option_map g x ≡ option_map (λ q. q.1) r
+      → option_map pair x ≡ r
+  pairs None None e d = refl
+  pairs None (Some y) e d = cc
+  pairs (Some q) None e d = cc
+  pairs (Some q) (Some y) e d = ap₂ (λ (n : Text) (rs : List Row). Some (n, rs)) (same_Some _ _ e) (same_Some _ _ d)
 
-    go : IsCommandName (enters words p.sound).name → subcommand_name_of m ≡ Some (codes "show")
-    go (inl run) = among run
-    go (inr update) = absurd (not_update (met_name words m p ∙ ap Some update))
+  -- the words name the subcommand that the parse gives
+  names_it : option_map pair o ≡ subcommand_of command_line words
+  names_it = pairs (subcommand_rows_of m) o (names ∙ name_by_rows m) rows ∙ p.met
 
--- the values are those of the subcommand of this name, and each of its required words has one
-pub record IsSub (words : List Text) (name : Text) (sub : ArgMatches) : Type 0 where
-  pub named : AreWordsOf words name sub
-  pub given : (id : Text) → is_option id ≡ false → wants (sub_named name).rules id ≡ true → HasValue sub id
+  pub is_entered : IsSome o
+  is_entered = go o (names_it ∙ (enters words p.sound).named)
+    where
+      go : (x : Option X) → option_map pair x ≡ Some ((enters words p.sound).name, (enters words p.sound).rows) → IsSome x
+      go None e = cc
+      go (Some y) e = refl
 
-pub is_sub : (words : List Text) (name : Text) (m sub : ArgMatches) → IsParsedBy words m → subcommand_name_of m ≡ Some name
-    → option_map (λ p. p.1) (subcommand_rows_of m) ≡ Some (rows_of (found_of sub)) → IsSub words name sub
-is_sub words name m sub p names rows =
-    let met = enters words p.sound in
-    let found = found_of sub in
-    let same : rows_of found ≡ met.rows = same_Some _ _ (sym rows ∙ ap (option_map (λ q. q.1)) (p.met ∙ met.named)) in
-    let is : met.name ≡ name = same_Some _ _ (sym (met_name words m p) ∙ names) in
-    record {
-      named = met.named ∙ ap (λ (n : Text). Some (n, met.rows)) is ∙ ap (λ (rs : List Row). Some (name, rs)) (sym same);
-      given = λ id other wanted. rw (first_value-rows found id, same) (met.given id other (subst (λ (n : Text). wants (sub_named n).rules id ≡ true) (sym is) wanted));
-    }
-
--- what clap found says the same as the rows of the words
-pub is_asked : (words : List Text) (name : Text) (m sub : ArgMatches) (command : Command) → IsParsedBy words m → subcommand_name_of m ≡ Some name
-    → option_map (λ p. p.1) (subcommand_rows_of m) ≡ Some (rows_of (found_of sub)) → IsOf name sub command → IsAskedBy words command
-is_asked words name m sub command p names rows of = record {
-  rows = rows_of (found_of sub);
-  named = (is_sub words name m sub p names rows).named ∙ ap (λ (n : Text). Some (n, rows_of (found_of sub))) (sym of.0);
-  values = subst₂ (λ f g. Takes f g command) (fun_ext (first_value-rows (found_of sub))) (fun_ext (raw_values-rows (found_of sub))) of.1;
-}
-
-pub asks_to_update : (words : List Text) (sub : ArgMatches) (folder : Option Text) → AreWordsOf words (codes "update") sub
-    → folder ≡ first_value (found_of sub) (codes "FOLDER") → AsksToUpdate words folder
-asks_to_update words sub folder named f = record {
-  rows = rows_of (found_of sub);
-  named = named;
-  folder_value = sym (first_value-rows (found_of sub) (codes "FOLDER")) ∙ sym f;
-}
-
-has_sub : {X : Type 0} (f : X → Text) (o : Option X) (name : Text) → option_map f o ≡ Some name → IsSome o
-has_sub f None name e = cc
-has_sub f (Some x) name e = refl
-
--- there is a subcommand
-pub is_entered : {X : Type 0} (words : List Text) (m : ArgMatches) → IsParsedBy words m → (f : X → Text) (o : Option X)
-    → option_map f o ≡ subcommand_name_of m → IsSome o
-is_entered words m p f o e = has_sub f o (enters words p.sound).name (e ∙ met_name words m p)
-
--- and its options say where the store is
-pub is_placed : (words : List Text) (m sub : ArgMatches) (place : Place) → IsParsedBy words m
-    → Some (rows_of (found_of sub)) ≡ option_map (λ p. p.1) (subcommand_rows_of m)
-    → place.is_users ≡ is_set (first_value (found_of sub) (codes "user"))
-    → option_map string_bytes place.folder ≡ first_value (found_of sub) (codes "store")
-    → option_map string_bytes place.profile ≡ first_value (found_of sub) (codes "profile") → IsPlacedBy words place
-is_placed words m sub place p rows u f q =
-    let met = enters words p.sound in
-    let same : rows_of (found_of sub) ≡ met.rows = same_Some _ _ (rows ∙ ap (option_map (λ q. q.1)) (p.met ∙ met.named)) in
-    record {
-      name = met.name;
-      rows = rows_of (found_of sub);
-      named = met.named ∙ ap (λ (rs : List Row). Some (met.name, rs)) (sym same);
-      user_value = ap is_set (sym (first_value-rows (found_of sub) (codes "user"))) ∙ sym u;
-      folder_value = sym (first_value-rows (found_of sub) (codes "store")) ∙ sym f;
-      profile_value = sym (first_value-rows (found_of sub) (codes "profile")) ∙ sym q;
-    }
+  pub named_by : (x : X) (sub : ArgMatches) → o ≡ Some x → g x ≡ rows_of (found_of sub) → IsNamedBy words (f x) sub
+  named_by x sub is same = record {
+    sound = p.sound;
+    named = sym names_it ∙ ap (option_map pair) is ∙ ap (λ (rs : List Row). Some (f x, rs)) same;
+  }

@@ -17,7 +17,7 @@ use Rattle.dconf_args.specs.Asked.{IsParsedBy}
 use Rattle.dconf_args.specs.CommandLine.{command_line}
 use Rattle.dconf_args.specs.Taken.{is_among, told, told_of}
 use Rattle.dconf_args.proofs.Stops.{Meets, StopsAt, fold_stops}
-use Rattle.dconf_args.proofs.Subcommands.{Each, IsOffered, answers_alone, line, offered_subs}
+use Rattle.dconf_args.proofs.Subcommands.{all_offered, answers_alone, is_offered, line}
 
 -- a command of this name and with these rules
 abbrev with_rules : Text → List Rule → Shape
@@ -67,19 +67,19 @@ module _ (words : List Text) where
 
   -- ---- where a walk stops it is at one of the words
 
-  named_among : (word : Text) → is_among word words ≡ true → (subs : List Shape) → Each IsOffered subs
+  named_among : (word : Text) → is_among word words ≡ true → (subs : List Shape) → list_all is_offered subs ≡ true
       → IfSome (option_map (λ s. s.0) (find (answers_to word) (map label_of subs))) (λ name. is_among name words ≡ true)
   named_among word met [] offered = tt
-  named_among word met (s ∷ rest) offered = go (answers_to word (label_of s)) refl (named_among word met rest offered.1)
+  named_among word met (s ∷ rest) offered = go (answers_to word (label_of s)) refl (named_among word met rest (and_parts _ _ offered).1)
     where
       go : (t : Bool) → answers_to word (label_of s) ≡ t
           → IfSome (option_map (λ l. l.0) (find (answers_to word) (map label_of rest))) (λ name. is_among name words ≡ true)
           → IfSome (option_map (λ l. l.0) (cond t (Some (label_of s)) (find (answers_to word) (map label_of rest)))) (λ name. is_among name words ≡ true)
-      go true e later = subst (λ (name : Text). is_among name words ≡ true) (sym (answers_alone s.name word s.aliases offered.0.alone e)) met
+      go true e later = subst (λ (name : Text). is_among name words ≡ true) (sym (answers_alone s word (and_parts _ _ offered).0 e)) met
       go false e later = later
 
   met_among : (word : Text) → is_among word words ≡ true → (waiting : Waiting) → IfSome (subcommand_met (names_of line) waiting word) (λ name. is_among name words ≡ true)
-  met_among word met idle = named_among word met line.subs offered_subs
+  met_among word met idle = named_among word met line.subs all_offered
   met_among word met (option id) = tt
   met_among word met positional = tt
 

@@ -19,6 +19,11 @@ pub record IsParsedBy (words : List Text) (m : ArgMatches) : Type 0 where
 abbrev pub AreWordsOf : List Text → Text → ArgMatches → Type 0
 AreWordsOf words name m = subcommand_of command_line words ≡ Some (name, rows_of (found_of m))
 
+-- clap finds no fault in the words, and they name this subcommand, with these values
+pub record IsNamedBy (words : List Text) (name : Text) (m : ArgMatches) : Type 0 where
+  pub sound : fault_of command_line words ≡ []
+  pub named : AreWordsOf words name m
+
 -- an argument has a value
 abbrev pub HasValue : ArgMatches → Text → Type 0
 HasValue m id = IsSome (first_value (found_of m) id)

@@ -1,7 +1,7 @@
 //! The words of a command line: the command that they ask for, by what clap gives its arguments.
 ghost use Rattle.std.specs.Prelude.{◌≡◌, ◌≢◌, [], codes, List, IfOk, Some, map, option_map, string_bytes, unwrap_or, vec_items};
-ghost use Rattle.clap.specs.Words.{FailsBy, Text, fault_of, first_value, found_of, matched_of, raw_values, subcommand_name_of};
-ghost use Rattle.dconf_args.specs.Asked.{Asks, AsksToUpdate, HasValue, IsAskedBy, IsOf, IsParsedBy, IsPlacedBy, is_set, profile_file};
+ghost use Rattle.clap.specs.Words.{FailsBy, Text, fault_of, first_value, found_of, matched_of, raw_values};
+ghost use Rattle.dconf_args.specs.Asked.{Asks, HasValue, IsNamedBy, IsOf, IsParsedBy, is_set, profile_file};
 ghost use Rattle.dconf_args.specs.CommandLine.{command_line};
 
 use crate::command_line::dconfdb;
@@ -38,24 +38,25 @@ fn all_asked(alloc: Global, matches: &ArgMatches<'_>) -> Result<Asked, AllocErro
     requires { (words : List Text) × IsParsedBy words matches.now }
     ensures { IfOk result (λ asked. (words : List Text) → IsParsedBy words matches.now → Asks words asked) }
 {
-    if let Some(update) = matches.subcommand_matches("update") {
+    let (name, named) = matches.subcommand().unwrap();
+    if name == "update" {
         return Ok(Asked::Update {
-            folder: value_if_any(alloc, update, "FOLDER")?,
+            folder: value_if_any(alloc, named, "FOLDER")?,
         });
     }
-    let place = placed(alloc, matches)?;
+    let place = placed(alloc, named)?;
     Ok(Asked::Run {
-        command: asked(alloc, matches)?,
+        command: asked(alloc, name, named)?,
         place,
     })
 }
 
-/// Where the store of the command is.
-fn placed(alloc: Global, matches: &ArgMatches<'_>) -> Result<Place, AllocError>
-    requires { (words : List Text) × IsParsedBy words matches.now }
-    ensures { IfOk result (λ place. (words : List Text) → IsParsedBy words matches.now → IsPlacedBy words place) }
+/// Where the store of a command is.
+fn placed(alloc: Global, named: &ArgMatches<'_>) -> Result<Place, AllocError>
+    ensures user { IfOk result (λ place. place.is_users ≡ is_set (first_value (found_of named.now) (codes "user"))) }
+    ensures folder { IfOk result (λ place. option_map string_bytes place.folder ≡ first_value (found_of named.now) (codes "store")) }
+    ensures profile { IfOk result (λ place. option_map string_bytes place.profile ≡ first_value (found_of named.now) (codes "profile")) }
 {
-    let (_, named) = matches.subcommand().unwrap();
     Ok(Place {
         is_users: is_given(named, "user"),
         folder: value_if_any(alloc, named, "store")?,
@@ -63,49 +64,27 @@ fn placed(alloc: Global, matches: &ArgMatches<'_>) -> Result<Place, AllocError>
     })
 }
 
-/// The command that was named, with its values.
-fn asked(alloc: Global, matches: &ArgMatches<'_>) -> Result<Command, AllocError>
-    requires parsed { (words : List Text) × IsParsedBy words matches.now }
-    requires other { subcommand_name_of matches.now ≢ Some (codes "update") }
-    ensures { IfOk result (λ command. (words : List Text) → IsParsedBy words matches.now → IsAskedBy words command) }
+/// The command of this name, with its values.
+fn asked(alloc: Global, name: &str, named: &ArgMatches<'_>) -> Result<Command, AllocError>
+    requires named { (words : List Text) × IsNamedBy words name.now named.now }
+    requires other { name.now ≢ codes "update" }
+    ensures { IfOk result (IsOf name.now named.now) }
 {
-    if let Some(check) = matches.subcommand_matches("check") {
-        return check_asked(alloc, check);
+    match name {
+        "check" => check_asked(alloc, named),
+        "compile" => compile_asked(alloc, named),
+        "read" => read_asked(alloc, named),
+        "origin" => origin_asked(alloc, named),
+        "repair" => repair_asked(alloc, named),
+        "list" => list_asked(alloc, named),
+        "list-locks" => list_locks_asked(alloc, named),
+        "dump" => dump_asked(alloc, named),
+        "write" => write_asked(alloc, named),
+        "reset" => reset_asked(alloc, named),
+        "load" => load_asked(alloc, named),
+        "explain" => explain_asked(alloc, named),
+        _ => show_asked(alloc, named),
     }
-    if let Some(compile) = matches.subcommand_matches("compile") {
-        return compile_asked(alloc, compile);
-    }
-    if let Some(read) = matches.subcommand_matches("read") {
-        return read_asked(alloc, read);
-    }
-    if let Some(origin) = matches.subcommand_matches("origin") {
-        return origin_asked(alloc, origin);
-    }
-    if let Some(repair) = matches.subcommand_matches("repair") {
-        return repair_asked(alloc, repair);
-    }
-    if let Some(list) = matches.subcommand_matches("list") {
-        return list_asked(alloc, list);
-    }
-    if let Some(list_locks) = matches.subcommand_matches("list-locks") {
-        return list_locks_asked(alloc, list_locks);
-    }
-    if let Some(dump) = matches.subcommand_matches("dump") {
-        return dump_asked(alloc, dump);
-    }
-    if let Some(write) = matches.subcommand_matches("write") {
-        return write_asked(alloc, write);
-    }
-    if let Some(reset) = matches.subcommand_matches("reset") {
-        return reset_asked(alloc, reset);
-    }
-    if let Some(load) = matches.subcommand_matches("load") {
-        return load_asked(alloc, load);
-    }
-    if let Some(explain) = matches.subcommand_matches("explain") {
-        return explain_asked(alloc, explain);
-    }
-    show_asked(alloc, matches.subcommand_matches("show").unwrap())
 }
 
 /// `check FILE`.
