@@ -3,6 +3,7 @@ use Rattle.std.proofs.Common.{◌≡◌, ◌<◌, ◌++◌, ◌&&◌, ◌∙◌,
 use Rattle.std.specs.Prelude.{⊤, IfSome, IsSome, cond, fold, slice_get, drop, encode_utf8}
 use Rattle.std.specs.List.{list_any}
 use Rattle.std.specs.Str.{bytes_eq, chars}
+use Rattle.std.proofs.lemmas.Bool.{cond_both}
 use Rattle.std.proofs.lemmas.Slice.Eq.{bytes_eq-Decides}
 use Rattle.clap.specs.declared.builder.ArgAction.{ArgAction}
 use Rattle.clap.specs.declared.builder.ArgAction.TheVariants as action
@@ -54,12 +55,8 @@ at_row_filled : (id : Text) (change : Row → List Row) (missing rows : List Row
     → ((r : Row) → Holds r.id r.values → Filled (change r)) → Filled missing → Filled rows → Filled (at_row id change missing rows)
 at_row_filled id change missing [] each m f = m
 at_row_filled id change missing (r ∷ rows) each m f =
-    go (bytes_eq r.id id) (append_filled (change r) rows (each r f.0) f.1) (f.0, at_row_filled id change missing rows each m f.1)
-  where
-    go : (t : Bool) → Filled (change r ++ rows) → Filled (r ∷ at_row id change missing rows)
-        → Filled (if t then change r ++ rows else r ∷ at_row id change missing rows)
-    go true a b = a
-    go false a b = b
+    cond_both (bytes_eq r.id id) (change r ++ rows) (r ∷ at_row id change missing rows) Filled
+    (λ here. append_filled (change r) rows (each r f.0) f.1) (λ other. (f.0, at_row_filled id change missing rows each m f.1))
 
 without_filled : (id : Text) (rows : List Row) → Filled rows → Filled (without id rows)
 without_filled id rows f = at_row_filled id (λ _. []) [] rows (λ r some. tt) tt f
@@ -110,11 +107,8 @@ used_by_id_filled id (Some a) values rows same h f = used_filled a values rows (
 -- what is looked up by an id has it
 found_by_id : (id : Text) (c : List Rule) → IfSome (arg_by_id c id) (λ a. a.id ≡ id)
 found_by_id id [] = tt
-found_by_id id (a ∷ c) = go (bytes_eq a.id id) refl (found_by_id id c)
-  where
-    go : (t : Bool) → bytes_eq a.id id ≡ t → IfSome (arg_by_id c id) (λ x. x.id ≡ id) → IfSome (cond t (Some a) (arg_by_id c id)) (λ x. x.id ≡ id)
-    go true same later = (bytes_eq-Decides a.id id).0 same
-    go false same later = later
+found_by_id id (a ∷ c) =
+    cond_both (bytes_eq a.id id) (Some a) (arg_by_id c id) (λ (o : Option Rule). IfSome o (λ x. x.id ≡ id)) (bytes_eq-Decides a.id id).0 (λ other. found_by_id id c)
 
 -- an option, or a flag that takes no value and leaves none
 abbrev pub OnlyAsks : Option Rule → Type 0
@@ -148,24 +142,16 @@ module _ (c : List Rule) where
   long_met_filled None v h asks f = f
   long_met_filled (Some a) v h (inr asks) f = rw asks.0 (flag_met_filled a v h (reacted_filled a h asks.1 f) f)
   long_met_filled (Some a) v h (inl free) f =
-      go (takes_values a) (option_met_filled a v h free f) (flag_met_filled a v h (freely_reacted a [] h free f) f)
-    where
-      go : (t : Bool) → FilledHeld (option_met c a v h).0 → FilledHeld (flag_met c a v h).0
-          → FilledHeld (if t then option_met c a v h else flag_met c a v h).0
-      go true x y = x
-      go false x y = y
+      cond_both (takes_values a) (option_met c a v h) (flag_met c a v h) (λ (met : Held × Outcome). FilledHeld met.0)
+      (λ takes. option_met_filled a v h free f) (λ none. flag_met_filled a v h (freely_reacted a [] h free f) f)
 
   short_met_filled : (found : Option Rule) (rest : Text) (h : Held) (go_on : Held → Held × Outcome) → OnlyAsks found
       → ((g : Held) → FilledHeld g → FilledHeld (go_on g).0) → FilledHeld h → FilledHeld (short_met c found rest h go_on).0
   short_met_filled None rest h go_on asks each f = f
   short_met_filled (Some a) rest h go_on (inr asks) each f = rw asks.0 (each (reacted c a [] h) (reacted_filled a h asks.1 f))
   short_met_filled (Some a) rest h go_on (inl free) each f =
-      go (takes_values a) (option_met_filled a (attached_value rest) h free f) (each (reacted c a [] h) (freely_reacted a [] h free f))
-    where
-      go : (t : Bool) → FilledHeld (option_met c a (attached_value rest) h).0 → FilledHeld (go_on (reacted c a [] h)).0
-          → FilledHeld (if t then option_met c a (attached_value rest) h else go_on (reacted c a [] h)).0
-      go true x y = x
-      go false x y = y
+      cond_both (takes_values a) (option_met c a (attached_value rest) h) (go_on (reacted c a [] h)) (λ (met : Held × Outcome). FilledHeld met.0)
+      (λ takes. option_met_filled a (attached_value rest) h free f) (λ none. each (reacted c a [] h) (freely_reacted a [] h free f))
 
   module _ (long_asks : (name : Text) → OnlyAsks (arg_by_long c name)) (short_asks : (x : ℕ) → OnlyAsks (arg_by_short c x)) where
     bundle_step_filled : (x : Option ℕ) (flags : Text) (skip : ℕ) (so_far : Outcome) (h : Held) (go_on : Text → ℕ → Outcome → Held → Held × Outcome)
@@ -218,11 +204,8 @@ module _ (c : List Rule) where
         → FilledHeld h → FilledHeld (subcommand_or_other c name waiting place word h).0
     subcommand_or_other_filled (Some name) waiting place word h f = f
     subcommand_or_other_filled None waiting place word h f =
-        go (bytes_eq word (45 ∷ 45 ∷ [])) (long_or_other c waiting word (long_of word) h) (long_or_other_filled waiting word (long_of word) h f)
-      where
-        go : (t : Bool) (other : Held × Step) → FilledHeld other.0 → FilledHeld (if t then (h, trailing place) else other).0
-        go true other g = f
-        go false other g = g
+        cond_both (bytes_eq word (45 ∷ 45 ∷ [])) (h, trailing place) (long_or_other c waiting word (long_of word) h) (λ (met : Held × Step). FilledHeld met.0)
+        (λ dashes. f) (λ other. long_or_other_filled waiting word (long_of word) h f)
 
     word_met_filled : (names : Names) (is_trailing : Bool) (waiting : Waiting) (place : ℕ) (word : Text) (h : Held)
         → FilledHeld h → FilledHeld (word_met c names is_trailing waiting place word h).0
@@ -231,11 +214,9 @@ module _ (c : List Rule) where
 
     positional_filled : (a : Rule) (word : Text) (h : Held) → FilledHeld h → FilledHeld (positional_held c a word h)
     positional_filled a word h f =
-        pushed_filled a.id word (if is_pending a h.pending && takes_several a then h else settled c h) (go (is_pending a h.pending && takes_several a))
-      where
-        go : (t : Bool) → Filled (if t then h else settled c h).rows
-        go true = f.0
-        go false = settled_filled h f
+        let more = is_pending a h.pending && takes_several a in
+        pushed_filled a.id word (if more then h else settled c h)
+        (cond_both more h (settled c h) (λ (held : Held). Filled held.rows) (λ stays. f.0) (λ settles. settled_filled h f))
 
     to_positional_filled : (a : Option Rule) (word : Text) (w : Walk) (h : Held) → FilledHeld h → FilledHeld (to_positional c a word w h).held
     to_positional_filled None word w h f = f
@@ -269,11 +250,9 @@ module _ (c : List Rule) where
     default_rows_filled id how (v ∷ vs) rows f = with_values_filled id how _ (v ∷ vs) rows (inr (omega arith)) f
 
     with_default_filled : (rows : List Row) (a : Rule) → Filled rows → Filled (with_default rows a)
-    with_default_filled rows a f = go (has_row a.id rows) (default_rows a.id (reading_by a) a.defaults rows) (default_rows_filled a.id (reading_by a) a.defaults rows f)
-      where
-        go : (t : Bool) (other : List Row) → Filled other → Filled (if t then rows else other)
-        go true other g = f
-        go false other g = g
+    with_default_filled rows a f =
+        cond_both (has_row a.id rows) rows (default_rows a.id (reading_by a) a.defaults rows) Filled
+        (λ given. f) (λ missing. default_rows_filled a.id (reading_by a) a.defaults rows f)
 
     defaults_filled : (rules : List Rule) (rows : List Row) → Filled rows → Filled (fold with_default rows rules)
     defaults_filled [] rows f = f

@@ -2,6 +2,7 @@
 use Rattle.std.proofs.Common.{◌≡◌, ◌∷◌, ◌&&◌, ◌∙◌, ℕ, Bool, true, false, List, [], refl, sym, Option, Some, None, is_some, if◌then◌else◌, codes}
 use Rattle.std.specs.Prelude.{◌≢◌, ⊤, IfSome, fold}
 use Rattle.std.specs.Str.{bytes_eq}
+use Rattle.std.proofs.lemmas.Bool.{cond_both}
 use Rattle.std.proofs.lemmas.Slice.Eq.{bytes_eq-Decides}
 use Rattle.clap.specs.Kinds.{Kinds, or_else}
 use Rattle.clap.specs.Simple.{Shape}
@@ -64,14 +65,11 @@ abbrev pub Meets : (Text → Type 0) → Names → Walk → Text → Type 0
 Meets P names w word = w.stopped ≡ None → w.is_trailing ≡ false → IfSome (subcommand_met names w.waiting word) P
 
 module _ (P : Text → Type 0) (c : List Rule) (names : Names) where
-  trailing_or : (t : Bool) (place : ℕ) (h : Held) (other : Held × Step) → StaysHere other.1 → StaysHere (if t then (h, trailing place) else other).1
-  trailing_or true place h other stays = tt
-  trailing_or false place h other stays = stays
-
   other_passes : (name : Option Text) (waiting : Waiting) (place : ℕ) (word : Text) (h : Held) → IfSome name P
       → Passes P (subcommand_or_other c name waiting place word h).1
   other_passes None waiting place word h met =
-      stays_passes P _ (trailing_or (bytes_eq word (45 ∷ 45 ∷ [])) place h (long_or_other c waiting word (long_of word) h) (long_or_other_stays c word waiting (long_of word) h))
+      cond_both (bytes_eq word (45 ∷ 45 ∷ [])) (h, trailing place) (long_or_other c waiting word (long_of word) h) (λ (met : Held × Step). Passes P met.1)
+      (λ dashes. tt) (λ other. stays_passes P _ (long_or_other_stays c word waiting (long_of word) h))
   other_passes (Some name) waiting place word h met = met
 
   word_passes : (is_trailing : Bool) (waiting : Waiting) (place : ℕ) (word : Text) (h : Held)

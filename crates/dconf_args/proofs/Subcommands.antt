@@ -31,7 +31,7 @@ use Rattle.clap.specs.declared.builder.ArgAction.{ArgAction}
 use Rattle.clap.specs.declared.builder.ArgAction.TheVariants as action
 use Rattle.clap.specs.declared.builder.value_parser.Reading.{Reading}
 use Rattle.std.specs.List.{list_all}
-use Rattle.std.proofs.lemmas.Bool.{and_parts}
+use Rattle.std.proofs.lemmas.Bool.{and_parts, cond_both, or_cases}
 
 -- no fault of a level
 no_fault : (s : Shape) (names : Names) (words : List Text) (has : Bool) (below : Kinds) → level_fault s names nothing_held words has below ≡ []
@@ -113,14 +113,12 @@ plain_asks a e other = go (is_option a.id) (takes_values a) (only_asks (action_o
     go false false false f t q p = cc
 
 -- what a search finds passes each test that all pass
-found_passes : {X : Type 0} (all test : X → Bool) (xs : List X) → list_all all xs ≡ true → IfSome (find test xs) (λ x. (all x ≡ true) × (test x ≡ true))
+pub found_passes : {X : Type 0} (all test : X → Bool) (xs : List X) → list_all all xs ≡ true → IfSome (find test xs) (λ x. (all x ≡ true) × (test x ≡ true))
 found_passes all test [] e = tt
-found_passes all test (x ∷ rest) e = go (test x) refl (found_passes all test rest (and_parts _ _ e).1)
-  where
-    go : (t : Bool) → test x ≡ t → IfSome (find test rest) (λ y. (all y ≡ true) × (test y ≡ true))
-        → IfSome (cond t (Some x) (find test rest)) (λ y. (all y ≡ true) × (test y ≡ true))
-    go true met later = ((and_parts _ _ e).0, met)
-    go false met later = later
+found_passes all test (x ∷ rest) e =
+    let parts = and_parts _ _ e in
+    cond_both (test x) (Some x) (find test rest) (λ o. IfSome o (λ y. (all y ≡ true) × (test y ≡ true)))
+    (λ met. (parts.0, met)) (λ other. found_passes all test rest parts.1)
 
 flags_ask : (named : Rule → Bool) (rules : List Rule) → list_all is_plain_rule rules ≡ true → OnlyAsks (find (λ a. not (is_some a.index) && named a) rules)
 flags_ask named rules e = go _ (found_passes is_plain_rule (λ a. not (is_some a.index) && named a) rules e)
@@ -137,29 +135,27 @@ abbrev is_ours : Shape → Bool
 is_ours s = list_all is_plain_rule s.rules && is_among s.name command_names
 
 -- it is one of ours or, after ours, clap's own `help`
-abbrev pub is_offered : Shape → Bool
+abbrev is_offered : Shape → Bool
 is_offered s = is_empty s.aliases && (bytes_eq s.name (codes "help") || is_ours s)
 
-pub all_offered : list_all is_offered line.subs ≡ true
+all_offered : list_all is_offered line.subs ≡ true
 all_offered = refl
 
 ours : (s : Shape) → (bytes_eq s.name (codes "help") || is_ours s) ≡ true → s.name ≢ codes "help" → is_ours s ≡ true
-ours s e other = go (bytes_eq s.name (codes "help")) refl e
-  where
-    go : (t : Bool) → bytes_eq s.name (codes "help") ≡ t → (t || is_ours s) ≡ true → is_ours s ≡ true
-    go true same f = absurd (other ((bytes_eq-Decides s.name (codes "help")).0 same))
-    go false same f = f
+ours s e other = elim (or_cases _ _ e) [
+  | inl same ↦ absurd (other ((bytes_eq-Decides s.name (codes "help")).0 same))
+  | inr is ↦ is
+]
 
 -- the subcommand of this name
 abbrev pub sub_named : Text → Shape
 sub_named name = unwrap_or (find (λ s. answers_to name (label_of s)) line.subs) show_line.top
 
-pub answers_alone : (s : Shape) (asked : Text) → is_offered s ≡ true → answers_to asked (label_of s) ≡ true → s.name ≡ asked
-answers_alone s asked offered e = go (bytes_eq s.name asked) refl (rw (is_nil s.aliases (and_parts _ _ offered).0) at e)
-  where
-    go : (t : Bool) → bytes_eq s.name asked ≡ t → (t || false) ≡ true → s.name ≡ asked
-    go true same f = (bytes_eq-Decides s.name asked).0 same
-    go false same f = cc
+pub answers_alone : (asked : Text) (s : Text × List Text) → is_empty s.1 ≡ true → answers_to asked s ≡ true → s.0 ≡ asked
+answers_alone asked s alone e = elim (or_cases _ _ (rw (is_nil s.1 alone) at e)) [
+  | inl same ↦ (bytes_eq-Decides s.0 asked).0 same
+  | inr other ↦ cc
+]
 
 -- what clap gives the arguments of the subcommand that it met
 pub record Enters (met : Option (Text × List Row)) : Type 0 where
@@ -176,7 +172,7 @@ sub_entered : (asked : Text) (words : List Text) (o : Option Shape) → asked �
 sub_entered asked words None other found offered fault met = cc
 sub_entered asked words (Some s) other found offered fault met =
     let rows = rows_after s.rules [] words in
-    let named : s.name ≡ asked = answers_alone s asked offered.0 offered.1 in
+    let named : s.name ≡ asked = answers_alone asked (label_of s) (and_parts _ _ offered.0).0 offered.1 in
     let plain = and_parts _ _ (ours s (and_parts _ _ offered.0).1 (λ help. other (sym named ∙ help))) in
     let same : sub_named s.name ≡ s = ap sub_named named ∙ ap (λ (o : Option Shape). unwrap_or o show_line.top) found in
     let checked = (no_fault s [] words false [] fault).2 in
@@ -215,16 +211,14 @@ NoneOf name [] = ⊤
 NoneOf name (x ∷ rest) = (name ≢ x) × NoneOf name rest
 
 last_name : (name : Text) (others : List Text) (x : Text) → is_among name (others ++ x ∷ []) ≡ true → NoneOf name others → name ≡ x
-last_name name [] x e none = go (bytes_eq x name) refl e
-  where
-    go : (t : Bool) → bytes_eq x name ≡ t → (t || false) ≡ true → name ≡ x
-    go true same f = sym ((bytes_eq-Decides x name).0 same)
-    go false same f = cc
-last_name name (y ∷ rest) x e none = go (bytes_eq y name) refl e (λ f. last_name name rest x f none.1)
-  where
-    go : (t : Bool) → bytes_eq y name ≡ t → (t || is_among name (rest ++ x ∷ [])) ≡ true → (is_among name (rest ++ x ∷ []) ≡ true → name ≡ x) → name ≡ x
-    go true same f later = absurd (none.0 (sym ((bytes_eq-Decides y name).0 same)))
-    go false same f later = later f
+last_name name [] x e none = elim (or_cases _ _ e) [
+  | inl same ↦ sym ((bytes_eq-Decides x name).0 same)
+  | inr other ↦ cc
+]
+last_name name (y ∷ rest) x e none = elim (or_cases _ _ e) [
+  | inl same ↦ absurd (none.0 (sym ((bytes_eq-Decides y name).0 same)))
+  | inr later ↦ last_name name rest x later none.1
+]
 
 module _ (words : List Text) (name : Text) (sub : ArgMatches) (p : IsNamedBy words name sub) where
   met : Enters (subcommand_of command_line words)

@@ -4,12 +4,12 @@ use Rattle.std.specs.Prelude.{IfOk, IfSome, cond, drop, find, option_map}
 use Rattle.std.specs.List.{list_all}
 use Rattle.std.specs.Option.{option_map_or}
 use Rattle.std.specs.Str.{bytes_eq}
-use Rattle.std.proofs.lemmas.Bool.{and_parts}
+use Rattle.std.proofs.lemmas.Bool.{and_parts, cond_both}
 use Rattle.std.proofs.lemmas.Slice.Eq.{bytes_eq-Decides}
 use Rattle.clap.specs.Faults.{entered_fault, has_free_rules, is_free_app, level_fault}
 use Rattle.clap.specs.Kinds.{Kinds}
 use Rattle.clap.specs.Simple.{argument_words, built_leaf, entered, help_shape, inherited, is_buildable, is_ready_leaf, is_simple_leaf, label_of, marked_built, names_of, new_shape, rows_at, with_leaf_noted}
-use Rattle.clap.specs.Walk.{Waiting, Walk, answers_to, idle, nothing_held, option, positional, stop_after, subcommand_met, walk_from, walked}
+use Rattle.clap.specs.Walk.{Waiting, Walk, answers_to, idle, is_empty, nothing_held, option, positional, stop_after, subcommand_met, walk_from, walked}
 use Rattle.clap.specs.Words.{App, FailsBy, HasMatchesOf, Row, Rule, Shape, Text, built, fault_of, is_simple, is_simple_and_free, subcommand_of}
 use Rattle.clap.specs.declared.ArgMatches.{ArgMatches}
 use Rattle.clap.specs.declared.error.Error.{Error}
@@ -17,7 +17,7 @@ use Rattle.dconf_args.specs.Asked.{IsParsedBy}
 use Rattle.dconf_args.specs.CommandLine.{command_line}
 use Rattle.dconf_args.specs.Taken.{is_among, told, told_of}
 use Rattle.dconf_args.proofs.Stops.{Meets, StopsAt, fold_stops}
-use Rattle.dconf_args.proofs.Subcommands.{all_offered, answers_alone, is_offered, line}
+use Rattle.dconf_args.proofs.Subcommands.{answers_alone, found_passes, line}
 
 -- a command of this name and with these rules
 abbrev with_rules : Text → List Rule → Shape
@@ -52,11 +52,9 @@ module _ (words : List Text) where
       → list_all (λ p. Q (f (with_rules p.0 p.1)) && Q (f (with_rules p.0 []))) rows ≡ true → list_all Q (map (λ p. f (kept p)) rows ++ after) ≡ true
   all_kept Q f after last [] e = last
   all_kept Q f after last (p ∷ rest) e =
-      let parts = and_parts _ _ e in both _ _ (go (is_among p.0 words) (and_parts _ _ parts.0)) (all_kept Q f after last rest parts.1)
-    where
-      go : (t : Bool) → (Q (f (with_rules p.0 p.1)) ≡ true) × (Q (f (with_rules p.0 [])) ≡ true) → Q (f (with_rules p.0 (if t then p.1 else []))) ≡ true
-      go true each = each.0
-      go false each = each.1
+      let parts = and_parts _ _ e in
+      let each = and_parts _ _ parts.0 in
+      both _ _ (cond_both (is_among p.0 words) p.1 [] (λ (rules : List Rule). Q (f (with_rules p.0 rules)) ≡ true) (λ told. each.0) (λ other. each.1)) (all_kept Q f after last rest parts.1)
 
   told_is_simple : is_simple (told words command_line) ≡ true
   told_is_simple = both (is_buildable (told words command_line)) _ (all_kept is_simple_leaf (λ s. s) [] refl commands refl) (all_kept is_ready_leaf built_of help refl commands refl)
@@ -67,19 +65,13 @@ module _ (words : List Text) where
 
   -- ---- where a walk stops it is at one of the words
 
-  named_among : (word : Text) → is_among word words ≡ true → (subs : List Shape) → list_all is_offered subs ≡ true
-      → IfSome (option_map (λ s. s.0) (find (answers_to word) (map label_of subs))) (λ name. is_among name words ≡ true)
-  named_among word met [] offered = tt
-  named_among word met (s ∷ rest) offered = go (answers_to word (label_of s)) refl (named_among word met rest (and_parts _ _ offered).1)
-    where
-      go : (t : Bool) → answers_to word (label_of s) ≡ t
-          → IfSome (option_map (λ l. l.0) (find (answers_to word) (map label_of rest))) (λ name. is_among name words ≡ true)
-          → IfSome (option_map (λ l. l.0) (cond t (Some (label_of s)) (find (answers_to word) (map label_of rest)))) (λ name. is_among name words ≡ true)
-      go true e later = subst (λ (name : Text). is_among name words ≡ true) (sym (answers_alone s word (and_parts _ _ offered).0 e)) met
-      go false e later = later
+  named_among : (word : Text) → is_among word words ≡ true → (found : Option (Text × List Text))
+      → IfSome found (λ s. (is_empty s.1 ≡ true) × (answers_to word s ≡ true)) → IfSome (option_map (λ s. s.0) found) (λ name. is_among name words ≡ true)
+  named_among word met None answers = tt
+  named_among word met (Some s) answers = subst (λ (name : Text). is_among name words ≡ true) (sym (answers_alone word s answers.0 answers.1)) met
 
   met_among : (word : Text) → is_among word words ≡ true → (waiting : Waiting) → IfSome (subcommand_met (names_of line) waiting word) (λ name. is_among name words ≡ true)
-  met_among word met idle = named_among word met line.subs all_offered
+  met_among word met idle = named_among word met _ (found_passes (λ s. is_empty s.1) (answers_to word) (names_of line) refl)
   met_among word met (option id) = tt
   met_among word met positional = tt
 
@@ -110,13 +102,7 @@ module _ (words : List Text) where
   found_kept name met [] = refl
   found_kept name met (p ∷ rest) = go (bytes_eq p.0 name) refl (found_kept name met rest)
     where
-      there : Option Shape
-      there = find (λ s. answers_to name (label_of s)) (map (λ q. built_of (kept q)) rest ++ help)
-
-      whole : Option Shape
-      whole = find (λ s. answers_to name (label_of s)) (map (λ q. built_of (with_rules q.0 q.1)) rest ++ help)
-
-      go : (t : Bool) → bytes_eq p.0 name ≡ t → there ≡ whole
+      go : (t : Bool) → bytes_eq p.0 name ≡ t → {there whole : Option Shape} → there ≡ whole
           → cond (t || false) (Some (built_of (kept p))) there ≡ cond (t || false) (Some (built_of (with_rules p.0 p.1))) whole
       go true e later =
           ap (λ (t : Bool). Some (built_of (with_rules p.0 (if t then p.1 else []))))
