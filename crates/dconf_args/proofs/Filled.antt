@@ -1,6 +1,6 @@
 -- After a walk over words, each row has a value but those of options, where the other flags only ask for help or the version.
 use Rattle.std.proofs.Common.{◌≡◌, ◌<◌, ◌++◌, ◌&&◌, ◌∙◌, ◌⊎◌, inl, inr, ◌+◌, ℕ, Bool, true, false, zero, suc, List, [], ◌∷◌, length, refl, sym, ap, subst, min, Option, Some, None, arith, length-append, if◌then◌else◌, codes}
-use Rattle.std.specs.Prelude.{⊤, IfSome, IsSome, cond, fold, slice_get, drop, encode_utf8}
+use Rattle.std.specs.Prelude.{⊤, IfSome, IsSome, fold, slice_get, drop, encode_utf8}
 use Rattle.std.specs.List.{list_any}
 use Rattle.std.specs.Str.{bytes_eq, chars}
 use Rattle.std.proofs.lemmas.Bool.{cond_both}

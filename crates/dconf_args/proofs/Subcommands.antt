@@ -1,22 +1,21 @@
 -- The subcommand that the words name, and what clap gives its arguments where it finds no fault in the words.
-use Rattle.std.proofs.Common.{◌≡◌, ◌∙◌, ◌||◌, ◌&&◌, ◌++◌, ◌⊎◌, inl, inr, not, ℕ, Bool, true, false, List, [], ◌∷◌, refl, sym, ap, ap₂, subst, subst₂, Option, Some, None, Result, Ok, Err, is_some, codes}
+use Rattle.std.proofs.Common.{◌≡◌, ◌∙◌, ◌||◌, ◌&&◌, ◌++◌, inl, inr, not, Bool, true, false, List, [], ◌∷◌, refl, sym, ap, ap₂, subst, subst₂, Option, Some, None, is_some, codes}
 use mathlib.Core.Path.{fun_ext}
-use Rattle.std.specs.Prelude.{◌≢◌, ⊤, IfOk, IfSome, IsSome, cond, find, map, option_map, string_bytes, take, unwrap_or}
+use Rattle.std.specs.Prelude.{◌≢◌, ⊤, IfSome, IsSome, find, map, option_map, string_bytes, take, unwrap_or}
 use Rattle.std.specs.List.{list_any}
 use Rattle.std.specs.Option.{option_map_or}
 use Rattle.std.specs.Str.{bytes_eq}
 use Rattle.std.proofs.lemmas.Slice.Eq.{bytes_eq-Decides}
 use Rattle.std.proofs.lemmas.Option.{same_Some}
-use Rattle.clap.specs.Kinds.{FailsBy, Kinds, check_kinds}
+use Rattle.clap.specs.Kinds.{Kinds, check_kinds}
 use Rattle.clap.specs.Simple.{App, Shape, argument_words, built, entered, label_of, names_of, rows_at}
 use Rattle.clap.specs.Walk.{Names, Row, Rule, Text, action_of, answers_to, has_long, has_short, is_empty, nothing_held, reading_by, rows_after, stop_after, takes_values, used_as, values_or_missing, walk_from}
 use Rattle.clap.specs.Takes.{is_given}
-use Rattle.clap.specs.Faults.{level_fault, entered_fault, check_fault, fault_of, is_simple_and_free, walk_fault}
-use Rattle.clap.specs.Words.{HasMatchesOf, first_of, first_value, found_of, is_simple, matched_of, raw_values, rows_of, subcommand_name_of, subcommand_of, subcommand_rows, subcommand_rows_of}
+use Rattle.clap.specs.Faults.{level_fault, entered_fault, check_fault, fault_of, walk_fault}
+use Rattle.clap.specs.Words.{first_of, first_value, found_of, rows_of, subcommand_name_of, subcommand_of, subcommand_rows, subcommand_rows_of}
 use Rattle.clap.specs.declared.parser.matches.ArgMatches.TheViews.{out-ArgMatches, out-SubCommand}
 use Rattle.std.specs.Box.{box_value}
 use Rattle.clap.specs.declared.ArgMatches.{ArgMatches}
-use Rattle.clap.specs.declared.error.Error.{Error}
 use Rattle.clap.proofs.WalkLemmas.{first_value-rows, raw_values-rows}
 use Rattle.dconf_args.specs.Asked.{AsksToUpdate, HasValue, IsAskedBy, IsNamedBy, IsOf, IsParsedBy, IsPlacedBy, Takes, is_set}
 use Rattle.dconf_args.specs.declared.commands.Command.{Command}

@@ -9,7 +9,7 @@ use Rattle.std.proofs.lemmas.Slice.Eq.{bytes_eq-Decides}
 use Rattle.clap.specs.Faults.{entered_fault, has_free_rules, is_free_app, level_fault}
 use Rattle.clap.specs.Kinds.{Kinds}
 use Rattle.clap.specs.Simple.{argument_words, built_leaf, entered, help_shape, inherited, is_buildable, is_ready_leaf, is_simple_leaf, label_of, marked_built, names_of, new_shape, rows_at, with_leaf_noted}
-use Rattle.clap.specs.Walk.{Waiting, Walk, answers_to, idle, is_empty, nothing_held, option, positional, stop_after, subcommand_met, walk_from, walked}
+use Rattle.clap.specs.Walk.{Waiting, Walk, answers_to, idle, is_empty, nothing_held, option, positional, stop_after, subcommand_met, walk_from}
 use Rattle.clap.specs.Words.{App, FailsBy, HasMatchesOf, Row, Rule, Shape, Text, built, fault_of, is_simple, is_simple_and_free, subcommand_of}
 use Rattle.clap.specs.declared.ArgMatches.{ArgMatches}
 use Rattle.clap.specs.declared.error.Error.{Error}
