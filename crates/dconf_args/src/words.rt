@@ -71,30 +71,34 @@ fn asked(alloc: Global, name: &str, named: &ArgMatches<'_>) -> Result<Command, A
     ensures { IfOk result (IsOf name.now named.now) }
 {
     match name {
-        "check" => check_asked(alloc, named),
+        "check" => Ok(Command::Check {
+            file: value(alloc, named, "FILE")?,
+        }),
         "compile" => compile_asked(alloc, named),
         "read" => read_asked(alloc, named),
-        "origin" => origin_asked(alloc, named),
+        "origin" => {
+            let (key, profile) = value_and_profile(alloc, named, "KEY")?;
+            Ok(Command::Origin { key, profile })
+        }
         "repair" => repair_asked(alloc, named),
-        "list" => list_asked(alloc, named),
-        "list-locks" => list_locks_asked(alloc, named),
+        "list" => {
+            let (directory, profile) = value_and_profile(alloc, named, "DIR")?;
+            Ok(Command::List { directory, profile })
+        }
+        "list-locks" => {
+            let (directory, profile) = value_and_profile(alloc, named, "DIR")?;
+            Ok(Command::ListLocks { directory, profile })
+        }
         "dump" => dump_asked(alloc, named),
         "write" => write_asked(alloc, named),
         "reset" => reset_asked(alloc, named),
         "load" => load_asked(alloc, named),
-        "explain" => explain_asked(alloc, named),
+        "explain" => {
+            let (key, profile) = value_and_profile(alloc, named, "KEY")?;
+            Ok(Command::Explain { key, profile })
+        }
         _ => show_asked(alloc, named),
     }
-}
-
-/// `check FILE`.
-fn check_asked(alloc: Global, check: &ArgMatches<'_>) -> Result<Command, AllocError>
-    requires { HasValue check.now (codes "FILE") }
-    ensures { IfOk result (IsOf (codes "check") check.now) }
-{
-    Ok(Command::Check {
-        file: value(alloc, check, "FILE")?,
-    })
 }
 
 /// `compile OUT [--locks FILE].. [KEYFILE..]`.
@@ -122,24 +126,6 @@ fn read_asked(alloc: Global, read: &ArgMatches<'_>) -> Result<Command, AllocErro
     })
 }
 
-/// `origin [-p FILE] KEY`.
-fn origin_asked(alloc: Global, origin: &ArgMatches<'_>) -> Result<Command, AllocError>
-    requires { HasValue origin.now (codes "KEY") }
-    ensures { IfOk result (IsOf (codes "origin") origin.now) }
-{
-    let (key, profile) = value_and_profile(alloc, origin, "KEY")?;
-    Ok(Command::Origin { key, profile })
-}
-
-/// `explain [-p FILE] KEY`.
-fn explain_asked(alloc: Global, explain: &ArgMatches<'_>) -> Result<Command, AllocError>
-    requires { HasValue explain.now (codes "KEY") }
-    ensures { IfOk result (IsOf (codes "explain") explain.now) }
-{
-    let (key, profile) = value_and_profile(alloc, explain, "KEY")?;
-    Ok(Command::Explain { key, profile })
-}
-
 /// `repair FILE OUT`.
 fn repair_asked(alloc: Global, repair: &ArgMatches<'_>) -> Result<Command, AllocError>
     requires file { HasValue repair.now (codes "FILE") }
@@ -150,24 +136,6 @@ fn repair_asked(alloc: Global, repair: &ArgMatches<'_>) -> Result<Command, Alloc
         file: value(alloc, repair, "FILE")?,
         out: value(alloc, repair, "OUT")?,
     })
-}
-
-/// `list [-p FILE] DIR`.
-fn list_asked(alloc: Global, list: &ArgMatches<'_>) -> Result<Command, AllocError>
-    requires { HasValue list.now (codes "DIR") }
-    ensures { IfOk result (IsOf (codes "list") list.now) }
-{
-    let (directory, profile) = value_and_profile(alloc, list, "DIR")?;
-    Ok(Command::List { directory, profile })
-}
-
-/// `list-locks [-p FILE] DIR`.
-fn list_locks_asked(alloc: Global, list_locks: &ArgMatches<'_>) -> Result<Command, AllocError>
-    requires { HasValue list_locks.now (codes "DIR") }
-    ensures { IfOk result (IsOf (codes "list-locks") list_locks.now) }
-{
-    let (directory, profile) = value_and_profile(alloc, list_locks, "DIR")?;
-    Ok(Command::ListLocks { directory, profile })
 }
 
 /// `dump [--skip-doubles] [-p FILE] DIR`.

@@ -3,8 +3,20 @@ use Rattle.std.proofs.lemmas.Result.{IfOk-weaker}
 use Rattle.dconf_args.proofs.Subcommands.{given, is_show}
 use Rattle.dconf_args.proofs.words.asked.Goals as goal
 
-pub check_asked-requires : goal.check_asked-requires
-check_asked-requires c = given _ _ _ c.requires.named.1 (codes "check") c.in-check.is (codes "FILE") refl refl
+pub value-requires : goal.value-requires
+value-requires c = given _ _ _ c.requires.named.1 (codes "check") c.in-check.is (codes "FILE") refl refl
+
+pub value_and_profile-requires : goal.value_and_profile-requires
+value_and_profile-requires c = given _ _ _ c.requires.named.1 (codes "origin") c.in-origin.is (codes "KEY") refl refl
+
+pub value_and_profile-requires-in-list : goal.value_and_profile-requires-in-list
+value_and_profile-requires-in-list c = given _ _ _ c.requires.named.1 (codes "list") c.in-list.is (codes "DIR") refl refl
+
+pub value_and_profile-requires-in-text : goal.value_and_profile-requires-in-text
+value_and_profile-requires-in-text c = given _ _ _ c.requires.named.1 (codes "list-locks") c.in-text.is (codes "DIR") refl refl
+
+pub value_and_profile-requires-in-explain : goal.value_and_profile-requires-in-explain
+value_and_profile-requires-in-explain c = given _ _ _ c.requires.named.1 (codes "explain") c.in-explain.is (codes "KEY") refl refl
 
 pub compile_asked-requires : goal.compile_asked-requires
 compile_asked-requires c = given _ _ _ c.requires.named.1 (codes "compile") c.in-compile.is (codes "OUT") refl refl
@@ -12,20 +24,11 @@ compile_asked-requires c = given _ _ _ c.requires.named.1 (codes "compile") c.in
 pub read_asked-requires : goal.read_asked-requires
 read_asked-requires c = given _ _ _ c.requires.named.1 (codes "read") c.in-read.is (codes "KEY") refl refl
 
-pub origin_asked-requires : goal.origin_asked-requires
-origin_asked-requires c = given _ _ _ c.requires.named.1 (codes "origin") c.in-origin.is (codes "KEY") refl refl
-
 pub repair_asked-requires-clause-file : goal.repair_asked-requires-clause-file
 repair_asked-requires-clause-file c = given _ _ _ c.requires.named.1 (codes "repair") c.in-repair.is (codes "FILE") refl refl
 
 pub repair_asked-requires-clause-out : goal.repair_asked-requires-clause-out
 repair_asked-requires-clause-out c = given _ _ _ c.requires.named.1 (codes "repair") c.in-repair.is (codes "OUT") refl refl
-
-pub list_asked-requires : goal.list_asked-requires
-list_asked-requires c = given _ _ _ c.requires.named.1 (codes "list") c.in-list.is (codes "DIR") refl refl
-
-pub list_locks_asked-requires : goal.list_locks_asked-requires
-list_locks_asked-requires c = given _ _ _ c.requires.named.1 (codes "list-locks") c.in-text.is (codes "DIR") refl refl
 
 pub dump_asked-requires : goal.dump_asked-requires
 dump_asked-requires c = given _ _ _ c.requires.named.1 (codes "dump") c.in-dump.is (codes "DIR") refl refl
@@ -41,9 +44,6 @@ reset_asked-requires c = given _ _ _ c.requires.named.1 (codes "reset") c.in-res
 
 pub load_asked-requires : goal.load_asked-requires
 load_asked-requires c = given _ _ _ c.requires.named.1 (codes "load") c.in-load.is (codes "DIR") refl refl
-
-pub explain_asked-requires : goal.explain_asked-requires
-explain_asked-requires c = given _ _ _ c.requires.named.1 (codes "explain") c.in-explain.is (codes "KEY") refl refl
 
 pub show_asked-requires-clause-type_text : goal.show_asked-requires-clause-type_text
 show_asked-requires-clause-type_text c =
