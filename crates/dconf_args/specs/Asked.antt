@@ -15,14 +15,10 @@ pub record IsParsedBy (words : List Text) (m : ArgMatches) : Type 0 where
   pub sound : fault_of command_line words ≡ []
   pub met : subcommand_rows_of m ≡ subcommand_of command_line words
 
--- these are the values of the subcommand of this name
-abbrev pub AreWordsOf : List Text → Text → ArgMatches → Type 0
-AreWordsOf words name m = subcommand_of command_line words ≡ Some (name, rows_of (found_of m))
-
 -- clap finds no fault in the words, and they name this subcommand, with these values
 pub record IsNamedBy (words : List Text) (name : Text) (m : ArgMatches) : Type 0 where
   pub sound : fault_of command_line words ≡ []
-  pub named : AreWordsOf words name m
+  pub named : subcommand_of command_line words ≡ Some (name, rows_of (found_of m))
 
 -- an argument has a value
 abbrev pub HasValue : ArgMatches → Text → Type 0

@@ -1,5 +1,6 @@
 -- The command line of `dconfdb`, as clap sees it.
-use Rattle.std.specs.Prelude.{true, Some, codes}
+use Rattle.std.specs.Prelude.{true, List, [], ◌∷◌, Some, codes}
+use Rattle.std.specs.List.{fold}
 use Rattle.clap.specs.Words.{App, Rule, Text, new_app, new_rule, with_rule, with_subcommand}
 use Rattle.clap.specs.declared.builder.action.ArgAction.TheVariants.{Append, Set, SetTrue}
 
@@ -105,24 +106,11 @@ dconfdb_line = record (new_app (codes "dconfdb")) {
   };
 }
 
--- a line with `read`, `write` and `reset`
-abbrev pub with_keys : App → App
-with_keys line = with_subcommand (with_subcommand (with_subcommand line read_line.top) write_line.top) reset_line.top
-
--- with `list`, `dump` and `load`
-abbrev pub with_directories : App → App
-with_directories line =
-    with_subcommand (with_subcommand (with_subcommand line (directory_line (codes "list")).top) dump_line.top) load_line.top
-
--- with `origin`, `explain` and `list-locks`
-abbrev pub with_sources : App → App
-with_sources line =
-    with_subcommand (with_subcommand (with_subcommand line (key_line (codes "origin")).top) (key_line (codes "explain")).top) (directory_line (codes "list-locks")).top
-
--- with `compile`, `update`, `check`, `repair` and `show`
-abbrev pub with_files : App → App
-with_files line =
-    with_subcommand (with_subcommand (with_subcommand (with_subcommand (with_subcommand line compile_line.top) update_line.top) check_line.top) repair_line.top) show_line.top
+-- its commands, in the order of its help
+abbrev commands : List App
+commands =
+    read_line ∷ (write_line ∷ (reset_line ∷ (directory_line (codes "list") ∷ (dump_line ∷ (load_line ∷ (key_line (codes "origin") ∷ (key_line (codes "explain")
+    ∷ (directory_line (codes "list-locks") ∷ (compile_line ∷ (update_line ∷ (check_line ∷ (repair_line ∷ (show_line ∷ [])))))))))))))
 
 abbrev pub command_line : App
-command_line = with_files (with_sources (with_directories (with_keys dconfdb_line)))
+command_line = fold (λ line command. with_subcommand line command.top) dconfdb_line commands
