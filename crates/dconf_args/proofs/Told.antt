@@ -4,7 +4,7 @@ use Rattle.std.specs.Prelude.{IfOk, IfSome, cond, drop, find, option_map}
 use Rattle.std.specs.List.{list_all}
 use Rattle.std.specs.Option.{option_map_or}
 use Rattle.std.specs.Str.{bytes_eq}
-use Rattle.std.proofs.lemmas.Bool.{and_parts, cond_both}
+use Rattle.std.proofs.lemmas.Bool.{and_from, and_parts, cond_both, or_right}
 use Rattle.std.proofs.lemmas.Slice.Eq.{bytes_eq-Decides}
 use Rattle.clap.specs.Faults.{entered_fault, has_free_rules, is_free_app, level_fault}
 use Rattle.clap.specs.Kinds.{Kinds}
@@ -35,13 +35,6 @@ built_of s = built_leaf (inherited (with_leaf_noted (marked_built command_line.t
 abbrev help : List Shape
 help = built_leaf help_shape ∷ []
 
-both : (a b : Bool) → a ≡ true → b ≡ true → (a && b) ≡ true
-both a b p q = rw (p, q) refl
-
-later_too : (a b : Bool) → b ≡ true → (a || b) ≡ true
-later_too true b e = refl
-later_too false b e = e
-
 module _ (words : List Text) where
   abbrev kept : Text × List Rule → Shape
   kept p = told_of words (with_rules p.0 p.1)
@@ -54,14 +47,14 @@ module _ (words : List Text) where
   all_kept Q f after last (p ∷ rest) e =
       let parts = and_parts _ _ e in
       let each = and_parts _ _ parts.0 in
-      both _ _ (cond_both (is_among p.0 words) p.1 [] (λ (rules : List Rule). Q (f (with_rules p.0 rules)) ≡ true) (λ told. each.0) (λ other. each.1)) (all_kept Q f after last rest parts.1)
+      and_from _ _ (cond_both (is_among p.0 words) p.1 [] (λ (rules : List Rule). Q (f (with_rules p.0 rules)) ≡ true) (λ told. each.0) (λ other. each.1)) (all_kept Q f after last rest parts.1)
 
   told_is_simple : is_simple (told words command_line) ≡ true
-  told_is_simple = both (is_buildable (told words command_line)) _ (all_kept is_simple_leaf (λ s. s) [] refl commands refl) (all_kept is_ready_leaf built_of help refl commands refl)
+  told_is_simple = and_from (is_buildable (told words command_line)) _ (all_kept is_simple_leaf (λ s. s) [] refl commands refl) (all_kept is_ready_leaf built_of help refl commands refl)
 
   told_is_simple_and_free : is_simple_and_free (told words command_line) ≡ true
   told_is_simple_and_free =
-      both (is_simple (told words command_line)) (is_free_app (built (told words command_line))) told_is_simple (all_kept has_free_rules built_of help refl commands refl)
+      and_from (is_simple (told words command_line)) (is_free_app (built (told words command_line))) told_is_simple (all_kept has_free_rules built_of help refl commands refl)
 
   -- ---- where a walk stops it is at one of the words
 
@@ -83,7 +76,7 @@ module _ (words : List Text) where
       → Meets (λ name. is_among name words ≡ true) (names_of line) w word × AreAmong rest
   each_among w word rest among = (
     λ going near. met_among word (among word (rw ((bytes_eq-Decides word word).1 refl) refl)) w.waiting,
-    λ other met. among other (later_too (bytes_eq word other) _ met),
+    λ other met. among other (or_right (bytes_eq word other) _ met),
   )
 
   abbrev stop : Option (Text × List Text)
@@ -92,7 +85,7 @@ module _ (words : List Text) where
   stop_among : (given : List Text) → given ≡ words → StopsAt (λ name. is_among name words ≡ true) (stop_after line.top.rules (names_of line) (drop 1 given))
   stop_among [] same = tt
   stop_among (word ∷ rest) same = fold_stops (λ name. is_among name words ≡ true) line.top.rules (names_of line) (λ w some. AreAmong some) each_among rest
-      (walk_from nothing_held) tt (λ other met. subst (λ (all : List Text). is_among other all ≡ true) same (later_too (bytes_eq word other) _ met))
+      (walk_from nothing_held) tt (λ other met. subst (λ (all : List Text). is_among other all ≡ true) same (or_right (bytes_eq word other) _ met))
 
   -- ---- the command there is as it is in the whole command line
 
