@@ -6,9 +6,11 @@ use Rattle.gv_model.specs.Decode.{cut, decode}
 use Rattle.gv_view.specs.declared.view.View.{View}
 use Rattle.gv_view.specs.Views.{Lends, value}
 use Rattle.dconf_model.specs.Table.{Table as Region}
-use Rattle.dconf_model.specs.Table.{bytes_of, value_kind, list_kind, table_kind, table_of, Opens}
+use Rattle.dconf_model.specs.Table.{bytes_of, item as item_of, value_kind, list_kind, table_kind, table_of, Opens}
 use Rattle.dconf_model.specs.Search.{Finds}
 use Rattle.dconf_model.specs.Listed.{keys_in_list}
+use Rattle.dconf_model.specs.Sound.{list_length}
+use Rattle.gvdb_read.specs.declared.item_list.ItemList.{ItemList}
 
 -- a search finds an item
 abbrev pub IsFound : Region → List ℕ → ℕ → Type 0
@@ -30,6 +32,14 @@ IsViewOf t name view = (bytes : List ℕ) × IsValueOf t name bytes × ShowsHeld
 -- the keys of the list that is found
 abbrev pub IsListOf : Region → List ℕ → List (List ℕ) → Type 0
 IsListOf t name keys = (i : ℕ) × Finds t name list_kind (Some i) × (keys ≡ keys_in_list t i)
+
+-- the list that is found
+pub record IsItemListOf (t : Region) (name : List ℕ) (list : ItemList) : Type 0 where
+  pub item : ℕ
+  pub found : Finds t name list_kind (Some item)
+  pub in_file : list.file.now ≡ t.file
+  pub starts : list.at ≡ (item_of t item).start
+  pub as_long : list.len ≡ list_length t item
 
 -- the table that is found, and opens
 abbrev pub IsTableAt : Region → List ℕ → Region → Type 0

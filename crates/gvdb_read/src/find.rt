@@ -3,9 +3,10 @@ ghost use Rattle.std.specs.Prelude.{◌≡◌, ◌+◌, ◌*◌, ◌<◌, ◌≤
 ghost use Rattle.dconf_model.specs.Bytes.{hash_of};
 ghost use Rattle.dconf_model.specs.Table.{Table as Region, list_kind, value_kind};
 ghost use Rattle.dconf_model.specs.Search.{Finds, PassesBloom, span_size};
-ghost use Rattle.gvdb_read.specs.Lookups.{IsFound, IsListOf, IsTableAt, IsValueOf, IsViewOf};
+ghost use Rattle.gvdb_read.specs.Lookups.{IsFound, IsItemListOf, IsListOf, IsTableAt, IsValueOf, IsViewOf};
 
 use crate::hashed_name::HashedName;
+use crate::item_list::ItemList;
 use crate::names::Names;
 use crate::table::Table;
 use gv_types::Steps;
@@ -78,14 +79,27 @@ impl<'a> Table<'a> {
         ensures found { IfSome result (λ names. IsListOf (region self.entry) name.now (names_left names)) }
         ensures none { IfNone result (Finds (region self.entry) name.now list_kind None) }
     {
+        let list = self.find_list(name)?;
+        Some(Names {
+            table: self,
+            at: list.at,
+            left: list.len,
+        })
+    }
+
+    /// The list of this name itself. None exactly where `list` is.
+    pub fn find_list(self, name: &str) -> Option<ItemList<'a>>
+        ensures found { IfSome result (IsItemListOf (region self.entry) name.now) }
+        ensures none { IfNone result (Finds (region self.entry) name.now list_kind None) }
+    {
         let mut steps = Steps::new();
         let i = self.find_item(name.as_bytes(), Kind::List, &mut steps)?;
         let stored = self.raw.stored(i);
         let numbers = self.raw.pointed(stored)?;
-        Some(Names {
-            table: self,
+        Some(ItemList {
+            file: self.file(),
             at: stored.start as usize,
-            left: numbers.len() / NUMBER_LEN,
+            len: numbers.len() / NUMBER_LEN,
         })
     }
 

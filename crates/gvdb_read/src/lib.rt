@@ -17,6 +17,7 @@
 mod covers;
 mod find;
 mod hashed_name;
+mod item_list;
 mod names;
 mod search;
 mod table;
@@ -24,5 +25,6 @@ mod table;
 pub use gvdb_check::{MAX_NAME_LEN, Rule, Unsound};
 pub use gvdb_format::{Item, OpenFault, hash, hash_with};
 pub use hashed_name::HashedName;
+pub use item_list::ItemList;
 pub use names::Names;
 pub use table::Table;

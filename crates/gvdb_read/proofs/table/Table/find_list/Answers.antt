@@ -1,6 +1,6 @@
 use Rattle.std.proofs.Common.{rules, arith}
 use Rattle.std.proofs.lemmas.Grind.{common_steps}
-use Rattle.gvdb_read.proofs.table.Table.list.Goals as goal
+use Rattle.gvdb_read.proofs.table.Table.find_list.Goals as goal
 
 pub returns-in_err-i-clause-none : goal.returns-in_err-i-clause-none
 returns-in_err-i-clause-none c = search rules
