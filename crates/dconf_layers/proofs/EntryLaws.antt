@@ -39,7 +39,6 @@ use Rattle.gvdb_write.specs.Salvaged.{HasNoShortText}
 use Rattle.dconf_layers.specs.declared.layer.Layer.{Layer}
 use Rattle.dconf_layers.specs.LayerRows.{AreOf, items_of, layer_paths, layer_rows, row_at, rows_from, value_in}
 use Rattle.dconf_layers.specs.LayerSettings.{locks_of, settings_of}
-use Rattle.dconf_layers.specs.SoundTables.{AreOfSoundDatabase}
 use Rattle.dconf_layers.proofs.SoundLayers.{says}
 
 -- ---- a name is a text, and that of a key is short

@@ -10,3 +10,6 @@ pub mod TextSetLaws
 pub mod ChildNames
 pub mod ListedNames
 pub mod LockNameLaws
+pub mod ChildLaws
+pub mod ChildOrder
+pub mod Walks

@@ -1,12 +1,11 @@
 -- The list of a directory of a sound database names what the directory has; its table of locks names its locks.
 use Rattle.std.specs.Prelude.{IsTrue, Contains, filter}
-use Rattle.std.proofs.Common.{◌≡◌, ℕ, true, false, List, ◌++◌, Option, Some, None, is_some, refl, sym, ap, ◌∙◌, subst}
+use Rattle.std.proofs.Common.{◌≡◌, ◌&&◌, ℕ, Bool, true, false, List, ◌++◌, Option, Some, None, is_some, refl, sym, ap, ◌∙◌, subst}
 use Rattle.std.specs.FinMap.{get, keys}
 use Rattle.std.specs.List.{list_any}
 use Rattle.std.specs.Str.{bytes_eq, is_utf8}
 use Rattle.std.proofs.Math.Bool.{Bool-set}
 use Rattle.std.proofs.Math.Logic.{∥∥₁_elim}
-use Rattle.std.proofs.lemmas.Bool.{and_parts}
 use Rattle.std.proofs.lemmas.Str.{is_utf8-from_IsUtf8}
 use Rattle.dconf_model.specs.Layers.{parts_below}
 use Rattle.dconf_model.specs.Listed.{keys_in_list}
@@ -33,7 +32,7 @@ use Rattle.dconf_model.proofs.ListingOrder.{find_text, found_text}
 abbrev paths_at : Region → List (List ℕ)
 paths_at t = keys (settings_at t).values
 
-some_bytes : (o : Option (List ℕ)) → IsTrue (is_some o) → (bytes : List ℕ) × (o ≡ Some bytes)
+pub some_bytes : (o : Option (List ℕ)) → IsTrue (is_some o) → (bytes : List ℕ) × (o ≡ Some bytes)
 some_bytes None e = absurd (no_truth e)
 some_bytes (Some bytes) e = (bytes, refl)
 
@@ -65,22 +64,30 @@ part_of values locks d part o h =
     let row = row_at values locks (d ++ p.0) o p.1 in
     (p.0, row.0, row.1, p.2)
 
+pub names_listed : (values : Table) (locks : Option Table) (d : List ℕ) (i : ℕ) (part : List ℕ) → AreOfSoundDatabase values locks → IsRow (region values) d list_kind i →
+    list_any (bytes_eq part) (keys_in_list (region values) i) ≡ list_any (bytes_eq part) (parts_below d (paths_at (region values)))
+names_listed values locks d i part o row =
+    let t = region values in
+    let law = lists_first_parts t d i part o.sound row in
+    same_bool (list_any (bytes_eq part) (keys_in_list t i)) (list_any (bytes_eq part) (parts_below d (paths_at t)))
+    (λ e. find_text part (parts_below d (paths_at t)) (part_in values locks d part o (law.0 (found_text part (keys_in_list t i) e))))
+    (λ e. find_text part (keys_in_list t i) (law.1 (part_of values locks d part o (found_text part (parts_below d (paths_at t)) e))))
+
+-- a test that each passes
+passed : (a b : Bool) → (b ≡ true → a ≡ true) → (a && b) ≡ b
+passed true b each = refl
+passed false true each = each refl
+passed false false each = refl
+
 listed : (values : Table) (locks : Option Table) (d : List ℕ) (names : List (List ℕ)) (part : List ℕ) → AreOfSoundDatabase values locks → IsListOf (region values) d names →
     list_any (bytes_eq part) (filter is_utf8 names) ≡ list_any (bytes_eq part) (parts_below d (paths_at (region values)))
 listed values locks d names part o h =
     let t = region values in
-    let i = h.0 in
-    let row : IsRow t d list_kind i = ((sound_finds_rows t o.sound).found d list_kind i).0 h.1 in
-    let law = lists_first_parts t d i part o.sound row in
-    same_bool (list_any (bytes_eq part) (filter is_utf8 names)) (list_any (bytes_eq part) (parts_below d (paths_at t)))
-    (λ e.
-    let both = and_parts (is_utf8 part) (list_any (bytes_eq part) names) (sym (any_passing part is_utf8 names) ∙ e) in
-    find_text part (parts_below d (paths_at t)) (part_in values locks d part o (law.0 (subst (λ (l : List (List ℕ)). Contains l part) h.2 (found_text part names both.1)))))
-    (λ e.
-    let there : Contains (keys_in_list t i) part = law.1 (part_of values locks d part o (found_text part (parts_below d (paths_at t)) e)) in
-    let text : is_utf8 part ≡ true = is_utf8-from_IsUtf8 part (lists_texts t d i part o.sound row there) in
-    let named : list_any (bytes_eq part) names ≡ true = find_text part names (subst (λ (l : List (List ℕ)). Contains l part) (sym h.2) there) in
-    any_passing part is_utf8 names ∙ (rw (named, text) refl))
+    let row : IsRow t d list_kind h.0 = ((sound_finds_rows t o.sound).found d list_kind h.0).0 h.1 in
+    any_passing part is_utf8 names ∙ (ap (λ (l : List (List ℕ)). is_utf8 part && list_any (bytes_eq part) l) h.2
+    ∙ (passed (is_utf8 part) (list_any (bytes_eq part) (keys_in_list t h.0))
+    (λ e. is_utf8-from_IsUtf8 part (lists_texts t d h.0 part o.sound row (found_text part (keys_in_list t h.0) e)))
+    ∙ names_listed values locks d h.0 part o row))
 
 not_listed : (values : Table) (locks : Option Table) (d part : List ℕ) → AreOfSoundDatabase values locks → IsTrue (ends_with_slash d) → Finds (region values) d list_kind None →
     false ≡ list_any (bytes_eq part) (parts_below d (paths_at (region values)))

@@ -101,27 +101,29 @@ keys_are_listed texts =
     is_some_if x true = refl
     is_some_if x false = refl
 
-abbrev same_text : String Global → String Global → Bool
-same_text x y = bytes_eq (string_bytes x) (string_bytes y)
+-- what comes again by a name, and by the names alone
+module _ {X : Type 0} (name : X → List ℕ) where
+  abbrev pub same_name : X → X → Bool
+  same_name x y = bytes_eq (name x) (name y)
 
-deduped_from : (k : String Global) (ks : List (String Global)) → map string_bytes (dedup_from same_text k ks) ≡ dedup_from bytes_eq (string_bytes k) (map string_bytes ks)
-deduped_from k [] = refl
-deduped_from k (x ∷ ks) = go (bytes_eq (string_bytes x) (string_bytes k)) refl (deduped_from k ks) (deduped_from x ks)
-  where
-    go : (b : Bool) → bytes_eq (string_bytes x) (string_bytes k) ≡ b → map string_bytes (dedup_from same_text k ks) ≡ dedup_from bytes_eq (string_bytes k) (map string_bytes ks)
-        → map string_bytes (dedup_from same_text x ks) ≡ dedup_from bytes_eq (string_bytes x) (map string_bytes ks)
-        → map string_bytes (dedup_from same_text k (x ∷ ks)) ≡ dedup_from bytes_eq (string_bytes k) (map string_bytes (x ∷ ks))
-    go true e kept later = rw e kept
-    go false e kept later = rw e (ap (λ (l : List (List ℕ)). string_bytes k ∷ l) later)
+  deduped_from : (k : X) (ks : List X) → map name (dedup_from same_name k ks) ≡ dedup_from bytes_eq (name k) (map name ks)
+  deduped_from k [] = refl
+  deduped_from k (x ∷ xs) = go (bytes_eq (name x) (name k)) refl (deduped_from k xs) (deduped_from x xs)
+    where
+      go : (b : Bool) → bytes_eq (name x) (name k) ≡ b → map name (dedup_from same_name k xs) ≡ dedup_from bytes_eq (name k) (map name xs)
+          → map name (dedup_from same_name x xs) ≡ dedup_from bytes_eq (name x) (map name xs)
+          → map name (dedup_from same_name k (x ∷ xs)) ≡ dedup_from bytes_eq (name k) (map name (x ∷ xs))
+      go true e kept later = rw e kept
+      go false e kept later = rw e (ap (λ (l : List (List ℕ)). name k ∷ l) later)
 
-deduped : (ks : List (String Global)) → map string_bytes (dedup same_text ks) ≡ dedup bytes_eq (map string_bytes ks)
-deduped [] = refl
-deduped (k ∷ ks) = deduped_from k ks
+  pub deduped : (ks : List X) → map name (dedup same_name ks) ≡ dedup bytes_eq (map name ks)
+  deduped [] = refl
+  deduped (k ∷ ks) = deduped_from k ks
 
 -- sorted, and without what comes again
-pub listed : (texts sorted kept : List (String Global)) → IsSorted string_cmp sorted → IsStable string_cmp texts sorted → kept ≡ dedup same_text sorted →
+pub listed : (texts sorted kept : List (String Global)) → IsSorted string_cmp sorted → IsStable string_cmp texts sorted → kept ≡ dedup (same_name string_bytes) sorted →
     map string_bytes kept ≡ keys (text_set texts)
 listed texts sorted kept up keeps is =
-    ap (map string_bytes) is ∙ (deduped sorted
+    ap (map string_bytes) is ∙ (deduped string_bytes sorted
     ∙ ap (dedup bytes_eq) (ap (map string_bytes) (sorted_is_in_order string_bytes texts sorted up keeps) ∙ in_order-map string_bytes (λ t. t) texts))
     ∙ sym (keys_are_listed (map string_bytes texts))

@@ -7,3 +7,5 @@ pub mod LayerRows
 pub mod Entries
 pub mod TextSets
 pub mod LockNames
+pub mod Children
+pub mod SeenKeys

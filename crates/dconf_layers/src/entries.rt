@@ -132,7 +132,7 @@ impl<'a> Layer<'a> {
     }
 
     /// The bytes of an item, if it is a value.
-    fn value_of(self, i: u32) -> Option<&'a [u8]>
+    pub(crate) fn value_of(self, i: u32) -> Option<&'a [u8]>
         requires { i < items_of self }
         ensures { option_map (λ bytes. bytes.now) result ≡ value_in self.entry i }
     {

@@ -1,10 +1,11 @@
 //! Layers that are lent, and what is seen through them.
-ghost use Rattle.std.specs.Prelude.{◌≡◌, ◌<◌, ◌≤◌, IfSome, IsSome, List, Some, drop, false, length, map, option_map, slice_index_or, ℕ, take};
+ghost use Rattle.std.specs.Prelude.{◌≡◌, ◌<◌, ◌≤◌, IfSome, IsSome, IsTrue, List, Some, drop, false, length, map, option_map, slice_index_or, ℕ, take};
 ghost use Rattle.std.specs.FinMap.{get};
 ghost use Rattle.std.specs.List.{list_any};
 ghost use Rattle.gv_view.specs.Views.{value};
 ghost use Rattle.gvdb_read.specs.Lookups.{ShowsHeld};
 ghost use Rattle.dconf_model.specs.Layers.{first_from, is_locked, level, locks_path, place_of, visible, visible_bytes, without_user};
+ghost use Rattle.dconf_model.specs.Paths.{is_key_path};
 ghost use Rattle.dconf_model.specs.Salvaging.{IsKeyText};
 ghost use Rattle.dconf_model.specs.Settings.{no_settings};
 ghost use Rattle.dconf_path.specs.Paths.{key_text};
@@ -100,7 +101,19 @@ impl<'a, 'l> LentLayers<'a, 'l> {
         ensures place { IsKeyText path.entry.now → option_map {U = ℕ × List ℕ} (λ p. (p.0, p.1.now)) result ≡ place_of (seen_in self.entry) path.entry.now }
     {
         let (first, bytes) = self.place_named(0, HashedName::new(path))?;
-        let path = KeyPath::of_bytes(path)?;
+        self.place_above(first, bytes, KeyPath::of_bytes(path)?)
+    }
+
+    /// Where the value that is seen at a path is, of which this is the first place. Locks are asked of the layers after that alone.
+    pub(crate) fn place_above(
+        self,
+        first: usize,
+        bytes: &'a [u8],
+        path: KeyPath<'_>,
+    ) -> Option<(usize, &'a [u8])>
+        requires { first_from 0 (seen_in self).layers (key_text path) ≡ Some (first, bytes.now) }
+        ensures { option_map {U = ℕ × List ℕ} (λ p. (p.0, p.1.now)) result ≡ place_of (seen_in self.entry) (key_text path.entry) }
+    {
         let level = self.level_above(first, path);
         if level <= first {
             return Some((first, bytes));
@@ -121,9 +134,9 @@ impl<'a, 'l> LentLayers<'a, 'l> {
 
     /// Whether a layer from the second on has locks. Where none has, no key is locked.
     #[inline(always)]
-    fn have_locks(self) -> bool
+    pub(crate) fn have_locks(self) -> bool
         ensures exact { result ≡ list_any has_locks (drop 1 self.entry.layers.now) }
-        ensures unlocked { result ≡ false → (path : List ℕ) → IsKeyText path → level (seen_in self.entry) path ≡ 0 }
+        ensures unlocked { result ≡ false → (path : List ℕ) → IsTrue (is_key_path path) → level (seen_in self.entry) path ≡ 0 }
     {
         match self.layers.split_first() {
             Some((_, others)) => any_has_locks(others),

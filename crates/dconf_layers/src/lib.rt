@@ -6,12 +6,14 @@
 //! locks a path hides those before it.
 #![tactic(auto)]
 
+mod children;
 mod entries;
 mod fault;
 mod layer;
 mod layer_lists;
 mod lent;
 mod nearest_lock;
+mod seen;
 mod texts;
 
 pub use entries::{Entries, Entry};
@@ -19,4 +21,5 @@ pub use fault::DatabaseFault;
 pub use layer::Layer;
 pub use layer_lists::is_under;
 pub use lent::LentLayers;
+pub use seen::SeenKey;
 pub use texts::Texts;
