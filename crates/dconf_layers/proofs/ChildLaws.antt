@@ -54,6 +54,7 @@ use Rattle.dconf_layers.specs.Children.{AreChildren, ChildRow, child_row, found_
 use Rattle.dconf_layers.specs.LayerRows.{items_of}
 use Rattle.dconf_layers.specs.LayerSettings.{locks_of, settings_of}
 use Rattle.dconf_layers.specs.SoundTables.{AreOfSoundDatabase}
+use Rattle.dconf_layers.specs.TextSets.{TextSet, with_text, with_texts}
 use Rattle.dconf_layers.proofs.ListedNames.{names_listed, not_listed_in, some_bytes}
 use Rattle.dconf_layers.proofs.SoundLayers.{says, settings_at}
 
@@ -101,6 +102,17 @@ pub no_row_left : (index : ℕ) (t : Region) (at n k : ℕ) (rows all : List Chi
 no_row_left index t at n k rows all past e =
     let none : n - k ≡ 0 = omega (arith, past) in
     sym (append-nil rows) ∙ (sym (ap (λ m. rows ++ listed_rows index t (at + 4 * k) m) none) ∙ e)
+
+pub one_name_more : (index : ℕ) (t : Region) (at n k : ℕ) (set new : TextSet) (name : List ℕ) (all : TextSet) → k < n → new ≡ with_text set name → name ≡ key t (u32_at t.file (at + 4 * k)) →
+    with_texts (names_of (listed_rows index t (at + 4 * k) (n - k))) set ≡ all → with_texts (names_of (listed_rows index t (at + 4 * (k + 1)) (n - (k + 1)))) new ≡ all
+one_name_more index t at n k set new name all l added is e =
+    let later : List (List ℕ) = names_of (listed_rows index t (at + 4 * (k + 1)) (n - (k + 1))) in
+    ap (with_texts later) (added ∙ ap (with_text set) is) ∙ (sym (ap (λ rows. with_texts (names_of rows) set) (rows_step index t at n k l)) ∙ e)
+
+pub no_name_left : (index : ℕ) (t : Region) (at n k : ℕ) (set all : TextSet) → n ≤ k → with_texts (names_of (listed_rows index t (at + 4 * k) (n - k))) set ≡ all → set ≡ all
+no_name_left index t at n k set all past e =
+    let none : n - k ≡ 0 = omega (arith, past) in
+    sym (ap (λ m. with_texts (names_of (listed_rows index t (at + 4 * k) m)) set) none) ∙ e
 
 -- ---- the first row of a name
 
@@ -227,12 +239,14 @@ pub child_counted : (layer : Layer) (directory : List ℕ) (list : ItemList) (k 
 child_counted layer directory list k is l =
     ∥∥₁_elim layer.sound le_prop (λ o. subst (λ (f : List ℕ). u32_at f (list.at + 4 * k) < items_of layer) (sym is.in_file) (are_children layer.values (locks_of layer) o directory list is k l).0)
 
+pub list_names : (layer : Layer) (index : ℕ) (directory : List ℕ) (list : ItemList) (part : List ℕ) → IsItemListOf (region layer.values) directory list →
+    list_any (bytes_eq part) (names_of (listed_rows index (region layer.values) list.at list.len)) ≡ list_any (bytes_eq part) (parts_below directory (keys (settings_of layer).values))
+list_names layer index directory list part is = ∥∥₁_elim layer.sound (Bool-set _ _) (λ o. names_are layer.values (locks_of layer) o directory list is index part)
+
 pub list_children : (layer : Layer) (index : ℕ) (directory : List ℕ) (list : ItemList) → IsItemListOf (region layer.values) directory list →
     AreChildren index (settings_of layer ∷ []) directory (listed_rows index (region layer.values) list.at list.len)
 list_children layer index directory list is =
-    let t = region layer.values in
-    of_names index (settings_of layer) directory (listed_rows index t list.at list.len)
-    (λ part. ∥∥₁_elim layer.sound (Bool-set _ _) (λ o. names_are layer.values (locks_of layer) o directory list is index part))
+    of_names index (settings_of layer) directory (listed_rows index (region layer.values) list.at list.len) (λ part. list_names layer index directory list part is)
     (λ k d l. ∥∥₁_elim layer.sound (Coded-set (coded_option (coded× coded_ℕ (coded_list coded_ℕ))) _ _) (λ o. rows_held layer.values (locks_of layer) o directory list is index k d l))
 
 pub no_children : (layer : Layer) (index : ℕ) (directory : List ℕ) → IsTrue (ends_with_slash directory) → Finds (region layer.values) directory list_kind None →

@@ -1,12 +1,11 @@
 -- The list of a directory of a sound database names what the directory has; its table of locks names its locks.
-use Rattle.std.specs.Prelude.{IsTrue, Contains, filter}
-use Rattle.std.proofs.Common.{◌≡◌, ◌&&◌, ℕ, Bool, true, false, List, ◌++◌, Option, Some, None, is_some, refl, sym, ap, ◌∙◌, subst}
+use Rattle.std.specs.Prelude.{IsTrue, Contains}
+use Rattle.std.proofs.Common.{◌≡◌, ℕ, false, List, ◌++◌, Option, Some, None, is_some, refl, sym, ap, ◌∙◌, subst}
 use Rattle.std.specs.FinMap.{get, keys}
 use Rattle.std.specs.List.{list_any}
-use Rattle.std.specs.Str.{bytes_eq, is_utf8}
+use Rattle.std.specs.Str.{bytes_eq}
 use Rattle.std.proofs.Math.Bool.{Bool-set}
 use Rattle.std.proofs.Math.Logic.{∥∥₁_elim}
-use Rattle.std.proofs.lemmas.Str.{is_utf8-from_IsUtf8}
 use Rattle.dconf_model.specs.Layers.{parts_below}
 use Rattle.dconf_model.specs.Listed.{keys_in_list}
 use Rattle.dconf_model.specs.Names.{IsRow, Rows}
@@ -15,15 +14,13 @@ use Rattle.dconf_model.specs.Search.{Finds}
 use Rattle.dconf_model.specs.SoundLaws.{IsPartBelow}
 use Rattle.dconf_model.specs.Table.{Table as Region, value_kind, list_kind}
 use Rattle.dconf_model.proofs.KeyNames.{directories_are_listed}
-use Rattle.dconf_model.proofs.ListedParts.{lists_first_parts, lists_texts}
+use Rattle.dconf_model.proofs.ListedParts.{lists_first_parts}
 use Rattle.dconf_model.proofs.Listings.{path_of_part, part_of_path}
 use Rattle.dconf_model.proofs.PathMaps.{key_in, same_bool, no_truth}
 use Rattle.dconf_model.proofs.SoundRows.{sound_finds_rows}
 use Rattle.gvdb_read.specs.declared.table.Table.{Table}
-use Rattle.gvdb_read.specs.Lookups.{IsListOf}
 use Rattle.gvdb_read.specs.Tables.{region}
 use Rattle.dconf_layers.specs.SoundTables.{AreOfSoundDatabase}
-use Rattle.dconf_layers.proofs.PathTests.{any_passing}
 use Rattle.dconf_layers.proofs.SoundLayers.{says, settings_at}
 use Rattle.dconf_model.proofs.ListingOrder.{find_text, found_text}
 
@@ -73,22 +70,6 @@ names_listed values locks d i part o row =
     (λ e. find_text part (parts_below d (paths_at t)) (part_in values locks d part o (law.0 (found_text part (keys_in_list t i) e))))
     (λ e. find_text part (keys_in_list t i) (law.1 (part_of values locks d part o (found_text part (parts_below d (paths_at t)) e))))
 
--- a test that each passes
-passed : (a b : Bool) → (b ≡ true → a ≡ true) → (a && b) ≡ b
-passed true b each = refl
-passed false true each = each refl
-passed false false each = refl
-
-listed : (values : Table) (locks : Option Table) (d : List ℕ) (names : List (List ℕ)) (part : List ℕ) → AreOfSoundDatabase values locks → IsListOf (region values) d names →
-    list_any (bytes_eq part) (filter is_utf8 names) ≡ list_any (bytes_eq part) (parts_below d (paths_at (region values)))
-listed values locks d names part o h =
-    let t = region values in
-    let row : IsRow t d list_kind h.0 = ((sound_finds_rows t o.sound).found d list_kind h.0).0 h.1 in
-    any_passing part is_utf8 names ∙ (ap (λ (l : List (List ℕ)). is_utf8 part && list_any (bytes_eq part) l) h.2
-    ∙ (passed (is_utf8 part) (list_any (bytes_eq part) (keys_in_list t h.0))
-    (λ e. is_utf8-from_IsUtf8 part (lists_texts t d h.0 part o.sound row (found_text part (keys_in_list t h.0) e)))
-    ∙ names_listed values locks d h.0 part o row))
-
 not_listed : (values : Table) (locks : Option Table) (d part : List ℕ) → AreOfSoundDatabase values locks → IsTrue (ends_with_slash d) → Finds (region values) d list_kind None →
     false ≡ list_any (bytes_eq part) (parts_below d (paths_at (region values)))
 not_listed values locks d part o ends none =
@@ -100,10 +81,6 @@ not_listed values locks d part o ends none =
     absurd (((sound_finds_rows t o.sound).missed d list_kind).0 none list.0 list.1))
 
 -- the same of a database whose fact is truncated: equations of tests have one proof
-pub listed_in : (values : Table) (locks : Option Table) (d : List ℕ) (names : List (List ℕ)) (part : List ℕ) → ∥ AreOfSoundDatabase values locks ∥₁ → IsListOf (region values) d names →
-    list_any (bytes_eq part) (filter is_utf8 names) ≡ list_any (bytes_eq part) (parts_below d (keys (settings_at (region values)).values))
-listed_in values locks d names part h list = ∥∥₁_elim h (Bool-set _ _) (λ o. listed values locks d names part o list)
-
 pub not_listed_in : (values : Table) (locks : Option Table) (d part : List ℕ) → ∥ AreOfSoundDatabase values locks ∥₁ → IsTrue (ends_with_slash d) → Finds (region values) d list_kind None →
     false ≡ list_any (bytes_eq part) (parts_below d (keys (settings_at (region values)).values))
 not_listed_in values locks d part h ends none = ∥∥₁_elim h (Bool-set _ _) (λ o. not_listed values locks d part o ends none)

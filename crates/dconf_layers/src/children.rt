@@ -3,6 +3,7 @@ ghost use Rattle.std.specs.Prelude.{◌≡◌, ◌++◌, ◌+◌, ◌<◌, [], �
 ghost use Rattle.std.specs.List.{All};
 ghost use Rattle.dconf_model.specs.Layers.{all_paths, first_from};
 ghost use Rattle.dconf_model.specs.Paths.{is_key_path};
+ghost use Rattle.dconf_model.specs.Table.{key};
 ghost use Rattle.dconf_model.specs.Walks.{names_in};
 ghost use Rattle.dconf_path.specs.Paths.{directory_text};
 ghost use Rattle.gvdb_read.specs.Tables.{region};
@@ -82,14 +83,23 @@ impl<'a> Layer<'a> {
         requires { i < items_of self }
         ensures { child_row result ≡ item_row index (region self.entry.values) i }
     {
-        let key = self.values.item(i).unwrap().key.unwrap();
         let place = match self.value_of(i) {
             Some(bytes) => Some((index, bytes)),
             None => None,
         };
         Child {
-            name: unsafe { str::from_utf8_unchecked(key) },
+            name: self.key(i),
             place,
         }
+    }
+
+    /// An item's own key, which is a text.
+    #[inline(always)]
+    pub(crate) fn key(self, i: u32) -> &'a str
+        requires { i < items_of self }
+        ensures { result.now ≡ key (region self.entry.values) i }
+    {
+        let key = self.values.item(i).unwrap().key.unwrap();
+        unsafe { str::from_utf8_unchecked(key) }
     }
 }

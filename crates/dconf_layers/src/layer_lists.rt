@@ -1,18 +1,15 @@
 //! What a layer's file lists: the names of what a directory has, and the paths of its locks.
-ghost use Rattle.std.specs.Prelude.{◌≡◌, [], ◌∷◌, Some, IfOk, OnOk, filter, option_map, string_bytes};
+ghost use Rattle.std.specs.Prelude.{◌≡◌, Some, IfOk, OnOk, option_map, string_bytes};
 ghost use Rattle.std.specs.FinMap.{keys};
-ghost use Rattle.std.specs.Str.{is_utf8};
 ghost use Rattle.dconf_model.specs.Locks.{is_below};
 ghost use Rattle.dconf_model.specs.Paths.{is_path};
 ghost use Rattle.dconf_path.specs.Paths.{directory_text};
-ghost use Rattle.gvdb_read.specs.NamesLeft.{names_left};
 ghost use Rattle.dconf_layers.specs.LockNames.{lock_count, lock_name, lock_name_at, locks_under};
 ghost use Rattle.dconf_layers.specs.TextSets.{with_children, with_texts};
 
 use crate::layer::Layer;
 use crate::texts::Texts;
 use dconf_path::{DirPath, LockPath};
-use gvdb_read::Names;
 use std::alloc::{AllocError, Global};
 
 /// The longest path of a directory that the names which it has leave room for.
@@ -30,10 +27,14 @@ impl<'a> Layer<'a> {
     pub fn add_listed(self, directory: DirPath<'_>, names: &mut Texts) -> Result<(), AllocError>
         ensures { OnOk result (names.new ≡ with_children (directory_text directory.entry) (keys (settings_of self.entry).values) names.old) }
     {
-        match self.values.list(directory.as_str()) {
-            Some(listed) => add_keys(listed, directory.as_str().len().min(ROOM), names),
-            None => Ok(()),
+        let Some(list) = self.values.find_list(directory.as_str()) else {
+            return Ok(());
+        };
+        let room = directory.as_str().len().min(ROOM);
+        for i in 0..list.len() {
+            names.add_with_room(self.key(list.number(i)), room)?;
         }
+        Ok(())
     }
 
     // ---- locks
@@ -100,29 +101,4 @@ pub fn is_under(path: &str, directory: DirPath<'_>) -> bool
     ensures { result ≡ is_below path.now (directory_text directory.entry) }
 {
     path.starts_with(directory.as_str())
-}
-
-/// Adds the keys that a list names, those that are texts, each with room for so many bytes more.
-fn add_keys(listed: Names<'_>, room: usize, names: &mut Texts) -> Result<(), AllocError>
-    ensures { OnOk result (names.new ≡ with_texts (filter is_utf8 (names_left listed.entry)) names.old) }
-{
-    for key in listed {
-        add_key(key, room, names)?;
-    }
-    Ok(())
-}
-
-/// Adds a key, if it is a text, with room for so many bytes more.
-fn add_key(key: &[u8], room: usize, names: &mut Texts) -> Result<(), AllocError>
-    ensures { OnOk result (names.new ≡ with_texts (filter is_utf8 (key.now ∷ [])) names.old) }
-{
-    // Nearly all are of ASCII, which is told with less.
-    if key.is_ascii() {
-        let name = unsafe { str::from_utf8_unchecked(key) };
-        return names.add_with_room(name, room);
-    }
-    match str::from_utf8(key) {
-        Ok(name) => names.add_with_room(name, room),
-        Err(_) => Ok(()),
-    }
 }

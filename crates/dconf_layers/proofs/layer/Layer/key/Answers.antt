@@ -3,7 +3,7 @@ use Rattle.std.specs.Prelude.{IsUtf8}
 use Rattle.gvdb_read.specs.Tables.{region}
 use Rattle.dconf_model.specs.Table.{key}
 use Rattle.dconf_layers.proofs.ChildLaws.{has_key, key_is, key_is_text}
-use Rattle.dconf_layers.proofs.layer.Layer.child.Goals as goal
+use Rattle.dconf_layers.proofs.layer.Layer.key.Goals as goal
 
 pub unwrap-key-requires : goal.unwrap-key-requires
 unwrap-key-requires c = has_key c.args.self c.args.i c.unwrap.result (search rules)
