@@ -1,79 +1,25 @@
--- The nearest lock that covers a path, byte by byte from its end.
-use Rattle.std.specs.Prelude.{IsTrue, nat_eq, slice_index}
-use Rattle.std.proofs.Common.{◌≡◌, ◌↔◌, ◌<◌, ◌≤◌, ◌-◌, ◌+◌, ◌∙◌, ◌&&◌, ◌⊎◌, inl, inr, ℕ, zero, suc, Bool, true, false, cond, List, length, take, Option, Some, None, ap, sym, subst, refl, arith, ⊎_elim, eq-eqb, eqb-true}
+-- The nearest lock that covers a path.
+use Rattle.std.specs.Prelude.{IfSome, IsTrue, option_map, slice_index, unwrap_or}
+use Rattle.std.proofs.Common.{◌≡◌, ◌<◌, ◌≤◌, ◌-◌, ◌+◌, ◌∙◌, ◌&&◌, ℕ, zero, suc, Bool, true, false, cond, List, length, take, Option, Some, None, ap, sym, subst, refl, arith, ⊎_elim}
+use Rattle.std.specs.Coded.{coded_option, coded_list, coded_ℕ}
 use Rattle.std.specs.FinMap.{contains_key}
 use Rattle.std.specs.Str.{IsCharBoundary, IsUtf8}
-use Rattle.std.proofs.Math.Bool.{Bool-set}
 use Rattle.std.proofs.Math.Logic.{∥∥₁_elim}
-use Rattle.std.proofs.lemmas.List.{length-take-le, take_all}
+use Rattle.std.proofs.lemmas.Bool.{and_from, and_parts, cases_lt, false_from_ne_true}
 use Rattle.std.proofs.lemmas.Str.{IsCharBoundary-after_ascii, IsCharBoundary-end}
-use Rattle.dconf_model.specs.Explains.{lock_within}
+use base.Stored.{Coded-set}
+use Rattle.dconf_model.specs.Explains.{lock_of, lock_within}
 use Rattle.dconf_model.specs.Locks.{covers}
-use Rattle.dconf_model.specs.Paths.{is_path}
-use Rattle.dconf_model.specs.Table.{value_kind}
-use Rattle.dconf_model.proofs.PathMaps.{no_truth, same_bool}
+use Rattle.dconf_model.specs.Paths.{is_key_path}
 use Rattle.gvdb_read.specs.declared.table.Table.{Table}
-use Rattle.gvdb_read.specs.Lookups.{IsFound}
+use Rattle.gvdb_read.specs.Directories.{IsCover}
 use Rattle.gvdb_read.specs.Tables.{region}
-use Rattle.gvdb_read.proofs.CoveredPaths.{IsPrefixAt, covering, covers_itself, prefix_covers}
+use Rattle.gvdb_read.proofs.CoveredPaths.{covering_start}
 use Rattle.dconf_layers.specs.SoundTables.{AreOfSoundDatabase}
+use Rattle.dconf_layers.proofs.CoveringPaths.{covering_is_path}
 use Rattle.dconf_layers.proofs.SoundLayers.{lock_is_found, lock_is_named, none_is_named, said_of, settings_at}
 
--- ---- one lock
-
-lock_is_there : (values locks : Table) (path : List ℕ) (b : Bool) → AreOfSoundDatabase values (Some locks) → IsTrue (is_path path) →
-    (IsTrue b ↔ IsFound (region locks) path value_kind) → b ≡ contains_key (settings_at (region values)).locks path
-lock_is_there values locks path b o is h =
-    let t = region values in
-    let said = said_of values (Some locks) o path in
-    same_bool b (contains_key (settings_at t).locks path)
-    (λ e. said.1 (is, lock_is_named t (region locks) path o.sound o.locks_are (h.0 e)))
-    (λ e. h.1 (lock_is_found t (region locks) path o.sound o.locks_are (said.0 e).1))
-
-no_lock_there : (values : Table) (path : List ℕ) → AreOfSoundDatabase values None → false ≡ contains_key (settings_at (region values)).locks path
-no_lock_there values path o =
-    let t = region values in
-    same_bool false (contains_key (settings_at t).locks path) (λ e. absurd (no_truth e))
-    (λ e. absurd (none_is_named t path o.sound o.locks_are ((said_of values None o path).0 e).1))
-
-pub lock_there : (values locks : Table) (path : List ℕ) (b : Bool) → ∥ AreOfSoundDatabase values (Some locks) ∥₁ → IsTrue (is_path path) →
-    (IsTrue b ↔ IsFound (region locks) path value_kind) → b ≡ contains_key (settings_at (region values)).locks path
-lock_there values locks path b h is e = ∥∥₁_elim h (Bool-set _ _) (λ o. lock_is_there values locks path b o is e)
-
-pub no_lock : (values : Table) (path : List ℕ) → ∥ AreOfSoundDatabase values None ∥₁ → false ≡ contains_key (settings_at (region values)).locks path
-no_lock values path h = ∥∥₁_elim h (Bool-set _ _) (λ o. no_lock_there values path o)
-
--- ---- a start of a path
-
-not_true : (b : Bool) → (b ≡ true → ⊥) → false ≡ b
-not_true true never = absurd (never refl)
-not_true false never = refl
-
--- what covers the path is the whole of it, or ends in a slash
-covering_start : (path : List ℕ) (n : ℕ) → 0 < n → n ≤ length path → covers (take n path) path ≡ true → (n ≡ length path) ⊎ (slice_index path (n - 1) ≡ 47)
-covering_start path n some within e =
-    ⊎_elim (λ (same : take n path ≡ path). inl (sym (length-take-le n path within) ∙ ap length same))
-    (λ (at : (k : ℕ) × IsPrefixAt path (take n path) k).
-    let less = at.1.within in
-    let whole : n ≡ at.0 + 1 = sym (length-take-le n path within) ∙ (ap length at.1.whole ∙ length-take-le (at.0 + 1) path (omega (arith, less))) in
-    let place : n - 1 ≡ at.0 = omega (arith, whole) in
-    inr (ap (λ k. slice_index path k) place ∙ at.1.slash))
-    (covering path (take n path) e)
-
-pub whole_covers : (path : List ℕ) (n : ℕ) → n ≡ length path → true ≡ covers (take n path) path
-whole_covers path n whole =
-    sym (subst (λ p. covers p path ≡ true) (sym (take_all n path (omega (arith, whole)))) (covers_itself path))
-
-pub start_covers : (path : List ℕ) (n : ℕ) (b : Bool) → 0 < n → n ≤ length path → (n ≡ length path → ⊥) → b ≡ nat_eq (slice_index path (n - 1)) 47 → b ≡ covers (take n path) path
-start_covers path n true some within part e =
-    let slash : slice_index path (n - 1) ≡ 47 = eqb-true (slice_index path (n - 1)) 47 (sym e) in
-    let step : n - 1 + 1 ≡ n = omega (arith, some) in
-    sym (subst (λ k. covers (take k path) path ≡ true) step (prefix_covers path (n - 1) (omega (arith, some, within)) slash))
-start_covers path n false some within part e =
-    not_true (covers (take n path) path) (λ c. ⊎_elim part
-    (λ (slash : slice_index path (n - 1) ≡ 47). no_truth (e ∙ eq-eqb (slice_index path (n - 1)) 47 slash)) (covering_start path n some within c))
-
--- a text may be cut there
+-- a text may be cut where a start of it covers it
 pub cut_start : (path : List ℕ) (n : ℕ) → IsUtf8 path → 0 < n → n ≤ length path → covers (take n path) path ≡ true → IsCharBoundary path n
 cut_start path n u some within c =
     ⊎_elim (λ (whole : n ≡ length path). subst (IsCharBoundary path) (sym whole) (IsCharBoundary-end path))
@@ -84,17 +30,65 @@ cut_start path n u some within c =
 
 -- ---- from a path's end on
 
-pub one_less : (is_lock : List ℕ → Bool) (path : List ℕ) (n : ℕ) → 0 < n →
-    lock_within is_lock path n ≡ cond (is_lock (take n path) && covers (take n path) path) (Some (take n path)) (lock_within is_lock path (n - 1))
-one_less is_lock path zero some = absurd (omega (arith, some))
-one_less is_lock path (suc k) some =
-    let less : k ≡ suc k - 1 = omega arith in
-    ap (λ m. cond (is_lock (take (suc k) path) && covers (take (suc k) path) path) (Some (take (suc k) path)) (lock_within is_lock path m)) less
+module _ (is_lock : List ℕ → Bool) (path : List ℕ) where
+  abbrev locks_start : ℕ → Bool
+  locks_start n = is_lock (take n path) && covers (take n path) path
 
-pub found_there : (b : Bool) (lock start : List ℕ) (later : Option (List ℕ)) → Some lock ≡ cond b (Some start) None → Some lock ≡ cond b (Some start) later
-found_there true lock start later e = e
-found_there false lock start later e = cc
+  none_within : (n : ℕ) → ((m : ℕ) → 0 < m → m ≤ n → locks_start m ≡ false) → lock_within is_lock path n ≡ None
+  none_within zero none = refl
+  none_within (suc n) none =
+      ap (λ b. cond b (Some (take (suc n) path)) (lock_within is_lock path n)) (none (suc n) (omega arith) (omega arith))
+      ∙ none_within n (λ m some less. none m some (omega (arith, less)))
 
-pub found_later : (b : Bool) (start : List ℕ) (later : Option (List ℕ)) → None ≡ cond b (Some start) None → cond b (Some start) later ≡ later
-found_later true start later e = cc
-found_later false start later e = refl
+  one_within : (n m : ℕ) → 0 < m → m ≤ n → locks_start m ≡ true → ((k : ℕ) → m < k → k ≤ n → locks_start k ≡ false) → lock_within is_lock path n ≡ Some (take m path)
+  one_within zero m some within is later = absurd (omega (arith, some, within))
+  one_within (suc n) m some within is later =
+      ⊎_elim (λ (less : m < suc n).
+      ap (λ b. cond b (Some (take (suc n) path)) (lock_within is_lock path n)) (later (suc n) less (omega arith))
+      ∙ one_within n m some (omega (arith, less)) is (λ k more low. later k more (omega (arith, low))))
+      (λ (last : suc n ≤ m).
+      let same : m ≡ suc n = omega (arith, within, last) in
+      ap (λ b. cond b (Some (take (suc n) path)) (lock_within is_lock path n)) (ap locks_start (sym same) ∙ is) ∙ ap (λ k. Some (take k path)) (sym same))
+      (cases_lt m (suc n))
+
+-- ---- the table of locks
+
+module _ (values locks : Table) (path : List ℕ) (o : AreOfSoundDatabase values (Some locks)) (key : IsTrue (is_key_path path)) where
+  abbrev locked : List ℕ → Bool
+  locked lock = contains_key (settings_at (region values)).locks lock
+
+  cover_locks : (n : ℕ) → IsCover (region locks) path n → locks_start locked path n ≡ true
+  cover_locks n c =
+      and_from (locked (take n path)) (covers (take n path) path)
+      ((said_of values (Some locks) o (take n path)).1 (covering_is_path (take n path) path c.covering key, lock_is_named (region values) (region locks) (take n path) o.sound o.locks_are c.found)) c.covering
+
+  no_cover : (n : ℕ) → 0 < n → n ≤ length path → ¬ IsCover (region locks) path n → locks_start locked path n ≡ false
+  no_cover n some within none =
+      false_from_ne_true (locks_start locked path n) (λ e.
+      let both = and_parts (locked (take n path)) (covers (take n path) path) e in
+      none (record {
+        some = some;
+        within = within;
+        covering = both.1;
+        found = lock_is_found (region values) (region locks) (take n path) o.sound o.locks_are ((said_of values (Some locks) o (take n path)).0 both.0).1;
+      }))
+
+  nearest : (found : Option ℕ) → IfSome found (IsCover (region locks) path) → ((n : ℕ) → unwrap_or found 0 < n → ¬ IsCover (region locks) path n) →
+      lock_of path (settings_at (region values)) ≡ option_map (λ n. take n path) found
+  nearest None some none = none_within locked path (length path) (λ m low within. no_cover m low within (none m low))
+  nearest (Some n) c none =
+      one_within locked path (length path) n c.some c.within (cover_locks n c) (λ k more within. no_cover k (omega (arith, more)) within (none k more))
+
+pub nearest_is_lock : (values locks : Table) (path : List ℕ) (found : Option ℕ) → ∥ AreOfSoundDatabase values (Some locks) ∥₁ → IsTrue (is_key_path path) →
+    IfSome found (IsCover (region locks) path) → ((n : ℕ) → unwrap_or found 0 < n → ¬ IsCover (region locks) path n) →
+    lock_of path (settings_at (region values)) ≡ option_map (λ n. take n path) found
+nearest_is_lock values locks path found h key some none = ∥∥₁_elim h (Coded-set (coded_option (coded_list coded_ℕ)) _ _) (λ o. nearest values locks path o key found some none)
+
+pub no_locks_at_all : (values : Table) (path : List ℕ) → ∥ AreOfSoundDatabase values None ∥₁ → None ≡ lock_of path (settings_at (region values))
+no_locks_at_all values path h =
+    ∥∥₁_elim h (Coded-set (coded_option (coded_list coded_ℕ)) _ _) (λ o.
+    let s = settings_at (region values) in
+    sym (none_within (λ lock. contains_key s.locks lock) path (length path) (λ m some within.
+    false_from_ne_true (contains_key s.locks (take m path) && covers (take m path) path) (λ e.
+    let both = and_parts (contains_key s.locks (take m path)) (covers (take m path) path) e in
+    none_is_named (region values) (take m path) o.sound o.locks_are ((said_of values None o (take m path)).0 both.0).1))))

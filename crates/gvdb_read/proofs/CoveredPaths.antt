@@ -8,7 +8,7 @@ use Rattle.dconf_model.proofs.PathMaps.{no_truth}
 use Rattle.std.proofs.Math.Seq.{take-append_seam, get_or-append_seam}
 use Rattle.std.proofs.lemmas.Bool.{and_parts, cases_lt}
 use Rattle.std.proofs.lemmas.Bool.Decides.{Decides-eqb}
-use Rattle.std.proofs.lemmas.List.{take_more, take-append-drop}
+use Rattle.std.proofs.lemmas.List.{length-take-le, take_all, take_more, take-append-drop}
 use Rattle.std.proofs.lemmas.Slice.Eq.{starts_is, ends_is}
 use Rattle.dconf_model.specs.Locks.{covers, is_below}
 use Rattle.dconf_model.specs.Paths.{ends_with_slash}
@@ -92,3 +92,19 @@ none_covers P path i whole none other h =
 pub whole_covers : (P : List ℕ → Type 0) (path : List ℕ) (i : ℕ) (b : Bool) → length path ≤ i → NoneBefore P path i → (IsTrue b ↔ P path) → IsTrue b ↔ HasCovering P path
 whole_covers P path i true whole none iff = (λ t. (path, covers_itself path, iff.0 t), λ h. refl)
 whole_covers P path i false whole none iff = (λ t. absurd (no_truth t), λ h. absurd (none_covers P path i whole none (λ p. no_truth (iff.1 p)) h))
+
+-- ---- the starts that cover a path
+
+-- what covers the path is the whole of it, or ends in a slash
+pub covering_start : (path : List ℕ) (n : ℕ) → 0 < n → n ≤ length path → covers (take n path) path ≡ true → (n ≡ length path) ⊎ (slice_index path (n - 1) ≡ 47)
+covering_start path n some within e =
+    ⊎_elim (λ (same : take n path ≡ path). inl (sym (length-take-le n path within) ∙ ap length same))
+    (λ (at : (k : ℕ) × IsPrefixAt path (take n path) k).
+    let less = at.1.within in
+    let whole : n ≡ at.0 + 1 = sym (length-take-le n path within) ∙ (ap length at.1.whole ∙ length-take-le (at.0 + 1) path (omega (arith, less))) in
+    let place : n - 1 ≡ at.0 = omega (arith, whole) in
+    inr (ap (λ k. slice_index path k) place ∙ at.1.slash))
+    (covering path (take n path) e)
+
+pub all_covers : (path : List ℕ) (n : ℕ) → n ≡ length path → covers (take n path) path ≡ true
+all_covers path n whole = subst (λ p. covers p path ≡ true) (sym (take_all n path (omega (arith, whole)))) (covers_itself path)

@@ -1,9 +1,9 @@
 //! Whether a table's names cover a path, as the names of locks do.
-ghost use Rattle.std.specs.Prelude.{◌≡◌, ◌+◌, ◌<◌, ◌↔◌, ℕ, List, IsTrue, length, slice_index, take};
+ghost use Rattle.std.specs.Prelude.{◌≡◌, ◌+◌, ◌<◌, ◌↔◌, ℕ, IfSome, List, IsTrue, length, slice_index, take, unwrap_or};
 ghost use Rattle.dconf_model.specs.Bytes.{hash_of};
 ghost use Rattle.dconf_model.specs.Locks.{covers};
 ghost use Rattle.dconf_model.specs.Table.{item_count, value_kind};
-ghost use Rattle.gvdb_read.specs.Directories.{HasDirectoryValue, IsDirectoryValue};
+ghost use Rattle.gvdb_read.specs.Directories.{HasDirectoryValue, IsCover, IsDirectoryValue};
 ghost use Rattle.gvdb_read.specs.Lookups.{IsFound};
 
 use crate::table::Table;
@@ -30,6 +30,35 @@ impl Table<'_> {
             }
         }
         self.has_hashed(hash, path)
+    }
+
+    /// How long the longest start of a path is, but for the empty one, that is the name of a value and covers the path: all of it,
+    /// or a directory above it.
+    ///
+    /// It searches as `covers` does.
+    pub fn nearest_cover(self, path: &str) -> Option<usize>
+        ensures found { IfSome result (IsCover (region self.entry) path.now) }
+        ensures nearest { (n : ℕ) → unwrap_or result 0 < n → ¬ IsCover (region self.entry) path.now n }
+    {
+        let path = path.as_bytes();
+        let mut hash = HASH_OF_NOTHING;
+        let mut nearest = None;
+        for i in 0..path.len() {
+            hash = hash_with(hash, path[i]);
+            if self.has_cover(hash, path, i) {
+                nearest = Some(i + 1);
+            }
+        }
+        nearest
+    }
+
+    /// Whether the prefix up to a place, which has this hash, covers the path, and has a value.
+    fn has_cover(self, hash: u32, path: &[u8], i: usize) -> bool
+        requires within { i < length path.now }
+        requires hash_is { hash ≡ hash_of (take (i + 1) path.now) }
+        ensures { IsTrue result ↔ IsCover (region self.entry) path.now (i + 1) }
+    {
+        (i + 1 == path.len() || path[i] == b'/') && self.has_hashed(hash, &path[..i + 1])
     }
 
     /// Whether some value's name ends in `/`, as far as its item's own key tells. Where none does, a path is covered by

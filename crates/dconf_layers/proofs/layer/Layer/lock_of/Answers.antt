@@ -1,33 +1,46 @@
-use Rattle.std.proofs.Common.{◌≡◌, ◌∙◌, ◌&&◌, ◌-◌, Bool, List, None, Option, Some, ap, arith, cond, option_map, sym, take, ℕ}
-use Rattle.std.specs.Borrow.{Bor}
-use Rattle.std.specs.FinMap.{contains_key}
-use Rattle.dconf_model.specs.Explains.{lock_of, lock_within}
-use Rattle.dconf_model.specs.Locks.{covers}
-use Rattle.dconf_layers.specs.LayerSettings.{settings_of}
-use Rattle.dconf_layers.proofs.NearestLocks.{found_later, found_there, one_less}
+use Rattle.std.proofs.Common.{◌≡◌, ◌-◌, ◌∙◌, ℕ, List, Option, Some, None, ap, arith, option_map, rules, subst, sym, take}
+use Rattle.std.specs.Prelude.{IsTrue}
+use Rattle.dconf_model.specs.Explains.{lock_of}
+use Rattle.dconf_model.specs.Paths.{is_key_path}
+use Rattle.dconf_path.specs.Paths.{key_text}
+use Rattle.gvdb_read.specs.declared.table.Table.{Table}
+use Rattle.dconf_layers.specs.LayerSettings.{locks_of, settings_of}
+use Rattle.dconf_layers.specs.SoundTables.{AreOfSoundDatabase}
+use Rattle.dconf_layers.proofs.NearestLocks.{cut_start, nearest_is_lock, no_locks_at_all}
 use Rattle.dconf_layers.proofs.layer.Layer.lock_of.Goals as goal
 
-pub returns-in-Some : goal.returns-in-Some
-returns-in-Some c =
-    let path = c.as_str-path.result.now in
-    let n = c.loop-n.n in
-    let P : List ℕ → Bool = λ lock. contains_key (settings_of c.args.self).locks lock in
-    let b = P (take n path) && covers (take n path) path in
-    let here : Some c.in-Some.lock.now ≡ cond b (Some (take n path)) None =
-    ap (λ (o : Option (Bor (List ℕ))). option_map (λ l. l.now) o) (sym c.in-Some.is) ∙ c.lock_of_length.ensures in
-    found_there b c.in-Some.lock.now (take n path) (lock_within P path (n - 1)) here
-    ∙ (sym (one_less P path n c.loop-n-test.true) ∙ (c.loop-n.invariant.rest ∙ ap (λ p. lock_of p (settings_of c.args.self)) c.as_str-path.ensures))
+pub returns-in_err-locks : goal.returns-in_err-locks
+returns-in_err-locks c =
+    let l = c.args.self in
+    let none : locks_of l ≡ None = search rules in
+    search rules ∙ no_locks_at_all l.values (key_text c.args.path) (subst (λ (o : Option Table). ∥ AreOfSoundDatabase l.values o ∥₁) none l.sound)
 
-pub loop-n-preserved : goal.loop-n-preserved
-loop-n-preserved c =
+pub returns-in_err-n : goal.returns-in_err-n
+returns-in_err-n c =
+    let l = c.args.self in
     let path = c.as_str-path.result.now in
-    let n = c.loop-n.n in
-    let within = c.loop-n.invariant.within in
-    let P : List ℕ → Bool = λ lock. contains_key (settings_of c.args.self).locks lock in
-    let b = P (take n path) && covers (take n path) path in
-    let missed : None ≡ cond b (Some (take n path)) None =
-    ap (λ (o : Option (Bor (List ℕ))). option_map (λ l. l.now) o) (sym c.in_default.is) ∙ c.lock_of_length.ensures in
-    record {
-      within = omega (arith, within);
-      rest = sym (one_less P path n c.loop-n-test.true ∙ found_later b (take n path) (lock_within P path (n - 1)) missed) ∙ c.loop-n.invariant.rest;
-    }
+    let key = subst (λ (p : List ℕ). IsTrue (is_key_path p)) (sym c.as_str-path.ensures) c.args.path.is_of_key in
+    let there : locks_of l ≡ Some c.in_ok-locks.field-0 = search rules in
+    let none : c.nearest_cover.result ≡ None = search rules in
+    let law = nearest_is_lock l.values c.in_ok-locks.field-0 path c.nearest_cover.result (subst (λ (o : Option Table). ∥ AreOfSoundDatabase l.values o ∥₁) there l.sound) key
+    c.nearest_cover.ensures.found c.nearest_cover.ensures.nearest in
+    search rules ∙ (sym (law ∙ ap (option_map (λ n. take n path)) none) ∙ ap (λ p. lock_of p (settings_of l)) c.as_str-path.ensures)
+
+pub range-requires-clause-end_boundary : goal.range-requires-clause-end_boundary
+range-requires-clause-end_boundary c =
+    let is = c.in_ok-n.ensures.found in
+    cut_start c.as_str-path.result.now c.in_ok-n.n c.as_str-path.utf8 is.some is.within is.covering
+
+pub returns : goal.returns
+returns c =
+    let l = c.args.self in
+    let path = c.as_str-path.result.now in
+    let n = c.in_ok-n.n in
+    let key = subst (λ (p : List ℕ). IsTrue (is_key_path p)) (sym c.as_str-path.ensures) c.args.path.is_of_key in
+    let there : locks_of l ≡ Some c.in_ok-locks.field-0 = search rules in
+    let some : c.nearest_cover.result ≡ Some n = search rules in
+    let law = nearest_is_lock l.values c.in_ok-locks.field-0 path c.nearest_cover.result (subst (λ (o : Option Table). ∥ AreOfSoundDatabase l.values o ∥₁) there l.sound) key
+    c.nearest_cover.ensures.found c.nearest_cover.ensures.nearest in
+    let whole : n - 0 ≡ n = omega arith in
+    ap (λ t. Some t) (c.range.ensures.value ∙ ap (λ m. take m path) whole)
+    ∙ (sym (law ∙ ap (option_map (λ n. take n path)) some) ∙ ap (λ p. lock_of p (settings_of l)) c.as_str-path.ensures)
