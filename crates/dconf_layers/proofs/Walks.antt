@@ -66,10 +66,6 @@ pub children_start : (directory : List ℕ) (w : Keys) (children : List Child) (
 children_start directory w children listed e =
     ap (λ (l : List (List ℕ)). texts w ++ reverse l) (places_of_names directory children ∙ ap (map {B = List ℕ} (λ (n : List ℕ). directory ++ n)) e)
 
-pub children_end : (directory : List ℕ) (w : Keys) (children : List Child) (all : List (List ℕ)) → children ≡ [] → texts w ++ reverse (places directory children) ≡ all → texts w ≡ all
-children_end directory w children all none e =
-    sym (append-nil (texts w)) ∙ (sym (ap (λ (l : List Child). texts w ++ reverse (places directory l)) none) ∙ e)
-
 -- ---- places that wait
 
 module _ (paths : List (List ℕ)) where
@@ -111,9 +107,6 @@ module _ (paths : List (List ℕ)) where
       let at : keys_at paths (seen_path place) ≡ seen_path place ∷ [] = ap (λ b. cond b (keys_below paths (seen_path place)) (seen_path place ∷ [])) is in
       ap (λ (l : List (List ℕ)). l ++ ahead w) one ∙ (append_assoc (texts keys) (seen_path place ∷ []) (ahead w)
       ∙ ap (λ (l : List (List ℕ)). texts keys ++ (l ++ ahead w)) (sym at))
-
-  pub key_less : (w : Keys) (place : List ℕ) → work w < work w + work_at paths place
-  key_less w place = omega arith
 
   -- the next place is taken
   pub next_ahead : (w left : Keys) (place : SeenKey) → w ≡ left ++ place ∷ [] → ahead w ≡ keys_at paths (seen_path place) ++ ahead left
