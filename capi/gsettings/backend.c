@@ -3,13 +3,12 @@
 #include "gsettings.h"
 
 #include "catch_up.h"
+#include "lent_value.h"
 
 #include <pthread.h>
 #include <stdlib.h>
 #include <string.h>
 #include <unistd.h>
-
-G_STATIC_ASSERT(G_BYTE_ORDER == G_LITTLE_ENDIAN);
 
 /* In microseconds: how long a set waits for others where no worker can be had. */
 enum { LONGEST_WRITE = 10000000 };
@@ -28,27 +27,6 @@ static DconfdbBackend *backend_of(GSettingsBackend *backend)
 }
 
 /* ---- reads */
-
-typedef bool Reads(const DconfdbSnapshot *snapshot, const char *path, DconfdbValue *value);
-
-static void give_back(gpointer snapshot)
-{
-    dconfdb_snapshot_unref(snapshot);
-}
-
-/* The value in place, which gives the reference to the snapshot back when it goes; NULL where there
- * is none, or no snapshot. GSettings asks for its type, and takes a floating reference. */
-static GVariant *lend(DconfdbSnapshot *snapshot, Reads *reads, const char *key)
-{
-    DconfdbValue value;
-    if (!snapshot || !reads(snapshot, key, &value)) {
-        dconfdb_snapshot_unref(snapshot);
-        return NULL;
-    }
-    /* A GVariantType is the text of a type, and needs no zero byte after it. The bytes may be
-     * any. */
-    return g_variant_new_from_data((const GVariantType *)value.type, value.data, value.size, FALSE, give_back, snapshot);
-}
 
 /* Takes `lock`, as soon as the first opening is over. */
 static void lock_opened(DconfdbBackend *self)
@@ -104,7 +82,7 @@ static DconfdbSnapshot *snapshot_of(DconfdbBackend *self)
 
 static GVariant *read_default(DconfdbBackend *self, const char *key)
 {
-    return lend(snapshot_of(self), dconfdb_snapshot_read_default, key);
+    return lent_value(snapshot_of(self), dconfdb_snapshot_read_default, key);
 }
 
 /* A user's value of another type than the schema's counts as none. Since only who reads knows that type, it
@@ -128,7 +106,7 @@ static GVariant *dconfdb_backend_read(GSettingsBackend *backend, const char *key
     Source source = source_of(self, key);
     GVariant *value = source.value;
     if (!value)
-        value = lend(source.now, source.is_edited ? dconfdb_snapshot_read_default : dconfdb_snapshot_read, key);
+        value = lent_value(source.now, source.is_edited ? dconfdb_snapshot_read_default : dconfdb_snapshot_read, key);
     return value && !g_variant_is_of_type(value, expected) ? read_past(self, key, value) : value;
 }
 
@@ -137,7 +115,7 @@ static GVariant *dconfdb_backend_read_user_value(GSettingsBackend *backend, cons
     (void)expected;
     Source source = source_of(backend_of(backend), key);
     if (!source.is_edited)
-        return lend(source.now, dconfdb_snapshot_read_user, key);
+        return lent_value(source.now, dconfdb_snapshot_read_user, key);
     dconfdb_snapshot_unref(source.now);
     return source.value;
 }

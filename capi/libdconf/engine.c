@@ -1,10 +1,10 @@
 /* A client's store, and what is read of it. */
 #include "libdconf.h"
 
+#include "lent_value.h"
+
 #include <stdlib.h>
 #include <string.h>
-
-G_STATIC_ASSERT(G_BYTE_ORDER == G_LITTLE_ENDIAN);
 
 /* ---- the store */
 
@@ -167,26 +167,6 @@ void engine_unref(Engine *self)
 
 /* ---- reading */
 
-typedef bool Reads(const DconfdbSnapshot *snapshot, const char *path, DconfdbValue *value);
-
-static void give_back(gpointer snapshot)
-{
-    dconfdb_snapshot_unref(snapshot);
-}
-
-/* The value in place, which gives the reference to the snapshot back when it goes. */
-static GVariant *lend(DconfdbSnapshot *snapshot, Reads *reads, const char *key)
-{
-    DconfdbValue value;
-    if (!snapshot || !reads(snapshot, key, &value)) {
-        dconfdb_snapshot_unref(snapshot);
-        return NULL;
-    }
-    /* A GVariantType is the text of a type, and needs no zero byte after it. */
-    const GVariantType *type = (const GVariantType *)value.type;
-    return g_variant_ref_sink(g_variant_new_from_data(type, value.data, value.size, FALSE, give_back, snapshot));
-}
-
 /* Whether the sets, the last one first, or what waits, have the key. */
 static gboolean find_edit(Engine *self, const gchar *key, const GQueue *read_through, GVariant **value)
 {
@@ -218,7 +198,9 @@ GVariant *engine_read(Engine *self, const gchar *key, DConfReadFlags flags, cons
     }
     g_clear_pointer(&value, g_variant_unref);
     is_default = is_default || is_edited;
-    return lend(now, is_default ? dconfdb_snapshot_read_default : is_user ? dconfdb_snapshot_read_user : dconfdb_snapshot_read, key);
+    Reads *reads = is_default ? dconfdb_snapshot_read_default : is_user ? dconfdb_snapshot_read_user : dconfdb_snapshot_read;
+    value = lent_value(now, reads, key);
+    return value ? g_variant_ref_sink(value) : NULL;
 }
 
 /* Whether no lock covers the directory. */
