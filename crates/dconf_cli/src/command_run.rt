@@ -12,7 +12,7 @@ ghost use Rattle.dconf_commands.specs.Loads.{reads_input};
 ghost use Rattle.dconf_cli.specs.Outputs.{Leaves};
 ghost use Rattle.dconf_cli.specs.Runs.{KeepsFiles, RanAnywhere, SaysFailedInput};
 
-use crate::outcome::give;
+use crate::outcome::bring_about;
 use dconf_args::Command;
 use dconf_commands::answered;
 use dconf_disk::Folder;
@@ -83,5 +83,5 @@ pub fn run<F: Folder, I: Read, O: Write, E: Write>(
     ensures end { result ≡ 0 → reads_input (command_of command) ≡ true → CameToEnd input.old input.new }
 {
     let answer = answered(alloc, &command, folder, input);
-    give(alloc, answer, folder, out, err)
+    bring_about(alloc, answer, folder, out, err)
 }

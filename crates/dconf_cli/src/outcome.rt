@@ -1,5 +1,5 @@
 //! How an outcome comes about: first the file that changes, and then out or err.
-ghost use Rattle.std.specs.Prelude.{◌≡◌, List, IsTrue, Ok, false};
+ghost use Rattle.std.specs.Prelude.{◌≡◌, List, IsTrue, false};
 ghost use Rattle.dconf_model.specs.Folders.{Event};
 ghost use Rattle.dconf_model.specs.Outcomes.{Output};
 ghost use Rattle.dconf_streams.specs.Answers.{line_of, outcome_of};
@@ -16,7 +16,7 @@ use std::io::Write;
 ///
 /// Nothing is refused after a file was replaced, and no memory is asked for. A failed write to out is status 1 and nothing on
 /// err; one to err changes nothing.
-pub(crate) fn give<F: Folder, O: Write, E: Write>(
+pub(crate) fn bring_about<F: Folder, O: Write, E: Write>(
     alloc: Global,
     answered: Result<Answer, Refusal>,
     folder: &mut F,
@@ -30,28 +30,8 @@ pub(crate) fn give<F: Folder, O: Write, E: Write>(
     ensures untouched { F.holds_turn folder.old ≡ false → (es : List Event) → F.past folder.old es → F.past folder.new es }
 {
     match answered {
-        Ok(answer) => carry_out(alloc, answer, folder, out, err),
-        Err(refusal) => refuse(refusal, err),
-    }
-}
-
-/// Brings about an answer, as `give` does, and gives the status.
-fn carry_out<F: Folder, O: Write, E: Write>(
-    alloc: Global,
-    answer: Answer,
-    folder: &mut F,
-    out: &mut Counted<O>,
-    err: &mut Counted<E>,
-) -> u8
-    ensures ended { (output : Output) × Ends F.Folder folder.old folder.new (outcome_of (Ok answer)) output
-        × Leaves O.contents E.contents out.old out.new err.old err.new output result }
-    ensures honest { IsTrue (F.honest folder.new) → IsTrue (F.honest folder.old) }
-    ensures turn { F.holds_turn folder.new ≡ F.holds_turn folder.old }
-    ensures untouched { F.holds_turn folder.old ≡ false → (es : List Event) → F.past folder.old es → F.past folder.new es }
-{
-    match answer {
-        Answer::Done(text) => print(text.as_bytes(), out),
-        Answer::Changed { file, bytes, text } => {
+        Ok(Answer::Done(text)) => print(text.as_bytes(), out),
+        Ok(Answer::Changed { file, bytes, text }) => {
             // Its line is made before the folder is written, since later there may be no memory for it.
             let Ok(broken) = device_line(alloc, file.as_str()) else {
                 return refuse(Refusal::NoMemory, err);
@@ -64,6 +44,7 @@ fn carry_out<F: Folder, O: Write, E: Write>(
                 Err(FolderFault::TooBig) => refuse(Refusal::NoMemory, err),
             }
         }
+        Err(refusal) => refuse(refusal, err),
     }
 }
 

@@ -1,6 +1,6 @@
 //! Each call of an engine and of layers, where there is memory enough: over a user's database of one key, and a site's that locks it. What
 //! is seen through layers is in tests/program.d.
-use dconf_differences::{differing, show_same};
+use dconf_differences::{differing, differing_first, differs, show_same};
 use dconf_engine::{ChangeFault, Engine};
 use dconf_layers::{Layer, LentLayers};
 use dconf_path::{DirPath, KeyPath, Profile, read_profile};
@@ -102,14 +102,34 @@ fn is_right(alloc: Global, mut engine: Engine<'_>) -> Result<bool, Fail> {
     Ok(is_changed && is_open && is_listed && is_saved(engine)?)
 }
 
-/// Whether one key differs between these layers and none, and none between two that are alike.
+/// Whether one key differs between this layer and none, and none between two that are alike.
 fn are_told_apart(
     alloc: Global,
+    layer: Layer<'_>,
     some: LentLayers<'_, '_>,
     none: LentLayers<'_, '_>,
-) -> Result<bool, AllocError> {
+) -> Result<bool, Fail> {
+    let path = KeyPath::parse("/k")?;
     let apart = differing(alloc, some, none, 1)?.len();
-    Ok(apart == 1 && differing(alloc, some, some.prefix(1), 1)?.is_empty())
+    let after = differing_first(alloc, none, layer)?.len();
+    Ok(apart == 1
+        && after == 1
+        && differs(alloc, some, none, path)?
+        && !differs(alloc, some, some, path)?
+        && differing(alloc, some, some.prefix(1), 1)?.is_empty())
+}
+
+/// Whether a layer lends its one value, which is seen to be in it and in what opens after it.
+fn is_lent(layer: Layer<'_>, lent: LentLayers<'_, '_>) -> Result<bool, Fail> {
+    let after = layer.open_after(Some(sample("plain")))?;
+    let Some(entry) = after.entries().next() else {
+        return Ok(false);
+    };
+    Ok(entry.is_in(layer)
+        && after.table().n_items() == 2
+        && lent.read(KeyPath::parse("/k")?).and_then(View::as_i32) == Some(5)
+        && lent.place_of_bytes(b"/k").is_some()
+        && lent.place_of_bytes(b"k").is_none())
 }
 
 /// Whether a value shows the same as itself, and another than a longer one.
@@ -122,9 +142,11 @@ fn shows_itself(alloc: Global) -> Result<bool, Fail> {
 #[test]
 fn an_engine_is_changed_seen_and_saved(rt: HostRuntime) -> Result<(), Fail> {
     let alloc = rt.alloc();
-    let (some, none) = ([Layer::open(Some(sample("plain")))?], [Layer::open(None)?]);
+    let layer = Layer::open(Some(sample("plain")))?;
+    let (some, none) = ([layer], [Layer::open(None)?]);
     let (some, none) = (LentLayers::new(true, &some), LentLayers::new(true, &none));
-    assert!(rt; are_told_apart(alloc, some, none)? && shows_itself(alloc)?);
+    assert!(rt; are_told_apart(alloc, layer, some, none)? && shows_itself(alloc)?);
+    assert!(rt; is_lent(layer, some)?);
     let engine = opened(alloc, &read_profile(alloc, "user-db:me\nsystem-db:site")?)?;
     assert!(rt; is_right(alloc, engine)?);
     Ok(())

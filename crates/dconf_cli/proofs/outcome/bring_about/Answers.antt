@@ -1,7 +1,7 @@
 use Rattle.std.proofs.Common.{◌++◌, ◌∷◌, ◌∙◌, [], ap, Err, Ok, refl, sym, subst, string_bytes, codes}
 use Rattle.dconf_streams.specs.Answers.{outcome_of}
-use Rattle.dconf_cli.proofs.Given.{Gives, gives_change, gives_device, gives_no_memory_for_change, gives_text, never_too_big}
-use Rattle.dconf_cli.proofs.outcome.carry_out.Goals as goal
+use Rattle.dconf_cli.proofs.Given.{Gives, gives_change, gives_device, gives_no_memory_for_change, gives_refusal, gives_text, never_too_big}
+use Rattle.dconf_cli.proofs.outcome.bring_about.Goals as goal
 
 pub returns-in-Done-clause-ended : goal.returns-in-Done-clause-ended
 returns-in-Done-clause-ended g c =
