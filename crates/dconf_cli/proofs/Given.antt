@@ -1,7 +1,5 @@
 -- How an answer comes about.
-use Rattle.std.proofs.Common.{◌≡◌, ◌∷◌, ◌++◌, ◌⊎◌, inl, inr, ℕ, List, [], Option, Some, Result, Ok, Err, refl, ap, subst, arith}
-use Rattle.dconf_disk.specs.declared.fault.FolderFault.{FolderFault}
-use Rattle.dconf_disk.specs.declared.fault.FolderFault.TheVariants.{Device, TooBig, Memory}
+use Rattle.std.proofs.Common.{◌≡◌, ◌∷◌, ◌++◌, inl, inr, ℕ, List, [], Option, Some, Ok, Err, refl, ap, subst, arith}
 use Rattle.dconf_model.specs.Folders.{Event}
 use Rattle.dconf_model.specs.FaultTexts.{device_text}
 use Rattle.dconf_model.specs.Replacing.{Replaced, MaybeReplaced}
@@ -71,14 +69,6 @@ module _ {F O E : Type 0} (ghosts : Ghosts F) (contents : O → Option (List ℕ
       inr (inl (refl, rose, λ es p. let r = maybe es p in (r.0, r.1, subst (λ n. MaybeReplaced es r.0 n bytes) named (subst (λ b. MaybeReplaced es r.0 called b) whole r.2)))),
       leaves_line contents err_contents out err_old err_new (codes "error: Device " ++ (name ++ 10 ∷ [])) status one (subst (λ t. Wrote err_old err_new t) is h),
     )
-
-abbrev pub failed_by : (T : Type 0) → FolderFault → Result T FolderFault
-failed_by T f = Err f
-
--- `replace` reads no file, so it finds none too big
-pub never_too_big : (T : Type 0) (f : FolderFault) → f ≡ TooBig → (failed_by T f ≡ failed_by T Device) ⊎ (failed_by T f ≡ failed_by T Memory) → ⊥
-never_too_big T f is (inl e) = cc
-never_too_big T f is (inr e) = cc
 
 -- status 0 is that of an answer that is done
 pub zero_is_done : {F : Type 0} (ghosts : Ghosts F) (old new : F) (answer : Answered) (output : Output) (Is : Type 0)
