@@ -1,30 +1,27 @@
 -- The text of rows in order is the dump of their settings, and their first fault is the dump's.
 use Rattle.std.proofs.Common.{◌≡◌, ℕ, List, None, Ok, map, sym, ap, ◌∙◌}
-use Rattle.std.specs.Prelude.{String}
-use Rattle.std.specs.Global.{Global}
 use Rattle.std.proofs.lemmas.Simd.{map-map}
-use Rattle.dconf_model.specs.Keyfiles.{DumpRow, dump_row, dumped, dumped_or, first_row_fault, in_groups, text_after}
-use Rattle.dconf_path.specs.declared.path.KeyPath.{KeyPath}
-use Rattle.keyfile_core.specs.DumpRows.{row_below, setting_of}
+use Rattle.dconf_model.specs.Keyfiles.{DumpRow, Setting, dump_row, dumped, dumped_or, first_row_fault, in_groups, text_after}
+use Rattle.keyfile_core.specs.DumpRows.{row_below}
 use Rattle.keyfile_core.specs.RowsFaults.{IsRowFault, IsRowsFaultIn}
 use Rattle.keyfile_core.specs.declared.rows_fault.RowsFault.{RowsFault}
 use Rattle.keyfile_core.specs.declared.rows_fault.RowsFault.TheVariants.{Refused, Memory}
 
-module _ (directory : List ℕ) (settings : List (KeyPath × String Global)) where
+module _ {X : Type 0} (setting : X → Setting) (directory : List ℕ) (settings : List X) where
   abbrev below : List DumpRow
-  below = map (row_below directory) settings
+  below = map (row_below setting directory) settings
 
-  same_rows : map (dump_row directory) (map setting_of settings) ≡ below
-  same_rows = map-map (dump_row directory) setting_of settings
+  same_rows : map (dump_row directory) (map setting settings) ≡ below
+  same_rows = map-map (dump_row directory) setting settings
 
-  by_fault : dumped directory (map setting_of settings) ≡ dumped_or (first_row_fault 0 below) below
+  by_fault : dumped directory (map setting settings) ≡ dumped_or (first_row_fault 0 below) below
   by_fault = ap (λ rows. dumped_or (first_row_fault 0 rows) rows) same_rows
 
   pub is_dumped : (rows sorted : List DumpRow) (text : List ℕ) → rows ≡ below → first_row_fault 0 below ≡ None → sorted ≡ in_groups rows →
-      text ≡ text_after None sorted → dumped directory (map setting_of settings) ≡ Ok text
+      text ≡ text_after None sorted → dumped directory (map setting settings) ≡ Ok text
   is_dumped rows sorted text whole faultless order is =
       by_fault ∙ (ap (λ f. dumped_or f below) faultless ∙ ap Ok (sym (is ∙ ap (text_after None) (order ∙ ap in_groups whole))))
 
-  pub has_fault : (f : RowsFault) → IsRowFault (first_row_fault 0 below) f → IsRowsFaultIn (dumped directory (map setting_of settings)) f
+  pub has_fault : (f : RowsFault) → IsRowFault (first_row_fault 0 below) f → IsRowsFaultIn (dumped directory (map setting settings)) f
   has_fault (Refused row cause) e = by_fault ∙ ap (λ f. dumped_or f below) e
   has_fault Memory e = tt

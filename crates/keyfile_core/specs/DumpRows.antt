@@ -13,8 +13,12 @@ dump_meant row = record { part = row.part.now; key = row.key.now; text = row.tex
 abbrev pub setting_of : KeyPath × String Global → Setting
 setting_of x = record { path = key_text x.0; text = string_bytes x.1 }
 
-abbrev pub row_below : List ℕ → KeyPath × String Global → Dumped
-row_below directory x = dump_row directory (setting_of x)
+abbrev pub row_below : {X : Type 0} → (X → Setting) → List ℕ → X → Dumped
+row_below setting directory x = dump_row directory (setting x)
+
+-- each setting's path starts with the directory's
+abbrev pub AreAllBelow : {X : Type 0} → (X → Setting) → List ℕ → List X → Type 0
+AreAllBelow setting directory xs = All (λ x. IsTrue (starts_with nat_eq (setting x).path directory)) xs
 
 abbrev pub AreBelow : List ℕ → List (KeyPath × String Global) → Type 0
-AreBelow directory settings = All (λ x. IsTrue (starts_with nat_eq (key_text x.0) directory)) settings
+AreBelow directory settings = AreAllBelow setting_of directory settings

@@ -6,7 +6,7 @@ ghost use Rattle.dconf_model.specs.Keyfiles.{first_row_fault, key_len};
 use crate::groups::{group_name, is_group};
 use crate::keys::is_readable_key;
 use crate::rows_fault::{RowsCause, RowsFault};
-use dconf_path::KeyPath;
+use crate::setting::AsSetting;
 use memchr::memrchr;
 use std::alloc::Global;
 
@@ -71,25 +71,25 @@ impl<'a> DumpRow<'a> {
     }
 }
 
-ghost use Rattle.keyfile_core.specs.DumpRows.{AreBelow, dump_meant, row_below};
+ghost use Rattle.keyfile_core.specs.DumpRows.{AreAllBelow, dump_meant, row_below};
 ghost use Rattle.keyfile_core.specs.RowsFaults.{IsRowFault};
 
 /// The rows of settings below a directory, unless one could not be read again.
-pub(crate) fn rows_below<'a>(
+pub(crate) fn rows_below<'a, S: AsSetting>(
     alloc: Global,
-    settings: &'a [(KeyPath<'a>, String)],
+    settings: &'a [S],
     directory: &str,
 ) -> Result<Vec<DumpRow<'a>>, RowsFault>
-    requires { AreBelow directory.now settings.now }
-    ensures rows { IfOk result (λ rows. map dump_meant rows.items ≡ map (row_below directory.entry.now) settings.entry.now) }
-    ensures faultless { IfOk result (λ rows. first_row_fault 0 (map (row_below directory.entry.now) settings.entry.now) ≡ None) }
-    ensures fault { IfErr result (IsRowFault (first_row_fault 0 (map (row_below directory.entry.now) settings.entry.now))) }
+    requires { AreAllBelow S.setting directory.now settings.now }
+    ensures rows { IfOk result (λ rows. map dump_meant rows.items ≡ map (row_below S.setting directory.entry.now) settings.entry.now) }
+    ensures faultless { IfOk result (λ rows. first_row_fault 0 (map (row_below S.setting directory.entry.now) settings.entry.now) ≡ None) }
+    ensures fault { IfErr result (IsRowFault (first_row_fault 0 (map (row_below S.setting directory.entry.now) settings.entry.now))) }
 {
-    let mut rows = Vec::new(alloc);
+    let mut rows = Vec::with_capacity(alloc, settings.len())?;
     let mut before = None;
-    for (at, (path, text)) in settings.iter().enumerate() {
-        let path = path_below(path.as_str(), directory);
-        let row = DumpRow::new(path, text.as_str());
+    for (at, setting) in settings.iter().enumerate() {
+        let path = path_below(setting.path(), directory);
+        let row = DumpRow::new(path, setting.text());
         if let Some(cause) = row.fault_after(before) {
             return Err(RowsFault::at(at, cause));
         }

@@ -18,9 +18,11 @@ mod keys;
 mod lines;
 mod rows;
 mod rows_fault;
+mod setting;
 mod write;
 
 pub use fault::{KeyfileCause, KeyfileFault};
 pub use rows::{Row, read};
 pub use rows_fault::{RowsCause, RowsFault};
-pub use write::write_rows;
+pub use setting::AsSetting;
+pub use write::{write_rows, write_settings};

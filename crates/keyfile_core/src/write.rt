@@ -2,12 +2,13 @@
 ghost use Rattle.std.specs.Prelude.{◌≡◌, ◌++◌, ◌∷◌, [], None, Ok, IfOk, IfErr, OnOk, map, option_map, string_bytes};
 ghost use Rattle.dconf_model.specs.Keyfiles.{dumped, heading, heading_after, in_groups, text_after};
 ghost use Rattle.dconf_path.specs.Paths.{directory_text};
-ghost use Rattle.keyfile_core.specs.DumpRows.{AreBelow, dump_meant, setting_of};
+ghost use Rattle.keyfile_core.specs.DumpRows.{AreAllBelow, AreBelow, dump_meant, setting_of};
 ghost use Rattle.keyfile_core.specs.RowsFaults.{IsRowsFaultIn};
 
 use crate::dump_row::{DumpRow, rows_below};
 use crate::groups::group_name;
 use crate::rows_fault::RowsFault;
+use crate::setting::AsSetting;
 use dconf_path::{DirPath, KeyPath};
 use std::alloc::{AllocError, Global};
 
@@ -25,6 +26,19 @@ pub fn write_rows(
     requires { AreBelow (directory_text directory) settings.now }
     ensures text { IfOk result (λ text. dumped (directory_text directory.entry) (map setting_of settings.entry.now) ≡ Ok (string_bytes text)) }
     ensures fault { IfErr result (IsRowsFaultIn (dumped (directory_text directory.entry) (map setting_of settings.entry.now))) }
+{
+    write_settings(alloc, settings, directory)
+}
+
+/// As [`write_rows`], of settings in any form.
+pub fn write_settings<S: AsSetting>(
+    alloc: Global,
+    settings: &[S],
+    directory: DirPath<'_>,
+) -> Result<String, RowsFault>
+    requires { AreAllBelow S.setting (directory_text directory) settings.now }
+    ensures text { IfOk result (λ text. dumped (directory_text directory.entry) (map S.setting settings.entry.now) ≡ Ok (string_bytes text)) }
+    ensures fault { IfErr result (IsRowsFaultIn (dumped (directory_text directory.entry) (map S.setting settings.entry.now))) }
 {
     let mut rows = rows_below(alloc, settings, directory.as_str())?;
     sort_rows(&mut rows)?;
