@@ -20,4 +20,4 @@ pub use gv_syntax::{
     Word, is_plain, parse, tokens,
 };
 pub use print_fault::PrintFault;
-pub use printing::print;
+pub use printing::{print, print_onto};

@@ -1,5 +1,5 @@
 //! The text of a value (GLib, "GVariant Text Format"), annotated so that its type can be read back.
-ghost use Rattle.std.specs.Prelude.{◌≡◌, true, false, IfOk, IfErr, OnOk, string_bytes};
+ghost use Rattle.std.specs.Prelude.{◌≡◌, ◌++◌, true, false, IfOk, IfErr, OnOk, string_bytes};
 ghost use Rattle.gv_model.specs.Printed.{printed, is_too_large, holds_double};
 ghost use Rattle.gv_view.specs.Views.{value};
 ghost use Rattle.gv_text.specs.Printing.{IsUnprintable, Prints};
@@ -37,11 +37,20 @@ pub fn print(alloc: Global, view: View<'_>) -> Result<String, PrintFault>
     ensures fault { IfErr result (IsUnprintable (value view.entry)) }
 {
     let mut text = String::with_capacity(alloc, ROOM)?;
-    match push_value(&mut text, view, View::MAX_LEVELS, true, false) {
-        Ok(()) => Ok(text),
+    print_onto(&mut text, view)?;
+    Ok(text)
+}
+
+/// As [`print`], behind what the text has. If it fails, nothing is said of the text.
+pub fn print_onto(to: &mut String, view: View<'_>) -> Result<(), PrintFault>
+    ensures text { OnOk result (string_bytes to.new ≡ string_bytes to.old ++ printed (value view.entry) true) }
+    ensures printable { OnOk result ((is_too_large (value view.entry) ≡ false) × (holds_double (value view.entry) ≡ false)) }
+    ensures fault { IfErr result (IsUnprintable (value view.entry)) }
+{
+    match push_value(to, view, View::MAX_LEVELS, true, false) {
         // A value that is too deep behind the double comes first.
         Err(PrintFault::DoubleText) if view.is_too_large() => Err(PrintFault::TooLarge),
-        Err(fault) => Err(fault),
+        printed => printed,
     }
 }
 
