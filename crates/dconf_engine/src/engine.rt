@@ -201,8 +201,11 @@ impl<'a> Engine<'a> {
     }
 }
 
-/// The layers of the databases whose files these are.
-fn open_layers<'a>(alloc: Global, files: &[Option<&'a [u8]>]) -> Result<Vec<Layer<'a>>, EngineFault>
+/// The layers of the databases whose files these are, as [`Engine::open`] opens them.
+pub fn open_layers<'a>(
+    alloc: Global,
+    files: &[Option<&'a [u8]>],
+) -> Result<Vec<Layer<'a>>, EngineFault>
     ensures layers { IfOk result (λ layers. AreLayers (bytes_of_files files.now) (map settings_of layers.items)) }
     ensures fault { IfErr result (λ e. IfSome (bad_of e) (λ bad. IsFirstBad (bytes_of_files files.now) bad.0 bad.1)) }
 {

@@ -33,5 +33,5 @@ mod write;
 
 pub use change_fault::ChangeFault;
 pub use dconf_layers::DatabaseFault;
-pub use engine::Engine;
+pub use engine::{Engine, open_layers};
 pub use fault::EngineFault;
