@@ -6,7 +6,6 @@ pub mod UnreadInputs
 pub mod CompileLaws
 pub mod Shows
 pub mod ChangeLaws
-pub mod Walks
 pub mod DumpLaws
 pub mod LoadLaws
 pub mod DoneLoads

@@ -10,9 +10,10 @@
 
 mod arguments;
 mod commands;
+mod dump_parts;
+mod printed_setting;
 mod printed_value;
 mod store_files;
 mod user_database;
-mod walk;
 
 pub use commands::answered;

@@ -1,15 +1,18 @@
 //! The files of a store: the profile, and the databases that it names.
 ghost use Rattle.std.specs.Prelude.{◌≡◌, ℕ, Err, Ok, IfOk, IfErr, length, map, string_bytes, vec_items};
+ghost use Rattle.dconf_model.specs.Databases.{AreLayers};
 ghost use Rattle.dconf_model.specs.Outcomes.{OrLine, OrNoDatabase, WithDatabases, WithLayers};
 ghost use Rattle.dconf_model.specs.Profiles.{database_file, has_writable, profile_of};
 ghost use Rattle.dconf_path.specs.Profiles.{database_of, databases_of};
 ghost use Rattle.dconf_layers.specs.Files.{bytes_of_files};
+ghost use Rattle.dconf_layers.specs.LayerSettings.{settings_of};
 ghost use Rattle.dconf_streams.specs.Answers.{GivesOutcome};
 ghost use Rattle.dconf_streams.specs.Readings.{Decides, HasRead, NothingIfAny, found_read, one_read};
 ghost use Rattle.dconf_commands.specs.StoreReads.{NoDatabases, NoItems, bytes_of, database_reads};
 
 use dconf_disk::Folder;
-use dconf_engine::{Engine, EngineFault};
+use dconf_engine::{Engine, EngineFault, open_layers};
+use dconf_layers::Layer;
 use dconf_path::{Database, DatabaseKind, Profile, read_profile, settings_text};
 use dconf_streams::{NamedFile, Refusal, file_if_any, refused, refused_at};
 use std::alloc::{AllocError, Global};
@@ -38,6 +41,19 @@ impl<'a> StoreFiles<'a> {
         let profile = profile(alloc, file.name, &file.bytes)?;
         let databases = databases(alloc, profile.databases(), folder)?;
         Ok(StoreFiles { profile, databases })
+    }
+
+    /// The layers of the databases, or the refusal for the first that is no sound one.
+    pub(crate) fn layers(&self, alloc: Global) -> Result<Vec<Layer<'_>>, Refusal>
+        ensures ok { IfOk result (λ layers. AreLayers (items_of self.now) (map settings_of layers.items)) }
+        ensures err { IfErr result (λ refusal. GivesOutcome (Err refusal) (WithLayers (items_of self.now) (has_writable (named_by self.now)) NoLayers)) }
+    {
+        let files = lent(alloc, &self.databases)?;
+        match open_layers(alloc, &files) {
+            Ok(layers) => Ok(layers),
+            Err(EngineFault::Memory) => Err(Refusal::NoMemory),
+            Err(fault) => Err(refused(alloc, fault)),
+        }
     }
 
     /// The engine of the databases, or the refusal for the first that is no sound one.

@@ -1,10 +1,15 @@
-use Rattle.std.proofs.Common.{◌≡◌, Err, subst}
-use Rattle.dconf_model.proofs.LayerPaths.{layers_have_key_paths}
-use Rattle.dconf_model.specs.Layers.{paths_below}
+use Rattle.std.proofs.Common.{◌≡◌, ◌∙◌, List, Err, ap, false, map, refl, subst}
+use Rattle.dconf_model.specs.Layers.{Layers, paths_below}
 use Rattle.dconf_model.specs.Outcomes.{dump_at}
+use Rattle.dconf_model.specs.Profiles.{has_writable}
+use Rattle.dconf_path.specs.Paths.{directory_text}
+use Rattle.dconf_layers.specs.declared.layer.Layer.{Layer}
+use Rattle.dconf_layers.specs.LayerSettings.{settings_of}
 use Rattle.dconf_streams.specs.Answers.{GivesOutcome}
 use Rattle.std.proofs.lemmas.Result.{err_from_is_err_and}
 use Rattle.dconf_model.specs.Paths.{directory_fault}
+use Rattle.dconf_commands.specs.Stores.{named_by}
+use Rattle.dconf_commands.specs.declared.store_files.StoreFiles.{StoreFiles}
 use Rattle.dconf_commands.proofs.PathArguments.{decides_at_path, decides_faultless}
 use Rattle.dconf_commands.proofs.OpenStores.{values_dumped}
 use Rattle.dconf_commands.proofs.Stores.{store_not_opened, store_opened, store_without_databases, store_without_file}
@@ -28,23 +33,24 @@ returns-in_err-files g c = λ input.
     (store_without_databases g.F.Folder c.args.profile.now (values_dumped c.args.skip_doubles c.args.directory.now) (Err c.in_err-files.field-0.0) c.args.folder.now c.named_file.new.folder c.read.new.folder
     c.in_ok-profile.profile c.in_ok-profile.ensures.name c.in_ok-profile.ensures.ok c.in_err-files.ensures.err))
 
-pub returns-in_err-engine : goal.returns-in_err-engine
-returns-in_err-engine g c = λ input.
-    let p = err_from_is_err_and c.from_residual-in_err-engine.result c.from_residual-in_err-engine.ensures.1 in
-    rw (p.1, p.2) (decides_faultless g.F.Folder c.args.folder.now c.read.new.folder _ (Err c.in_err-engine.field-0.0) (directory_fault c.args.directory.now) c.in_ok-directory.ensures.faultless
-    (store_not_opened g.F.Folder c.args.profile.now (values_dumped c.args.skip_doubles c.args.directory.now) (Err c.in_err-engine.field-0.0) c.args.folder.now c.named_file.new.folder c.read.new.folder
-    c.in_ok-profile.profile c.in_ok-profile.ensures.name c.in_ok-profile.ensures.ok c.in_ok-files.files c.in_ok-files.ensures.ok c.in_err-engine.ensures.err))
+pub returns-in_err-layers : goal.returns-in_err-layers
+returns-in_err-layers g c = λ input.
+    let p = err_from_is_err_and c.from_residual-in_err-layers.result c.from_residual-in_err-layers.ensures.1 in
+    rw (p.1, p.2) (decides_faultless g.F.Folder c.args.folder.now c.read.new.folder _ (Err c.in_err-layers.field-0.0) (directory_fault c.args.directory.now) c.in_ok-directory.ensures.faultless
+    (store_not_opened g.F.Folder c.args.profile.now (values_dumped c.args.skip_doubles c.args.directory.now) (Err c.in_err-layers.field-0.0) c.args.folder.now c.named_file.new.folder c.read.new.folder
+    c.in_ok-profile.profile c.in_ok-profile.ensures.name c.in_ok-profile.ensures.ok c.in_ok-files.files c.in_ok-files.ensures.ok c.in_err-layers.ensures.err))
 
-pub open-requires : goal.open-requires
-open-requires g c = c.in_ok-files.ensures.ok.each
+-- through the same layers, of which the first may be the user's
+abbrev opened : StoreFiles → List Layer → Layers
+opened files layers = record { layers = map settings_of layers; writable = has_writable (named_by files) }
 
 pub returns : goal.returns
 returns g c = λ input.
+    let l = opened c.in_ok-files.files c.in_ok-layers.layers.items in
     decides_faultless g.F.Folder c.args.folder.now c.read.new.folder _ c.dumped.result (directory_fault c.args.directory.now) c.in_ok-directory.ensures.faultless
     (store_opened g.F.Folder c.args.profile.now (values_dumped c.args.skip_doubles c.args.directory.now) c.dumped.result c.args.folder.now c.named_file.new.folder c.read.new.folder
-    c.in_ok-profile.profile c.in_ok-profile.ensures.name c.in_ok-profile.ensures.ok c.in_ok-files.files c.in_ok-files.ensures.ok c.in_ok-engine.engine
-    c.in_ok-engine.ensures.ok
-    (subst (λ directory. GivesOutcome c.dumped.result (λ o. o ≡ dump_at c.args.skip_doubles directory c.in_ok-engine.engine (paths_below c.in_ok-engine.engine directory))) c.in_ok-directory.ensures.ok c.dumped.ensures))
-
-pub dumped-requires : goal.dumped-requires
-dumped-requires g c = layers_have_key_paths _ _ c.in_ok-engine.ensures.ok.layers
+    c.in_ok-profile.profile c.in_ok-profile.ensures.name c.in_ok-profile.ensures.ok c.in_ok-files.files c.in_ok-files.ensures.ok l
+    (record { layers = c.in_ok-layers.ensures.ok; writable = refl })
+    (subst (λ directory. GivesOutcome c.dumped.result (λ o. o ≡ dump_at c.args.skip_doubles directory l (paths_below l directory))) c.in_ok-directory.ensures.ok
+    (subst (λ seen. GivesOutcome c.dumped.result (λ o. o ≡ dump_at c.args.skip_doubles (directory_text c.in_ok-directory.directory) seen (paths_below seen (directory_text c.in_ok-directory.directory))))
+    (c.new.ensures ∙ ap (λ layers. record { layers = map settings_of layers; writable = false }) c.deref.ensures.value) c.dumped.ensures)))

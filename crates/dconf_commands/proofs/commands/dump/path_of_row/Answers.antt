@@ -8,7 +8,7 @@ returns-in-Some c =
     let settings = c.args.settings.now in
     let row = c.args.row in
     let x = c.in-Some.setting.now in
-    c.as_str.ensures ∙ row_path settings row x (slice_get_read settings (length settings) row x refl c.in-Some.ensures.lookup.3.0 c.in-Some.ensures.lookup.1)
+    c.path.ensures ∙ row_path settings row x (slice_get_read settings (length settings) row x refl c.in-Some.ensures.lookup.3.0 c.in-Some.ensures.lookup.1)
 
 pub returns-in-None : goal.returns-in-None
 returns-in-None c = no_row_path c.args.settings.now c.args.row (slice_get_past c.args.settings.now c.args.row c.in-None.ensures.lookup.3)
