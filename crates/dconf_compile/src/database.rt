@@ -9,7 +9,7 @@ use crate::keyfiles::add_keyfiles;
 use crate::locks::add_lock_files;
 use crate::order::{Numbered, first_file, in_order};
 use crate::source::Source;
-use gvdb_write::{Map, MapBuilder, WriteFault, write};
+use gvdb_write::{MapBuilder, WriteFault};
 use std::alloc::Global;
 
 /// The bytes of the database that keyfiles and lock files give, or their first fault.
@@ -31,8 +31,8 @@ pub fn compile(
     ensures memory { IfErr result (λ e. fault_of e ≡ None → e ≡ no_memory) }
 {
     let order = in_order(alloc, files)?;
-    let map = settings(alloc, &order, locks)?;
-    match write(alloc, &map) {
+    let settings = settings(alloc, &order, locks)?;
+    match settings.write() {
         Ok(bytes) => Ok(bytes),
         Err(WriteFault::TooBig) => Err(CompileFault::at(
             first_file(&order),
@@ -48,13 +48,12 @@ fn settings(
     alloc: Global,
     files: &[Numbered<'_>],
     locks: &[Source<'_>],
-) -> Result<Map, CompileFault>
-    ensures given { IfOk result (λ map. AreGivenBy (given_by files.now locks.now) map) }
+) -> Result<MapBuilder, CompileFault>
+    ensures given { IfOk result (AreGivenBy (given_by files.now locks.now)) }
     ensures fault { IfErr result (StopsAt (given_by files.now locks.now)) }
 {
-    let mut values = MapBuilder::new(alloc);
-    add_keyfiles(alloc, files, &mut values)?;
-    let mut map = values.build()?;
-    add_lock_files(alloc, locks, &mut map)?;
-    Ok(map)
+    let mut given = MapBuilder::new(alloc);
+    add_keyfiles(alloc, files, &mut given)?;
+    add_lock_files(alloc, locks, &mut given)?;
+    Ok(given)
 }

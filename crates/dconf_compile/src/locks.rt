@@ -1,4 +1,4 @@
-//! Lock files, put into a map one after another.
+//! Lock files, put among settings one after another.
 ghost use Rattle.std.specs.Prelude.{◌≡◌, IfErr, IfSome, OnOk, Err};
 ghost use Rattle.std.specs.List.{enumerate_from};
 ghost use Rattle.dconf_model.specs.Lines.{read_file};
@@ -14,14 +14,14 @@ use crate::fault::{CompileFault, FileRef};
 use crate::line_stop::LineStop;
 use crate::source::Source;
 use dconf_path::{read_locks, settings_text};
-use gvdb_write::Map;
+use gvdb_write::MapBuilder;
 use std::alloc::Global;
 
-/// Puts the locks of lock files into a map.
+/// Puts the locks of lock files among settings.
 pub(crate) fn add_lock_files(
     alloc: Global,
     files: &[Source<'_>],
-    settings: &mut Map,
+    settings: &mut MapBuilder,
 ) -> Result<(), CompileFault>
     ensures added { OnOk result (AddsLocks (in_files lock_file (read_file locks_in) (enumerate_from 0 (sources_of files.now))) settings.old settings.new) }
     ensures fault { IfErr result (StopsAt (in_files lock_file (read_file locks_in) (enumerate_from 0 (sources_of files.now)))) }
@@ -35,8 +35,8 @@ pub(crate) fn add_lock_files(
     Ok(())
 }
 
-/// Puts the locks of a lock file into a map.
-fn add_lock_file(alloc: Global, bytes: &[u8], settings: &mut Map) -> Result<(), LineStop>
+/// Puts the locks of a lock file among settings.
+fn add_lock_file(alloc: Global, bytes: &[u8], settings: &mut MapBuilder) -> Result<(), LineStop>
     ensures added { OnOk result (AddsLocks (read_file locks_in bytes.now) settings.old settings.new) }
     ensures fault { IfErr result (λ stop. IfSome (line_fault_of stop) (λ fault. read_file locks_in bytes.now ≡ Err fault)) }
 {
@@ -46,8 +46,8 @@ fn add_lock_file(alloc: Global, bytes: &[u8], settings: &mut Map) -> Result<(), 
     }
 }
 
-/// Puts the locks of a text into a map.
-fn add_locks(alloc: Global, text: &str, settings: &mut Map) -> Result<(), LineStop>
+/// Puts the locks of a text among settings.
+fn add_locks(alloc: Global, text: &str, settings: &mut MapBuilder) -> Result<(), LineStop>
     ensures added { OnOk result (AddsLocks (locks_in text.now) settings.old settings.new) }
     ensures fault { IfErr result (λ stop. IfSome (line_fault_of stop) (λ fault. locks_in text.now ≡ Err fault)) }
 {

@@ -68,9 +68,10 @@ pub kept_where_inserted : (m n : BTreeMap (String Global) (Vec ℕ Global)) (loc
 kept_where_inserted m n locks path value kept is e =
     subst (λ (v : AtPaths (List ℕ)). IsSettings (record { values = v; locks = locks_of locks })) (sym e) (valued_at_path (settings_of m locks) path value kept is)
 
-pub kept_where_locked : (m : BTreeMap (String Global) (Vec ℕ Global)) (s n : BTreeSet (String Global)) (path : List ℕ) → IsSettings (settings_of m s) → IsTrue (is_path path) → locks_of n ≡ insert (locks_of s) path tt → IsSettings (settings_of m n)
-kept_where_locked m s n path kept is e =
-    subst (λ (l : AtPaths Lock). IsSettings (record { values = values_of m; locks = l })) (sym e) (locked_at_path (settings_of m s) path kept is)
+pub kept_where_locked : (v : AtPaths (List ℕ)) (s n : BTreeSet (String Global)) (path : List ℕ) → IsSettings (record { values = v; locks = locks_of s }) → IsTrue (is_path path)
+    → locks_of n ≡ insert (locks_of s) path tt → IsSettings (record { values = v; locks = locks_of n })
+kept_where_locked v s n path kept is e =
+    subst (λ (l : AtPaths Lock). IsSettings (record { values = v; locks = l })) (sym e) (locked_at_path (record { values = v; locks = locks_of s }) path kept is)
 
 -- the text of a lock's path is a path
 pub lock_is_path : (lock : LockPath) → IsTrue (is_path (lock_text lock))

@@ -2,7 +2,8 @@ pub mod Read
 pub mod GroupPlaces
 pub mod Order
 pub mod KeyPaths
-pub mod BuiltMaps
+pub mod OrderedRows
+pub mod LentRows
 pub mod DirectorySteps
 pub mod PathTexts
 pub mod PushedNames

@@ -1,12 +1,16 @@
 -- The settings that the collections of a map stand for.
-use Rattle.std.specs.Prelude.{ℕ, List, map, Vec, IsTrue}
+use Rattle.std.specs.Prelude.{◌≡◌, ℕ, List, map, true, Some, Vec, IsTrue}
+use Rattle.std.specs.Borrow.{Bor}
 use Rattle.std.specs.List.{All}
 use Rattle.std.specs.BTreeMap.{BTreeMap}
 use Rattle.std.specs.BTreeSet.{BTreeSet}
 use Rattle.std.specs.declared.string.String.{String}
 use Rattle.std.specs.declared.alloc.Global.{Global}
 use Rattle.std.specs.String.{string_bytes}
-use Rattle.std.specs.FinMap.{from_entries}
+use Rattle.std.specs.Cmp.Lexicographic.{slice_cmp}
+use Rattle.std.specs.Ordering.{nat_cmp}
+use Rattle.std.specs.FinMap.{contains_key, from_entries, get}
+use Rattle.std.specs.FinMap.Entries.{is_sorted}
 use Rattle.dconf_model.specs.Paths.{is_path, is_key_path}
 use Rattle.dconf_model.specs.Settings.{AtPaths, Lock, Settings}
 
@@ -28,6 +32,31 @@ locks_of s = from_entries (lock_entries s.keys)
 
 abbrev pub settings_of : BTreeMap (String Global) (Vec ℕ Global) → BTreeSet (String Global) → Settings
 settings_of m s = record { values = values_of m; locks = locks_of s }
+
+-- each of these is the path of a key or of a directory
+abbrev pub AreLocked : BTreeSet (String Global) → Type 0
+AreLocked s = (path : List ℕ) → IsTrue (contains_key (locks_of s) path) → IsTrue (is_path path)
+
+-- ---- entries that are lent
+
+abbrev pub path_and_bytes : Bor (List ℕ) × Bor (List ℕ) → List ℕ × List ℕ
+path_and_bytes e = (e.0.now, e.1.now)
+
+abbrev pub lent_entries : List (Bor (List ℕ) × Bor (List ℕ)) → List (List ℕ × List ℕ)
+lent_entries es = map path_and_bytes es
+
+abbrev pub sorted_settings : List (List ℕ × List ℕ) → BTreeSet (String Global) → Settings
+sorted_settings es s = record { values = from_entries es; locks = locks_of s }
+
+-- each path precedes the next
+abbrev pub AreSorted : List (List ℕ × List ℕ) → Type 0
+AreSorted es = is_sorted (slice_cmp nat_cmp) es ≡ true
+
+-- each path has these bytes
+abbrev pub AreHeld : AtPaths (List ℕ) → List (List ℕ × List ℕ) → Type 0
+AreHeld values es = All (λ e. get values e.0 ≡ Some e.1) es
+
+-- ---- texts
 
 -- the bytes of texts
 abbrev pub texts : List (String Global) → List (List ℕ)

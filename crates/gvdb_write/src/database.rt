@@ -4,6 +4,7 @@ ghost use Rattle.std.specs.Prelude.{ℕ, ◌≡◌, ◌++◌, ◌+◌, ◌-◌, 
 ghost use Rattle.dconf_model.specs.Settings.{Settings};
 ghost use Rattle.dconf_model.specs.TableBytes.{words_bytes, head_bytes, header_bytes};
 ghost use Rattle.dconf_model.specs.Opening.{IsDatabase, root_of};
+ghost use Rattle.dconf_model.specs.Databases.{IsDatabaseOf};
 ghost use Rattle.dconf_model.specs.Sound.{IsSound};
 ghost use Rattle.dconf_model.specs.Plans.{values_end, HoldsValues, HoldsLocks, HasLength};
 ghost use Rattle.gvdb_write.specs.Limits.{limit, IsRefusal};
@@ -20,6 +21,7 @@ use crate::contents::Contents;
 use crate::layout::{Layout, Pointer, bloom_words};
 use crate::map::Map;
 use crate::names::{Named, lock_names, root_names};
+use crate::sorted::Sorted;
 use crate::table::TablePlan;
 use crate::write_fault::WriteFault;
 use gvdb_format::{SIGNATURE, head_number, push_u32};
@@ -42,18 +44,30 @@ pub fn write(alloc: Global, map: &Map) -> Result<Vec<u8>, WriteFault>
     ensures fits { IfOk result (λ file. length file.items ≤ limit) }
     ensures fault { IfErr result (IsRefusal map.now) }
 {
-    let (root, locks) = tables(alloc, map)?;
+    write_sorted(alloc, map.sorted()?)
+}
+
+/// The same, of settings in order.
+pub(crate) fn write_sorted(alloc: Global, sorted: Sorted<'_>) -> Result<Vec<u8>, WriteFault>
+    ensures database { IfOk result (λ file. IsDatabaseOf sorted.entry file.items) }
+    ensures fault { IfErr result (IsRefusal sorted.entry) }
+{
+    let (root, locks) = tables(alloc, sorted)?;
     let layout = Layout::new(alloc, &root, &locks)?;
     write_parts(alloc, &root, &locks, &layout)
 }
 
-/// The root table of a map's database, and the table of its locks.
-fn tables<'a>(alloc: Global, map: &'a Map) -> Result<(TablePlan<'a>, TablePlan<'a>), WriteFault>
-    ensures tables { IfOk result (λ tables. AreReady map.now tables.0 tables.1) }
+/// The root table of a database, and the table of its locks.
+fn tables<'a>(alloc: Global, sorted: Sorted<'a>) -> Result<(TablePlan<'a>, TablePlan<'a>), WriteFault>
+    ensures tables { IfOk result (λ tables. AreReady sorted.entry tables.0 tables.1) }
     ensures fault { IfErr result (λ e. e ≡ Memory) }
 {
-    let root = TablePlan::new(alloc, root_names(alloc, map)?)?;
-    let locks = TablePlan::new(alloc, lock_names(alloc, map)?)?;
+    let names = root_names(alloc, &sorted)?;
+    let locked = lock_names(alloc, &sorted)?;
+    // The names lend the paths and the values themselves.
+    drop(sorted);
+    let root = TablePlan::new(alloc, names)?;
+    let locks = TablePlan::new(alloc, locked)?;
     Ok((root, locks))
 }
 

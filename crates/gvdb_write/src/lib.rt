@@ -17,6 +17,7 @@
 
 mod contents;
 mod database;
+mod entries;
 mod groups;
 mod layout;
 mod map;
@@ -24,6 +25,7 @@ mod map_builder;
 mod names;
 mod salvage_fault;
 mod salvaged;
+mod sorted;
 mod table;
 mod values;
 mod write_fault;

@@ -1,12 +1,14 @@
 //! A map of paths to the bytes of their values, and a set of locked paths.
 ghost use Rattle.std.specs.Prelude.{◌≡◌, IsTrue, IfOk, OnOk, OnErr, option_map, string_bytes};
-ghost use Rattle.std.specs.FinMap.{contains_key, get, keys, len};
+ghost use Rattle.std.specs.FinMap.{contains_key, get, insert, keys, len};
 ghost use Rattle.dconf_model.specs.Paths.{is_key_path};
 ghost use Rattle.dconf_model.specs.Settings.{no_settings, with_value, with_lock};
 ghost use Rattle.dconf_path.specs.Paths.{key_text};
 ghost use Rattle.dconf_path.specs.LockPaths.{lock_text};
-ghost use Rattle.gvdb_write.specs.Maps.{AreKeyPaths, ArePaths, paths_of, texts, value_entries};
+ghost use Rattle.gvdb_write.specs.Maps.{AreKeyPaths, AreLocked, ArePaths, locks_of, texts};
 
+use crate::entries::listed;
+use crate::sorted::Sorted;
 use dconf_path::{KeyPath, LockPath};
 use std::alloc::{AllocError, Global};
 use std::collections::{BTreeMap, BTreeSet, btree_map, btree_set};
@@ -38,9 +40,7 @@ impl Model for Map {
 }
 
 impl Map {
-    ghost use Rattle.dconf_model.specs.Settings.{IsSettings};
-    ghost use Rattle.gvdb_write.specs.PathsLeft.{AreHeld, entries_left, keys_left, locks_left};
-    ghost use Rattle.gvdb_write.specs.Rows.{settings_of_rows};
+    ghost use Rattle.gvdb_write.specs.PathsLeft.{keys_left, locks_left};
 
     /// A map with no value and no lock. It takes no memory.
     pub fn new(alloc: Global) -> Map
@@ -53,18 +53,6 @@ impl Map {
             values,
             locks,
         }
-    }
-
-    /// The map of rows, a later one in the place of an earlier one of its path, without a lock.
-    pub(crate) fn of_rows(alloc: Global, rows: Vec<(String, Vec<u8>)>) -> Result<Map, AllocError>
-        requires { IsSettings (settings_of_rows rows.items) }
-        ensures { IfOk result (λ map. map ≡ settings_of_rows rows.items) }
-    {
-        Ok(Map {
-            alloc,
-            values: rows.into_iter().collect(alloc)?,
-            locks: BTreeSet::new(alloc),
-        })
     }
 
     /// Sets the bytes of the value at a path, in the place of those that it had.
@@ -98,8 +86,7 @@ impl Map {
         ensures ok { OnOk result (self.new ≡ with_lock self.old (lock_text path.entry)) }
         ensures err { OnErr result (self.new ≡ self.old) }
     {
-        let path = String::from_str(self.alloc, path.as_str())?;
-        self.locks.insert(path)?;
+        insert_lock(self.alloc, path, &mut self.locks)?;
         Ok(())
     }
 
@@ -143,22 +130,34 @@ impl Map {
         Keys { rest }
     }
 
-    /// The paths that have a value, each with the bytes of its value, in the order of the paths' bytes.
-    pub(crate) fn entries(&self) -> Entries<'_>
-        ensures paths { paths_of (entries_left result) ≡ keys self.now.values }
-        ensures held { AreHeld self.now.values (entries_left result) }
+    /// The values in the order of their paths, and the locks.
+    pub(crate) fn sorted(&self) -> Result<Sorted<'_>, AllocError>
+        ensures { IfOk result (λ sorted. sorted ≡ self.now) }
     {
-        let rest = self.values.iter();
-        Entries { rest }
+        let entries = listed(self.alloc, &self.values)?;
+        Ok(Sorted::new(entries, &self.locks))
     }
 
     /// The paths that are locked, in the order of their bytes.
     pub fn locks(&self) -> Locks<'_>
         ensures { locks_left result ≡ keys self.now.locks }
     {
-        let rest = self.locks.iter();
-        Locks { rest }
+        Locks::of(&self.locks)
     }
+}
+
+/// Adds the path of a lock to others.
+pub(crate) fn insert_lock(
+    alloc: Global,
+    path: LockPath<'_>,
+    locks: &mut BTreeSet<String>,
+) -> Result<(), AllocError>
+    ensures ok { OnOk result (locks_of locks.new ≡ insert (locks_of locks.old) (lock_text path.entry) tt) }
+    ensures err { OnErr result (locks.new ≡ locks.old) }
+{
+    let path = String::from_str(alloc, path.as_str())?;
+    locks.insert(path)?;
+    Ok(())
 }
 
 /// How many there are of each, and none of them.
@@ -199,34 +198,24 @@ impl<'a> Iterator for Keys<'a> {
     }
 }
 
-/// The paths of a map that have a value, of those that are left, each with the bytes of its value.
-#[derive(Drop)]
-pub(crate) struct Entries<'a> {
-    rest: btree_map::Iter<'a, String, Vec<u8>>,
-    ghost are_paths: { AreKeyPaths (paths_of (value_entries rest)) },
-}
-
-impl<'a> Iterator for Entries<'a> {
-    ghost use Rattle.std.specs.Iterator.{YieldsFirstBy, item_count};
-    ghost use Rattle.gvdb_write.specs.PathsLeft.{entries_left, path_and_bytes};
-
-    type Item = (&'a str, &'a [u8]);
-
-    ghost next_gives = { YieldsFirstBy path_and_bytes entries_left };
-
-    ghost remaining = { item_count entries_left };
-
-    fn next(&mut self) -> Option<(&'a str, &'a [u8])> {
-        let (path, value) = self.rest.next()?;
-        Some((path.as_str(), value.as_slice()))
-    }
-}
-
 /// The locked paths of a map, of those that are left.
 #[derive(Drop)]
 pub struct Locks<'a> {
     rest: btree_set::Iter<'a, String>,
     ghost are_paths: { ArePaths (texts rest) },
+}
+
+impl<'a> Locks<'a> {
+    ghost use Rattle.gvdb_write.specs.PathsLeft.{locks_left};
+
+    /// All of these.
+    pub(crate) fn of(locks: &'a BTreeSet<String>) -> Locks<'a>
+        requires { AreLocked locks.now }
+        ensures { locks_left result ≡ keys (locks_of locks.entry.now) }
+    {
+        let rest = locks.iter();
+        Locks { rest }
+    }
 }
 
 impl<'a> Iterator for Locks<'a> {

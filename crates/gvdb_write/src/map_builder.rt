@@ -1,20 +1,30 @@
-//! What a map is made of, in any order: rows are kept as they come, and sorted once.
-ghost use Rattle.std.specs.Prelude.{◌≡◌, IsTrue, IfOk, OnOk, OnErr, string_bytes};
+//! Settings that are written without a map: rows are kept as they come, and sorted once.
+ghost use Rattle.std.specs.Prelude.{◌≡◌, IsTrue, IfErr, IfOk, OnOk, OnErr, string_bytes};
+ghost use Rattle.dconf_model.specs.Databases.{IsDatabaseOf};
 ghost use Rattle.dconf_model.specs.Paths.{is_key_path};
-ghost use Rattle.dconf_model.specs.Settings.{no_settings, with_value};
+ghost use Rattle.dconf_model.specs.Settings.{no_settings, with_lock, with_value};
+ghost use Rattle.dconf_path.specs.LockPaths.{lock_text};
+ghost use Rattle.gvdb_write.specs.Limits.{IsRefusal};
 
-use crate::map::Map;
+use crate::database::write_sorted;
+use crate::entries::{last_of_each, lent, sort_by_path};
+use crate::map::insert_lock;
+use crate::sorted::Sorted;
+use crate::write_fault::WriteFault;
+use dconf_path::LockPath;
 use std::alloc::{AllocError, Global};
+use std::collections::BTreeSet;
 use std::marker::Model;
 
-/// Paths and the bytes of their values, in the order in which they are given: of those of one path the last count.
+/// Paths and the bytes of their values, in the order in which they are given, and locked paths: of the values of one path
+/// the last counts.
 ///
-/// Where paths come in groups, as those of a keyfile, to make a map by it costs less than to insert them one by one; in no
-/// order it may cost more. It holds each row that it was given until then.
+/// To write them costs less than to make a map and to write that. It holds each row that it was given until then.
 #[derive(Drop)]
 pub struct MapBuilder {
     alloc: Global,
     rows: Vec<(String, Vec<u8>)>,
+    locks: BTreeSet<String>,
 }
 
 impl Model for MapBuilder {
@@ -25,18 +35,23 @@ impl Model for MapBuilder {
 
     ghost coded = { settings_code };
 
-    ghost view = { λ b. settings_of_rows b.rows.items };
+    ghost view = { λ b. settings_of_rows b.rows.items b.locks };
 
-    ghost invariant = { λ b. IsSettings (settings_of_rows b.rows.items) };
+    ghost invariant = { λ b. IsSettings (settings_of_rows b.rows.items b.locks) };
 }
 
 impl MapBuilder {
-    /// No value. It takes no memory.
+    /// No value and no lock. It takes no memory.
     pub fn new(alloc: Global) -> MapBuilder
         ensures { result ≡ no_settings }
     {
         let rows = Vec::new(alloc);
-        MapBuilder { alloc, rows }
+        let locks = BTreeSet::new(alloc);
+        MapBuilder {
+            alloc,
+            rows,
+            locks,
+        }
     }
 
     /// Sets the bytes of the value at the path of a key, in the place of those that it had, and keeps both where they are.
@@ -51,12 +66,33 @@ impl MapBuilder {
         Ok(())
     }
 
-    /// The map of these paths and values, without a lock.
-    ///
-    /// An error comes where a growth is refused. It sorts the paths.
-    pub fn build(self) -> Result<Map, AllocError>
-        ensures { IfOk result (λ map. map ≡ self) }
+    /// Locks a path, as [`Map::lock`](crate::Map::lock) does.
+    pub fn lock(&mut self, path: LockPath<'_>) -> Result<(), AllocError>
+        ensures ok { OnOk result (self.new ≡ with_lock self.old (lock_text path.entry)) }
+        ensures err { OnErr result (self.new ≡ self.old) }
     {
-        Map::of_rows(self.alloc, self.rows)
+        insert_lock(self.alloc, path, &mut self.locks)?;
+        Ok(())
+    }
+
+    /// The bytes of a database that holds these values and locks, with the errors of [`write`](crate::write).
+    ///
+    /// It sorts the paths. Where they come in groups, as those of a keyfile, each group is sorted by itself first, since groups
+    /// mostly come in order.
+    pub fn write(&self) -> Result<Vec<u8>, WriteFault>
+        ensures database { IfOk result (λ file. IsDatabaseOf self.now file.items) }
+        ensures fault { IfErr result (IsRefusal self.now) }
+    {
+        write_sorted(self.alloc, self.sorted()?)
+    }
+
+    /// The last value of each path, in the order of the paths, and the locks.
+    fn sorted(&self) -> Result<Sorted<'_>, AllocError>
+        ensures { IfOk result (λ sorted. sorted ≡ self.now) }
+    {
+        let mut rows = lent(self.alloc, &self.rows)?;
+        sort_by_path(&mut rows)?;
+        let entries = last_of_each(self.alloc, &rows)?;
+        Ok(Sorted::new(entries, &self.locks))
     }
 }

@@ -9,7 +9,7 @@ ghost use Rattle.dconf_model.specs.Paths.{is_key_path};
 ghost use Rattle.gvdb_write.specs.Names.{ArePlaced, AreGood, IsDirectoryAt, IsBeyond, IsAdded, AreNamesOf, AreLockNames, last_name, name_at, kind_at, IsSlash};
 ghost use Rattle.gvdb_write.specs.declared.write_fault.WriteFault.TheVariants.{Memory};
 
-use crate::map::Map;
+use crate::sorted::Sorted;
 use crate::write_fault::WriteFault;
 use gvdb_format::{LOCKS, hash, hash_with};
 use std::alloc::Global;
@@ -44,18 +44,18 @@ const NOTHING: &[u8] = &[0, 0, b's'];
 /// The names of the root table, in the order of their bytes, each after its directory.
 ///
 /// It looks at each byte of the paths a fixed number of times.
-pub(crate) fn root_names<'a>(alloc: Global, map: &'a Map) -> Result<Vec<Named<'a>>, WriteFault>
-    ensures names { IfOk result (λ names. AreNamesOf map.now names.items) }
-    ensures settings { IfOk result (λ names. IsSettings map.now) }
+pub(crate) fn root_names<'a>(alloc: Global, sorted: &Sorted<'a>) -> Result<Vec<Named<'a>>, WriteFault>
+    ensures names { IfOk result (λ names. AreNamesOf sorted.now names.items) }
+    ensures settings { IfOk result (λ names. IsSettings sorted.now) }
     ensures fault { IfErr result (λ e. e ≡ Memory) }
 {
     let mut names = Vec::new(alloc);
-    if map.locks().next().is_some() {
+    if sorted.locks().next().is_some() {
         names.push(top(LOCKS.as_bytes(), Content::Locks))?;
     }
     let mut directory = names.len();
     names.push(top(b"/", Content::List))?;
-    for (path, value) in map.entries() {
+    for &(path, value) in sorted.entries() {
         let text = path.as_bytes();
         directory = innermost(&names, directory, text);
         directory = add(text, value, directory, &mut names)?;
@@ -64,12 +64,12 @@ pub(crate) fn root_names<'a>(alloc: Global, map: &'a Map) -> Result<Vec<Named<'a
 }
 
 /// The names of the table of locks, each with the value that occurs at a lock.
-pub(crate) fn lock_names<'a>(alloc: Global, map: &'a Map) -> Result<Vec<Named<'a>>, WriteFault>
-    ensures names { IfOk result (λ names. AreLockNames map.now names.items) }
+pub(crate) fn lock_names<'a>(alloc: Global, sorted: &Sorted<'a>) -> Result<Vec<Named<'a>>, WriteFault>
+    ensures names { IfOk result (λ names. AreLockNames sorted.now names.items) }
     ensures fault { IfErr result (λ e. e ≡ Memory) }
 {
     let mut names = Vec::new(alloc);
-    for path in map.locks() {
+    for path in sorted.locks() {
         names.push(top(path.as_str().as_bytes(), Content::Value(NOTHING)))?;
     }
     Ok(names)

@@ -67,17 +67,23 @@ fn add(
     )
 }
 
-/// Whether a map is built of values in no order.
-fn is_built(alloc: Global, first: KeyPath<'_>, last: KeyPath<'_>) -> Result<bool, AllocError> {
+/// Whether what is written of values in no order has the last of each path, and the lock.
+fn is_sorted(
+    alloc: Global,
+    first: KeyPath<'_>,
+    last: KeyPath<'_>,
+    lock: LockPath<'_>,
+) -> Result<bool, Fail> {
     let mut values = MapBuilder::new(alloc);
     add(alloc, &mut values, last, FIVE)?;
     add(alloc, &mut values, first, b"\x06\0b")?;
     add(alloc, &mut values, first, FIVE)?;
-    let map = values.build()?;
+    values.lock(lock)?;
+    let map = salvage(alloc, &values.write()?)?;
     Ok(
         map.get(first) == Some(FIVE)
             && map.get(last) == Some(FIVE)
-            && (map.key_count(), map.lock_count()) == (2, 0),
+            && (map.key_count(), map.lock_count()) == (2, 1),
     )
 }
 
@@ -86,7 +92,7 @@ fn maps_are_written_and_read_back(rt: HostRuntime) -> Result<(), Fail> {
     let alloc = rt.alloc();
     let (first, last) = (KeyPath::parse("/a/k")?, KeyPath::parse("/b")?);
     let lock = LockPath::parse("/a/")?;
-    assert!(rt; is_built(alloc, first, last)?);
+    assert!(rt; is_sorted(alloc, first, last, lock)?);
     let mut map = Map::new(alloc);
     fill(&mut map, last, lock)?;
     assert!(rt; is_written(alloc, &map, last, lock)?);

@@ -1,57 +1,31 @@
-use Rattle.std.proofs.lemmas.Result.{IfOk-weaker, err_from_is_err_and}
-use Rattle.gvdb_write.proofs.TablesReady.{refused, file_is_sound, file_holds_values, file_holds_locks, file_has_length, file_fits}
+use Rattle.std.proofs.Common.{IfErr, IfOk, subst}
+use Rattle.std.proofs.lemmas.Result.{IfOk-weaker}
+use Rattle.dconf_model.specs.Databases.{IsDatabaseOf}
+use Rattle.dconf_model.specs.Settings.{Settings}
+use Rattle.gvdb_write.specs.Limits.{IsRefusal}
 use Rattle.gvdb_write.proofs.database.write.Goals as goal
+use Rattle.gvdb_write.proofs.database.write.Goals.{After-write_sorted}
 
--- ---- the layout
-
-pub new-requires-clause-root : goal.new-requires-clause-root
-new-requires-clause-root c = c.in_ok-root.ensures.tables.root_items
-
-pub new-requires-clause-locks : goal.new-requires-clause-locks
-new-requires-clause-locks c = c.in_ok-root.ensures.tables.lock_items
-
-pub new-requires-clause-nothing : goal.new-requires-clause-nothing
-new-requires-clause-nothing c = c.in_ok-root.ensures.tables.are_locks
-
-pub new-requires-clause-top : goal.new-requires-clause-top
-new-requires-clause-top c = c.in_ok-root.ensures.tables.tables.top
-
-pub new-requires-clause-children : goal.new-requires-clause-children
-new-requires-clause-children c = c.in_ok-root.ensures.tables.plan.children
-
-pub new-requires-clause-entries : goal.new-requires-clause-entries
-new-requires-clause-entries c = c.in_ok-root.ensures.tables.plan.places
-
-pub returns-in_err-layout-clause-fault : goal.returns-in_err-layout-clause-fault
-returns-in_err-layout-clause-fault c =
-    let p = err_from_is_err_and c.from_residual-in_err-layout.result c.from_residual-in_err-layout.ensures.1 in
-    rw (p.1, p.2) (refused c.args.map.now c.in_ok-root.root c.in_ok-root.locks c.in_err-layout.field-0.0 c.in_ok-root.ensures.tables.plan c.in_err-layout.ensures.fault)
-
--- ---- the file
-
-pub write_parts-requires-clause-tables : goal.write_parts-requires-clause-tables
-write_parts-requires-clause-tables c = (_, c.in_ok-root.ensures.tables)
+written : (c : After-write_sorted) → IfOk c.write_sorted.result (λ file. IsDatabaseOf c.args.map.now file.items)
+written c = subst (λ (s : Settings). IfOk c.write_sorted.result (λ file. IsDatabaseOf s file.items)) c.in_ok-sorted.ensures c.write_sorted.ensures.database
 
 pub returns-clause-opens : goal.returns-clause-opens
-returns-clause-opens c =
-    IfOk-weaker c.write_parts.result _ _ (λ file is. is.opens) c.write_parts.ensures.file
+returns-clause-opens c = IfOk-weaker c.write_sorted.result _ _ (λ file is. is.opens) (written c)
 
 pub returns-clause-sound : goal.returns-clause-sound
-returns-clause-sound c =
-    IfOk-weaker c.write_parts.result _ _ (λ file is. file_is_sound c.in_ok-root.root c.in_ok-root.locks file.items is) c.write_parts.ensures.file
+returns-clause-sound c = IfOk-weaker c.write_sorted.result _ _ (λ file is. is.sound) (written c)
 
 pub returns-clause-values : goal.returns-clause-values
-returns-clause-values c =
-    IfOk-weaker c.write_parts.result _ _ (λ file is. file_holds_values c.args.map.now c.in_ok-root.root c.in_ok-root.locks file.items c.in_ok-root.ensures.tables is) c.write_parts.ensures.file
+returns-clause-values c = IfOk-weaker c.write_sorted.result _ _ (λ file is. is.values) (written c)
 
 pub returns-clause-locks : goal.returns-clause-locks
-returns-clause-locks c =
-    IfOk-weaker c.write_parts.result _ _ (λ file is. file_holds_locks c.args.map.now c.in_ok-root.root c.in_ok-root.locks file.items c.in_ok-root.ensures.tables is) c.write_parts.ensures.file
+returns-clause-locks c = IfOk-weaker c.write_sorted.result _ _ (λ file is. is.locks) (written c)
 
 pub returns-clause-length : goal.returns-clause-length
-returns-clause-length c =
-    IfOk-weaker c.write_parts.result _ _ (λ file is. file_has_length c.args.map.now c.in_ok-root.root c.in_ok-root.locks file.items c.in_ok-root.ensures.tables is) c.write_parts.ensures.file
+returns-clause-length c = IfOk-weaker c.write_sorted.result _ _ (λ file is. is.size) (written c)
 
 pub returns-clause-fits : goal.returns-clause-fits
-returns-clause-fits c =
-    IfOk-weaker c.write_parts.result _ _ (λ file is. file_fits c.in_ok-root.root c.in_ok-root.locks file.items is c.in_ok-layout.ensures.layout.within) c.write_parts.ensures.file
+returns-clause-fits c = IfOk-weaker c.write_sorted.result _ _ (λ file is. is.fits) (written c)
+
+pub returns-clause-fault : goal.returns-clause-fault
+returns-clause-fault c = subst (λ (s : Settings). IfErr c.write_sorted.result (IsRefusal s)) c.in_ok-sorted.ensures c.write_sorted.ensures.fault

@@ -3,4 +3,4 @@ use Rattle.gvdb_write.proofs.LockNames.{AreLocksSoFar}
 use Rattle.gvdb_write.proofs.names.lock_names.Given as goal
 
 abbrev pub invariant-loop-path : goal.invariant-loop-path
-invariant-loop-path l = record { so_far : AreLocksSoFar l.map l.names.items (locks_left l.path-iterator) }
+invariant-loop-path l = record { so_far : AreLocksSoFar l.sorted l.names.items (locks_left l.path-iterator) }
