@@ -1,5 +1,5 @@
 -- Entries in order, of each path the last, stand for the same values as they did as they came.
-use Rattle.std.proofs.Common.{ℕ, ◌≡◌, suc, ◌+◌, Bool, true, false, cond, List, [], ◌∷◌, ◌++◌, Option, Some, refl, sym, ap, ◌∙◌, subst, arith, inl, inr, map, ◌&&◌, Vec}
+use Rattle.std.proofs.Common.{ℕ, ◌≡◌, suc, ◌+◌, Bool, true, false, cond, List, [], ◌∷◌, ◌++◌, Option, Some, refl, sym, ap, ◌∙◌, subst, arith, inl, inr, ◌&&◌, Vec}
 use Rattle.std.specs.BTreeSet.{BTreeSet}
 use Rattle.std.specs.Cmp.Lexicographic.{slice_cmp}
 use Rattle.std.specs.FinMap.{empty, from_entries, get, insert, slice_cmp-IsAntisymmetric, nat_cmp-IsAntisymmetric}
@@ -67,6 +67,7 @@ after_put x (y ∷ ys) m = go (is_at_most x.0 y.0) refl (after_put x ys (insert 
   where
     other : is_at_most x.0 y.0 ≡ false → y.0 ≡ x.0 → ⊥
     other e same = true≢false (sym (ap is_le (tied_itself nat_list_cmp_total x.0)) ∙ (ap (is_at_most x.0) (sym same) ∙ e))
+
     go : (b : Bool) → is_at_most x.0 y.0 ≡ b → after (insert m y.0 y.1) (put_by path_of x ys) ≡ after (insert (insert m y.0 y.1) x.0 x.1) ys
         → after m (put_by path_of x (y ∷ ys)) ≡ after (insert m x.0 x.1) (y ∷ ys)
     go true e later = rw e refl

@@ -58,7 +58,10 @@ pub(crate) fn write_sorted(alloc: Global, sorted: Sorted<'_>) -> Result<Vec<u8>,
 }
 
 /// The root table of a database, and the table of its locks.
-fn tables<'a>(alloc: Global, sorted: Sorted<'a>) -> Result<(TablePlan<'a>, TablePlan<'a>), WriteFault>
+fn tables<'a>(
+    alloc: Global,
+    sorted: Sorted<'a>,
+) -> Result<(TablePlan<'a>, TablePlan<'a>), WriteFault>
     ensures tables { IfOk result (λ tables. AreReady sorted.entry tables.0 tables.1) }
     ensures fault { IfErr result (λ e. e ≡ Memory) }
 {

@@ -19,7 +19,7 @@ pub(crate) fn lent<'a>(
     let mut entries = Vec::with_capacity(alloc, rows.len())?;
     let mut stretch = Vec::new(alloc);
     for (path, value) in rows {
-        begin_stretch(path.as_bytes(), &mut stretch, &mut entries)?;
+        begin_stretch(path.as_str(), &mut stretch, &mut entries)?;
         stretch.push((path.as_str(), value.as_slice()))?;
     }
     move_sorted(&mut stretch, &mut entries)?;
@@ -42,31 +42,23 @@ pub(crate) fn listed<'a>(
     Ok(entries)
 }
 
-/// Moves a stretch behind others, unless a path belongs to it.
+/// Moves a stretch behind others, unless a path lies in the very directory of its first. No clause says which it does, since a
+/// sort comes after.
 fn begin_stretch<'a>(
-    path: &[u8],
+    path: &str,
     stretch: &mut Vec<(&'a str, &'a [u8])>,
     entries: &mut Vec<(&'a str, &'a [u8])>,
 ) -> Result<(), AllocError>
     ensures { OnOk result (StandForSame (lent_entries entries.new.items ++ lent_entries stretch.new.items) (lent_entries entries.old.items ++ lent_entries stretch.old.items)) }
 {
-    if lies_beside(stretch, path) {
-        return Ok(());
+    if let Some((first, _)) = stretch.first() {
+        let slash = path.rfind('/').unwrap_or(0);
+        let directory = path.as_bytes().get(..slash);
+        if first.rfind('/') == Some(slash) && first.as_bytes().get(..slash) == directory {
+            return Ok(());
+        }
     }
     move_sorted(stretch, entries)
-}
-
-/// Whether a path lies in the very directory of the first of these. No clause says so, since a sort comes after.
-fn lies_beside(stretch: &[(&str, &[u8])], path: &[u8]) -> bool {
-    let Some((first, _)) = stretch.first() else {
-        return false;
-    };
-    let first = first.as_bytes();
-    let name = first.rsplit(|byte| *byte == b'/').next().map_or(0, |name| name.len());
-    match path.strip_prefix(&first[..first.len() - name]) {
-        Some(name) => !name.contains(&b'/'),
-        None => false,
-    }
 }
 
 /// Puts entries in order, and moves them behind others.

@@ -1,6 +1,6 @@
 //! A map of paths to the bytes of their values, and a set of locked paths.
 ghost use Rattle.std.specs.Prelude.{◌≡◌, IsTrue, IfOk, OnOk, OnErr, option_map, string_bytes};
-ghost use Rattle.std.specs.FinMap.{contains_key, get, insert, keys, len};
+ghost use Rattle.std.specs.FinMap.{contains_key, get, keys, len};
 ghost use Rattle.dconf_model.specs.Paths.{is_key_path};
 ghost use Rattle.dconf_model.specs.Settings.{no_settings, with_value, with_lock};
 ghost use Rattle.dconf_path.specs.Paths.{key_text};
@@ -86,7 +86,8 @@ impl Map {
         ensures ok { OnOk result (self.new ≡ with_lock self.old (lock_text path.entry)) }
         ensures err { OnErr result (self.new ≡ self.old) }
     {
-        insert_lock(self.alloc, path, &mut self.locks)?;
+        let path = String::from_str(self.alloc, path.as_str())?;
+        self.locks.insert(path)?;
         Ok(())
     }
 
@@ -144,20 +145,6 @@ impl Map {
     {
         Locks::of(&self.locks)
     }
-}
-
-/// Adds the path of a lock to others.
-pub(crate) fn insert_lock(
-    alloc: Global,
-    path: LockPath<'_>,
-    locks: &mut BTreeSet<String>,
-) -> Result<(), AllocError>
-    ensures ok { OnOk result (locks_of locks.new ≡ insert (locks_of locks.old) (lock_text path.entry) tt) }
-    ensures err { OnErr result (locks.new ≡ locks.old) }
-{
-    let path = String::from_str(alloc, path.as_str())?;
-    locks.insert(path)?;
-    Ok(())
 }
 
 /// How many there are of each, and none of them.

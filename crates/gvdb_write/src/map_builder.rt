@@ -8,7 +8,6 @@ ghost use Rattle.gvdb_write.specs.Limits.{IsRefusal};
 
 use crate::database::write_sorted;
 use crate::entries::{last_of_each, lent, sort_by_path};
-use crate::map::insert_lock;
 use crate::sorted::Sorted;
 use crate::write_fault::WriteFault;
 use dconf_path::LockPath;
@@ -47,11 +46,7 @@ impl MapBuilder {
     {
         let rows = Vec::new(alloc);
         let locks = BTreeSet::new(alloc);
-        MapBuilder {
-            alloc,
-            rows,
-            locks,
-        }
+        MapBuilder { alloc, rows, locks }
     }
 
     /// Sets the bytes of the value at the path of a key, in the place of those that it had, and keeps both where they are.
@@ -71,7 +66,8 @@ impl MapBuilder {
         ensures ok { OnOk result (self.new ≡ with_lock self.old (lock_text path.entry)) }
         ensures err { OnErr result (self.new ≡ self.old) }
     {
-        insert_lock(self.alloc, path, &mut self.locks)?;
+        let path = String::from_str(self.alloc, path.as_str())?;
+        self.locks.insert(path)?;
         Ok(())
     }
 
@@ -83,16 +79,9 @@ impl MapBuilder {
         ensures database { IfOk result (λ file. IsDatabaseOf self.now file.items) }
         ensures fault { IfErr result (IsRefusal self.now) }
     {
-        write_sorted(self.alloc, self.sorted()?)
-    }
-
-    /// The last value of each path, in the order of the paths, and the locks.
-    fn sorted(&self) -> Result<Sorted<'_>, AllocError>
-        ensures { IfOk result (λ sorted. sorted ≡ self.now) }
-    {
         let mut rows = lent(self.alloc, &self.rows)?;
         sort_by_path(&mut rows)?;
         let entries = last_of_each(self.alloc, &rows)?;
-        Ok(Sorted::new(entries, &self.locks))
+        write_sorted(self.alloc, Sorted::new(entries, &self.locks))
     }
 }

@@ -44,7 +44,10 @@ const NOTHING: &[u8] = &[0, 0, b's'];
 /// The names of the root table, in the order of their bytes, each after its directory.
 ///
 /// It looks at each byte of the paths a fixed number of times.
-pub(crate) fn root_names<'a>(alloc: Global, sorted: &Sorted<'a>) -> Result<Vec<Named<'a>>, WriteFault>
+pub(crate) fn root_names<'a>(
+    alloc: Global,
+    sorted: &Sorted<'a>,
+) -> Result<Vec<Named<'a>>, WriteFault>
     ensures names { IfOk result (λ names. AreNamesOf sorted.now names.items) }
     ensures settings { IfOk result (λ names. IsSettings sorted.now) }
     ensures fault { IfErr result (λ e. e ≡ Memory) }
@@ -64,7 +67,10 @@ pub(crate) fn root_names<'a>(alloc: Global, sorted: &Sorted<'a>) -> Result<Vec<N
 }
 
 /// The names of the table of locks, each with the value that occurs at a lock.
-pub(crate) fn lock_names<'a>(alloc: Global, sorted: &Sorted<'a>) -> Result<Vec<Named<'a>>, WriteFault>
+pub(crate) fn lock_names<'a>(
+    alloc: Global,
+    sorted: &Sorted<'a>,
+) -> Result<Vec<Named<'a>>, WriteFault>
     ensures names { IfOk result (λ names. AreLockNames sorted.now names.items) }
     ensures fault { IfErr result (λ e. e ≡ Memory) }
 {

@@ -13,7 +13,7 @@ loop-path-init c =
 pub loop-path-preserved : goal.loop-path-preserved
 loop-path-preserved c =
     row_lent (lent_entries c.begin_stretch.new.entries.items) (lent_entries c.loop-path.entries.items) c.loop-path.stretch.items c.begin_stretch.new.stretch.items c.push.new.self.items _ c.args.rows.now
-    c.loop-path.path-index c.loop-path-item.result _ c.in_ok-push.ensures.items c.loop-path-item.is (λ i. (c.as_str.ensures.value i, c.as_slice.ensures.value i)) c.loop-path-test.true c.in_ok-begin_stretch.ensures c.loop-path.invariant
+    c.loop-path.path-index c.loop-path-item.result _ c.in_ok-push.ensures.items c.loop-path-item.is (λ i. (c.as_str-in-loop-path.ensures.value i, c.as_slice.ensures.value i)) c.loop-path-test.true c.in_ok-begin_stretch.ensures c.loop-path.invariant
 
 pub returns : goal.returns
 returns c =

@@ -1,4 +1,4 @@
-use Rattle.std.proofs.Common.{◌≡◌, ◌++◌, ◌∙◌, List, [], ap, subst, sym}
+use Rattle.std.proofs.Common.{◌++◌, ◌∙◌, List, ap, subst, sym}
 use Rattle.std.proofs.lemmas.List.{append-nil}
 use Rattle.gvdb_write.specs.Maps.{AreSorted, lent_entries, value_entries}
 use Rattle.gvdb_write.specs.Rows.{LentEntry}

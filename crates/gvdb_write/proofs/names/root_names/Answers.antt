@@ -1,5 +1,5 @@
 use Rattle.std.proofs.lemmas.List.{drop_all}
-use Rattle.std.proofs.Common.{arith, drop, ◌+◌, rules, ◌≡◌, ℕ, List, ◌∷◌, length, codes, sym, ap, ◌∙◌, subst}
+use Rattle.std.proofs.Common.{arith, drop, ◌+◌, rules, ◌≡◌, ℕ, List, ◌∷◌, length, codes, sym, ap, subst}
 use Rattle.std.specs.FinMap.{keys}
 use Rattle.dconf_model.specs.Settings.{Settings}
 use Rattle.dconf_model.specs.Table.{list_kind, table_kind}
