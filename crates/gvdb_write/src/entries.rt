@@ -42,8 +42,8 @@ pub(crate) fn listed<'a>(
     Ok(entries)
 }
 
-/// Moves a stretch behind others, unless a path lies in the very directory of its first. No clause says which it does, since a
-/// sort comes after.
+/// Moves a stretch behind others, unless its first path begins with the directory of this one. No clause says which it does,
+/// since a sort comes after.
 fn begin_stretch<'a>(
     path: &str,
     stretch: &mut Vec<(&'a str, &'a [u8])>,
@@ -53,8 +53,7 @@ fn begin_stretch<'a>(
 {
     if let Some((first, _)) = stretch.first() {
         let slash = path.rfind('/').unwrap_or(0);
-        let directory = path.as_bytes().get(..slash);
-        if first.rfind('/') == Some(slash) && first.as_bytes().get(..slash) == directory {
+        if first.as_bytes().get(..slash) == path.as_bytes().get(..slash) {
             return Ok(());
         }
     }

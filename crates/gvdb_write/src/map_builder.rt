@@ -82,6 +82,7 @@ impl MapBuilder {
         let mut rows = lent(self.alloc, &self.rows)?;
         sort_by_path(&mut rows)?;
         let entries = last_of_each(self.alloc, &rows)?;
+        drop(rows);
         write_sorted(self.alloc, Sorted::new(entries, &self.locks))
     }
 }
