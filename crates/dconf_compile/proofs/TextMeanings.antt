@@ -14,9 +14,9 @@ use Rattle.gv_infer.specs.declared.fault.TypingFault.{TypingFault}
 use Rattle.gv_infer.specs.declared.fault.TypingFault.TheVariants as typings
 use Rattle.gv_infer.specs.declared.read_fault.ReadFault.{ReadFault}
 use Rattle.gv_infer.specs.declared.read_fault.ReadFault.TheVariants.{Text, Typing, Value}
-use Rattle.gv_build.specs.Faults.{IsUnbuildable}
-use Rattle.gv_build.specs.declared.fault.BuildFault.{BuildFault}
-use Rattle.gv_build.specs.declared.fault.BuildFault.TheVariants as builds
+use Rattle.gv_build.specs.Faults.{IsUnbuildable, TooLarge}
+use Rattle.refused.specs.declared.Refused.{Refused}
+use Rattle.refused.specs.declared.Refused.TheVariants as builds
 use Rattle.dconf_model.specs.Bytes.{longest_file}
 use Rattle.dconf_model.specs.Causes.{SettingsCause}
 use Rattle.dconf_model.specs.Causes.SettingsCause.{text_fault, value_fault, too_large}
@@ -80,10 +80,10 @@ text_stored s v h levels fits =
 unstorable : (v : Tree) (a b : Bool) → (a && b) ≡ false → cond (a && b) (Ok v) (Err too_large) ≡ Err too_large
 unstorable v a b e = rw e refl
 
-pub text_too_large : (s : List ℕ) (v : Tree) (e : BuildFault) → value_of_text s ≡ Ok v → IsUnbuildable ((longest_file < length (stored v)) ⊎ (depth v ≡ 128)) e →
+pub text_too_large : (s : List ℕ) (v : Tree) (e : Refused TooLarge) → value_of_text s ≡ Ok v → IsUnbuildable ((longest_file < length (stored v)) ⊎ (depth v ≡ 128)) e →
     IfSome (cause_of (build_cause e)) (λ c. text_compiled s ≡ Err c)
 text_too_large s v builds.Memory h why = tt
-text_too_large s v builds.TooLarge h why = ap if_storable h ∙ go why
+text_too_large s v (builds.Fault _) h why = ap if_storable h ∙ go why
   where
     go : (longest_file < length (stored v)) ⊎ (depth v ≡ 128) → if_storable (Ok v) ≡ Err too_large
     go (inl long) =

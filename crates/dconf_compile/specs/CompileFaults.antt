@@ -7,8 +7,8 @@ use Rattle.dconf_model.specs.Paths.PathFault.{too_long}
 use Rattle.dconf_model.specs.Sources.{File, FileFault}
 use Rattle.dconf_model.specs.Sources.File.{keyfile, lock_file}
 use Rattle.gv_infer.specs.declared.read_fault.ReadFault.{ReadFault}
-use Rattle.gv_build.specs.declared.fault.BuildFault.{BuildFault}
-use Rattle.gv_build.specs.declared.fault.BuildFault.TheVariants as builds
+use Rattle.refused.specs.declared.Refused.{Refused}
+use Rattle.refused.specs.declared.Refused.TheVariants as builds
 use Rattle.dconf_compile.specs.declared.fault.FileRef.{FileRef}
 use Rattle.dconf_compile.specs.declared.fault.FileRef.TheVariants.{Keyfile, LockFile, Whole}
 use Rattle.dconf_compile.specs.declared.fault.CompileCause.{CompileCause}
@@ -37,8 +37,8 @@ IsReadCause fault (Value e) = e.fault ≡ fault
 IsReadCause fault Memory = read_cause_of fault ≡ None
 IsReadCause fault _ = ⊥
 
-abbrev pub build_cause : BuildFault → CompileCause
-build_cause builds.TooLarge = TooLarge
+abbrev pub build_cause : {F : Type 0} → Refused F → CompileCause
+build_cause (builds.Fault f) = TooLarge
 build_cause builds.Memory = Memory
 
 abbrev pub compile_cause_text : CompileCause → List ℕ

@@ -172,7 +172,7 @@ impl From<BuildFault> for CompileCause {
 
     fn from(fault: BuildFault) -> CompileCause {
         match fault {
-            BuildFault::TooLarge => CompileCause::TooLarge,
+            BuildFault::Fault(_) => CompileCause::TooLarge,
             BuildFault::Memory => CompileCause::Memory,
         }
     }

@@ -1,7 +1,7 @@
 -- Which refusal of the model a fault of a change is, and how it is printed.
 use Rattle.std.specs.Prelude.{ℕ, List, codes, Option, Some, None, Result, Err, ◌≡◌, IfSome, if◌then◌else◌, Bool, option_map}
-use Rattle.gv_build.specs.declared.fault.BuildFault.{BuildFault}
-use Rattle.gv_build.specs.declared.fault.BuildFault.TheVariants as built
+use Rattle.refused.specs.declared.Refused.{Refused}
+use Rattle.refused.specs.declared.Refused.TheVariants as built
 use Rattle.dconf_model.specs.Layers.{Layers, is_locked}
 use Rattle.dconf_model.specs.Changes.{Refusal, first_locked, paths_of}
 use Rattle.dconf_model.specs.Sources.{Assigned}
@@ -20,8 +20,8 @@ refusal_of Memory = None
 abbrev pub Refuses : Result Layers Refusal → ChangeFault → Type 0
 Refuses given fault = IfSome (refusal_of fault) (λ r. given ≡ Err r)
 
-abbrev pub fault_of_build : BuildFault → ChangeFault
-fault_of_build built.TooLarge = TooLarge
+abbrev pub fault_of_build : {F : Type 0} → Refused F → ChangeFault
+fault_of_build (built.Fault f) = TooLarge
 fault_of_build built.Memory = Memory
 
 abbrev pub change_fault_text : ChangeFault → List ℕ

@@ -72,7 +72,7 @@ impl From<BuildFault> for ChangeFault {
 
     fn from(fault: BuildFault) -> ChangeFault {
         match fault {
-            BuildFault::TooLarge => ChangeFault::TooLarge,
+            BuildFault::Fault(_) => ChangeFault::TooLarge,
             BuildFault::Memory => ChangeFault::Memory,
         }
     }

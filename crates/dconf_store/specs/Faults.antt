@@ -8,8 +8,8 @@ use Rattle.dconf_model.specs.FaultTexts.{bad_database_text}
 use Rattle.dconf_model.specs.Outcomes.{verdict_text}
 use Rattle.gv_model.specs.Tree.{Tree}
 use Rattle.gv_model.specs.Printed.{is_too_large}
-use Rattle.gv_view.specs.declared.owned.ViewFault.{ViewFault}
-use Rattle.gv_view.specs.declared.owned.ViewFault.TheVariants as viewed
+use Rattle.refused.specs.declared.Refused.{Refused as FaultOrMemory}
+use Rattle.refused.specs.declared.Refused.TheVariants as viewed
 use Rattle.gvdb_write.specs.declared.write_fault.WriteFault.{WriteFault}
 use Rattle.gvdb_write.specs.declared.write_fault.WriteFault.TheVariants as written
 use Rattle.dconf_engine.specs.declared.fault.EngineFault.{EngineFault}
@@ -70,8 +70,8 @@ abbrev pub fault_of_write : WriteFault → StoreFault
 fault_of_write written.TooBig = TooBig
 fault_of_write written.Memory = Memory
 
-abbrev pub fault_of_view : ViewFault → StoreFault
-fault_of_view viewed.TooLarge = TooLarge
+abbrev pub fault_of_view : {F : Type 0} → FaultOrMemory F → StoreFault
+fault_of_view (viewed.Fault f) = TooLarge
 fault_of_view viewed.Memory = Memory
 
 abbrev pub store_fault_text : StoreFault → List ℕ

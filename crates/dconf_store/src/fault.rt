@@ -92,7 +92,7 @@ impl From<ViewFault> for StoreFault {
 
     fn from(fault: ViewFault) -> StoreFault {
         match fault {
-            ViewFault::TooLarge => StoreFault::TooLarge,
+            ViewFault::Fault(_) => StoreFault::TooLarge,
             ViewFault::Memory => StoreFault::Memory,
         }
     }

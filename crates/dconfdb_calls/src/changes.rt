@@ -163,7 +163,7 @@ fn set(
 {
     match view.to_tree(alloc) {
         Ok(tree) => or_fault(engine.write(path, &tree)),
-        Err(ViewFault::TooLarge) => Err(Fault::TooLarge),
+        Err(ViewFault::Fault(_)) => Err(Fault::TooLarge),
         Err(ViewFault::Memory) => Err(Fault::Memory),
     }
 }

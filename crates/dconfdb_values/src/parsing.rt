@@ -140,7 +140,7 @@ fn written(alloc: Global, tree: &Tree) -> Result<Parsed, Unparsed>
     let of = tree.type_text();
     match serialise(alloc, tree) {
         Ok(bytes) => with_type(bytes, of),
-        Err(BuildFault::TooLarge) => Err(Unparsed::TooLarge),
+        Err(BuildFault::Fault(_)) => Err(Unparsed::TooLarge),
         Err(BuildFault::Memory) => Err(Unparsed::Memory),
     }
 }

@@ -4,6 +4,7 @@ ghost use Rattle.gv_model.specs.Encode.{zeros, number_bytes};
 ghost use Rattle.gv_build.specs.Faults.{limit, IsOverLimit};
 
 use crate::fault::BuildFault;
+use gv_view::TooLarge;
 
 /// The most bytes of a value.
 pub const MAX_LEN: usize = 0xffff_ffff;
@@ -16,7 +17,7 @@ pub(crate) fn push_bytes(out: &mut Vec<u8>, bytes: &[u8]) -> Result<(), BuildFau
     ensures fault { IfErr result (IsOverLimit (length out.old.items + length bytes.now)) }
 {
     if bytes.len() > MAX_LEN - out.len() {
-        return Err(BuildFault::TooLarge);
+        return Err(BuildFault::Fault(TooLarge));
     }
     out.extend_from_slice(bytes)?;
     Ok(())
@@ -30,7 +31,7 @@ pub(crate) fn push_byte(out: &mut Vec<u8>, byte: u8) -> Result<(), BuildFault>
     ensures fault { IfErr result (IsOverLimit (length out.old.items + length (byte ∷ []))) }
 {
     if out.len() == MAX_LEN {
-        return Err(BuildFault::TooLarge);
+        return Err(BuildFault::Fault(TooLarge));
     }
     out.push(byte)?;
     Ok(())
@@ -44,7 +45,7 @@ pub(crate) fn pad(out: &mut Vec<u8>, count: usize) -> Result<(), BuildFault>
     ensures fault { IfErr result (IsOverLimit (length out.old.items + count)) }
 {
     if count > MAX_LEN - out.len() {
-        return Err(BuildFault::TooLarge);
+        return Err(BuildFault::Fault(TooLarge));
     }
     out.resize(out.len() + count, 0)?;
     Ok(())

@@ -13,7 +13,7 @@ use crate::room::room;
 use crate::tree::write_tree;
 use crate::variant::end_variant;
 use gv_tree::Tree;
-use gv_view::View;
+use gv_view::{TooLarge, View};
 use std::alloc::Global;
 
 /// The bytes of a value in normal form.
@@ -45,7 +45,7 @@ pub fn variant_bytes(alloc: Global, tree: &Tree) -> Result<Vec<u8>, BuildFault>
     let of = tree.type_text();
     let levels = tree.depth();
     if levels >= Tree::MAX_LEVELS {
-        return Err(BuildFault::TooLarge);
+        return Err(BuildFault::Fault(TooLarge));
     }
     let end = 1 + of.as_str().len();
     let mut out = Vec::with_capacity(alloc, room(tree).saturating_add(end))?;

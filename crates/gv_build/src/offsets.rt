@@ -8,6 +8,7 @@ ghost use Rattle.gv_build.specs.Writing.{offsets_of};
 use crate::buffer::{MAX_LEN, push_number};
 use crate::fault::BuildFault;
 use gv_layout::least_width;
+use gv_view::TooLarge;
 
 /// Appends the offsets after a body of so many bytes.
 pub(crate) fn write_offsets(ends: &[u32], body: usize, out: &mut Vec<u8>) -> Result<(), BuildFault>
@@ -19,7 +20,7 @@ pub(crate) fn write_offsets(ends: &[u32], body: usize, out: &mut Vec<u8>) -> Res
     ensures fault { IfErr result (IsOverLimit (length out.old.items + length (offsets_of body ends.now))) }
 {
     if ends.len() > MAX_LEN - out.len() {
-        return Err(BuildFault::TooLarge);
+        return Err(BuildFault::Fault(TooLarge));
     }
     let width = least_width(body, ends.len());
     for end in ends {

@@ -14,9 +14,12 @@ use Rattle.gv_model.proofs.TypeTextLaws.{limits_of}
 use Rattle.gv_tree.specs.Nodes.{trees_of}
 use Rattle.gv_tree.specs.Faults.{IsSizeFault, IsContentFault, IsEntryFault}
 use Rattle.gv_tree.specs.Wholes.{IsWhole, entry_tree, entry_at_key}
-use Rattle.gv_tree.specs.declared.fault.TreeFault.{TreeFault}
-use Rattle.gv_tree.proofs.ListLaws.{none_other}
-use Rattle.gv_tree.specs.declared.fault.TreeFault.TheVariants as tree_faults
+use Rattle.refused.specs.declared.Refused.{Refused}
+use Rattle.refused.specs.declared.Refused.TheVariants.{Fault, Memory}
+use Rattle.refused.specs.Faults.{OfFault}
+use Rattle.gv_tree.specs.declared.fault.TreeFlaw.{TreeFlaw}
+use Rattle.gv_tree.proofs.MadeLaws.{size_at_fault}
+use Rattle.gv_tree.specs.declared.fault.TreeFlaw.TheVariants as tree_faults
 use Rattle.gv_infer.specs.BareTypes.{bare_type}
 use Rattle.gv_infer.specs.ValueFaults.{FaultIs, fault_of}
 use Rattle.gv_infer.specs.Building.{BuildsTo, IsBuilt, IsWithinLimits, IsContainerFault, IsConstructed, IsConstructedOf, IsNoneOrOfType, AreEntryParts, entry_node}
@@ -29,33 +32,26 @@ use Rattle.gv_infer.specs.declared.value_fault.ValueFault.{ValueFault}
 pub within_type : (w : List ℕ) → is_type w ≡ true → IsWithinLimits (type_at w)
 within_type w h = let p = spelling-type_at w h in rw p.0 p.1
 
-pub record IsContainer (w : Tree) (r : Result Tree TreeFault) : Type 0 where
+pub record IsContainer (w : Tree) (r : Result Tree (Refused TreeFlaw)) : Type 0 where
   pub may : IfErr r IsContainerFault
   pub made : IsConstructed w r
   pub typed : IsConstructedOf (type_of w) r
 
-pub container_of : (w : Tree) (made : Result Tree TreeFault) → IsWithinLimits (type_of w) → IfOk made (λ t. t ≡ w) → IfOk made IsWhole → IfErr made (IsSizeFault w) → IsContainer w made
+pub container_of : (w : Tree) (made : Result Tree (Refused TreeFlaw)) → IsWithinLimits (type_of w) → IfOk made (λ t. t ≡ w) → IfOk made IsWhole → IfErr made (OfFault (IsSizeFault w)) → IsContainer w made
 container_of w (Ok t) h e g f = record { may = tt; made = (sym e, g.levels); typed = ap type_of e }
-container_of w (Err tree_faults.TooDeep) h e g (inl f) = record { may = tt; made = f; typed = tt }
-container_of w (Err tree_faults.TooDeep) h e g (inr f) = absurd (omega (arith, f, (limits_of _ _ h).0))
-container_of w (Err tree_faults.Memory) h e g f = record { may = tt; made = tt; typed = tt }
-container_of w (Err tree_faults.TooLarge) h e g f = absurd (omega (arith, f.long, (limits_of _ _ h).1))
-container_of w (Err tree_faults.HasNul) h e g f = absurd f
-container_of w (Err tree_faults.BadObjectPath) h e g f = absurd f
-container_of w (Err tree_faults.BadSignature) h e g f = absurd f
-container_of w (Err (tree_faults.WrongType i)) h e g f = absurd f
-container_of w (Err tree_faults.KeyNotBasic) h e g f = absurd f
+container_of w (Err (Fault tree_faults.TooDeep)) h e g (inl f) = record { may = refl; made = f; typed = tt }
+container_of w (Err (Fault tree_faults.TooDeep)) h e g (inr f) = absurd (omega (arith, f, (limits_of _ _ h).0))
+container_of w (Err Memory) h e g f = record { may = tt; made = tt; typed = tt }
+container_of w (Err (Fault tree_faults.TooLarge)) h e g f = absurd (omega (arith, f.long, (limits_of _ _ h).1))
+container_of w (Err (Fault tree_faults.HasNul)) h e g f = absurd f
+container_of w (Err (Fault tree_faults.BadObjectPath)) h e g f = absurd f
+container_of w (Err (Fault tree_faults.BadSignature)) h e g f = absurd f
+container_of w (Err (Fault (tree_faults.WrongType i))) h e g f = absurd f
+container_of w (Err (Fault tree_faults.KeyNotBasic)) h e g f = absurd f
 
-pub content_of : (t : Ty) (w : Tree) (made : Result Tree TreeFault) → AllOf t (children w) → IsWithinLimits (type_of w) → IfOk made (λ u. u ≡ w) → IfOk made IsWhole → IfErr made (IsContentFault t w) → IsContainer w made
+pub content_of : (t : Ty) (w : Tree) (made : Result Tree (Refused TreeFlaw)) → AllOf t (children w) → IsWithinLimits (type_of w) → IfOk made (λ u. u ≡ w) → IfOk made IsWhole → IfErr made (IsContentFault t w) → IsContainer w made
 content_of t w (Ok u) a h e g f = container_of w (Ok u) h e g tt
-content_of t w (Err tree_faults.TooDeep) a h e g f = container_of w (Err tree_faults.TooDeep) h tt tt f.1
-content_of t w (Err tree_faults.Memory) a h e g f = container_of w (Err tree_faults.Memory) h tt tt f.1
-content_of t w (Err tree_faults.TooLarge) a h e g f = container_of w (Err tree_faults.TooLarge) h tt tt f.1
-content_of t w (Err tree_faults.HasNul) a h e g f = absurd f.1
-content_of t w (Err tree_faults.BadObjectPath) a h e g f = absurd f.1
-content_of t w (Err tree_faults.BadSignature) a h e g f = absurd f.1
-content_of t w (Err (tree_faults.WrongType i)) a h e g f = absurd (none_other t (children w) i a f)
-content_of t w (Err tree_faults.KeyNotBasic) a h e g f = absurd f.1
+content_of t w (Err x) a h e g f = container_of w (Err x) h tt tt (size_at_fault t w x a f)
 
 pub shown_some : (o : Option Tree) (t v : Tree) → o ≡ Some t → BuildsTo o v → v ≡ t
 shown_some (Some u) t v e h = h.0 ∙ cc
@@ -124,7 +120,7 @@ entry_key (maybe t) key value u v e g h = absurd h
 entry_key (tuple ts) key value u v e g h = absurd h
 
 -- what making an entry gives
-pub entry_made : (t : Ty) (k : Basic) (u v : Tree) (made : Result Tree TreeFault) → t ≡ entry k (type_of v) → type_of u ≡ basic k → IsWithinLimits t → IfOk made (λ w. Some w ≡ entry_tree u v) → IfOk made IsWhole → IfErr made (IsEntryFault (entry_tree u v)) → IsContainer (entry_node t u v) made
+pub entry_made : (t : Ty) (k : Basic) (u v : Tree) (made : Result Tree (Refused TreeFlaw)) → t ≡ entry k (type_of v) → type_of u ≡ basic k → IsWithinLimits t → IfOk made (λ w. Some w ≡ entry_tree u v) → IfOk made IsWhole → IfErr made (IsEntryFault (entry_tree u v)) → IsContainer (entry_node t u v) made
 entry_made t k u v (Ok w) e g h m whole f = container_of (entry_node t u v) (Ok w) h (same_Some w _ (m ∙ ap (λ x. entry_at_key x u v) g ∙ ap (λ x. Some (entry_node x u v)) (sym e))) whole tt
 entry_made t k u v (Err x) e g h m whole f = container_of (entry_node t u v) (Err x) h tt tt (rw e (subst (λ y. IsEntryFault (entry_at_key y u v) x) g f))
 

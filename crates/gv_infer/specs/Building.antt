@@ -7,8 +7,11 @@ use Rattle.gv_model.specs.Ty.Ty.{basic, entry}
 use Rattle.gv_model.specs.Tree.Tree.{node}
 use Rattle.gv_model.specs.Tree.Trees.{none, first}
 use Rattle.gv_model.specs.Literals.{ValueFault as TheFault}
-use Rattle.gv_tree.specs.declared.fault.TreeFault.{TreeFault}
-use Rattle.gv_tree.specs.declared.fault.TreeFault.TheVariants as tree_faults
+use Rattle.refused.specs.declared.Refused.{Refused}
+use Rattle.refused.specs.declared.Refused.TheVariants.{Fault}
+use Rattle.refused.specs.Faults.{OfFault}
+use Rattle.gv_tree.specs.declared.fault.TreeFlaw.{TreeFlaw}
+use Rattle.gv_tree.specs.declared.fault.TreeFlaw.TheVariants.{TooDeep}
 use Rattle.gv_infer.specs.ValueFaults.{FaultIs}
 use Rattle.gv_infer.specs.declared.value_fault.ValueFault.{ValueFault}
 
@@ -22,15 +25,13 @@ IsBuilt v (Ok built) = (t : Tree) × (v ≡ Ok t) × BuildsTo built t
 IsBuilt v (Err e) = FaultIs (λ f. v ≡ Err f) e
 
 -- the faults of a container of a type within the limits
-abbrev pub IsContainerFault : TreeFault → Type 0
-IsContainerFault tree_faults.TooDeep = Unit {0}
-IsContainerFault tree_faults.Memory = Unit {0}
-IsContainerFault _ = ⊥
+abbrev pub IsContainerFault : Refused TreeFlaw → Type 0
+IsContainerFault fault = OfFault (λ f. f ≡ TooDeep) fault
 
 -- what a constructor of trees gave for this tree
-abbrev pub IsConstructed : Tree → Result Tree TreeFault → Type 0
+abbrev pub IsConstructed : Tree → Result Tree (Refused TreeFlaw) → Type 0
 IsConstructed v (Ok t) = (v ≡ t) × (depth t ≤ 128)
-IsConstructed v (Err tree_faults.TooDeep) = 128 < depth v
+IsConstructed v (Err (Fault TooDeep)) = 128 < depth v
 IsConstructed v (Err _) = Unit {0}
 
 -- a tree that is built has the type
@@ -51,6 +52,6 @@ AreEntryParts _ key value = ⊥
 abbrev pub entry_node : Ty → Tree → Tree → Tree
 entry_node t key value = node t (first key (first value none))
 
-abbrev pub IsConstructedOf : Ty → Result Tree TreeFault → Type 0
+abbrev pub IsConstructedOf : Ty → Result Tree (Refused TreeFlaw) → Type 0
 IsConstructedOf t (Ok v) = type_of v ≡ t
 IsConstructedOf t (Err e) = Unit {0}

@@ -11,7 +11,7 @@ ghost use Rattle.gv_infer.specs.Building.{BuildsTo, IsBuilt, IsWithinLimits, IsC
 ghost use Rattle.gv_infer.specs.Children.{AllBuildTo, AllOfType, IsTupleTypeOf};
 
 use crate::value_fault::ValueFault;
-use gv_tree::{Tree, TreeFault};
+use gv_tree::{Tree, TreeFault, TreeFlaw};
 use gv_types::{Class, TypeStr};
 use std::alloc::Global;
 
@@ -23,7 +23,7 @@ pub(crate) fn shallow(made: Result<Tree, TreeFault>) -> Result<Option<Tree>, Val
 {
     match made {
         Ok(tree) => Ok(Some(tree)),
-        Err(TreeFault::TooDeep) => Ok(None),
+        Err(TreeFault::Fault(TreeFlaw::TooDeep)) => Ok(None),
         Err(TreeFault::Memory) => Err(ValueFault::Memory),
         Err(_) => unreachable!(),
     }

@@ -16,7 +16,7 @@ ghost use Rattle.gv_infer.specs.declared.value_fault.ValueFault.TheVariants.{Out
 
 use crate::containers::array;
 use crate::value_fault::ValueFault;
-use gv_tree::{Basic, Tree, TreeFault};
+use gv_tree::{Basic, Tree, TreeFault, TreeFlaw};
 use gv_types::{BasicType, Class, TypeStr};
 use std::alloc::Global;
 
@@ -155,8 +155,8 @@ fn leaf(alloc: Global, value: Basic) -> Result<Option<Tree>, ValueFault>
 {
     match Tree::basic(alloc, value) {
         Ok(tree) => Ok(Some(tree)),
-        Err(TreeFault::BadObjectPath) => Err(ValueFault::BadObjectPath),
-        Err(TreeFault::BadSignature) => Err(ValueFault::BadSignature),
+        Err(TreeFault::Fault(TreeFlaw::BadObjectPath)) => Err(ValueFault::BadObjectPath),
+        Err(TreeFault::Fault(TreeFlaw::BadSignature)) => Err(ValueFault::BadSignature),
         Err(_) => unreachable!(),
     }
 }

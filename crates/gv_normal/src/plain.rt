@@ -16,7 +16,7 @@ pub fn is_normal_plain(alloc: Global, view: View<'_>) -> Result<bool, AllocError
 {
     match normal_form(alloc, view) {
         Ok(written) => Ok(view.bytes() == written.as_slice()),
-        Err(BuildFault::TooLarge) => Ok(false),
+        Err(BuildFault::Fault(_)) => Ok(false),
         Err(BuildFault::Memory) => Err(AllocError),
     }
 }

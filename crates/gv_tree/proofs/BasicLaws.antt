@@ -24,8 +24,8 @@ use Rattle.gv_tree.specs.Basics.{basic_tree, BitsAre, TextIs}
 use Rattle.gv_tree.specs.Kept.{IsKept}
 use Rattle.gv_tree.specs.Wholes.{IsWhole}
 use Rattle.gv_tree.specs.Faults.{IsBasicTextFault}
-use Rattle.gv_tree.specs.declared.fault.TreeFault.{TreeFault}
-use Rattle.gv_tree.specs.declared.fault.TreeFault.TheVariants.{HasNul}
+use Rattle.gv_tree.specs.declared.fault.TreeFlaw.{TreeFlaw}
+use Rattle.gv_tree.specs.declared.fault.TreeFlaw.TheVariants.{HasNul}
 
 -- a text without a zero byte that its type allows
 pub text_value : (k : Basic) (s : List ℕ) → basic_size k ≡ None → has_zero_byte s ≡ false → is_text k s ≡ true → IsTextOf k s
@@ -63,7 +63,7 @@ whole_leaf (text k s) l h = record { value = h; levels = omega arith; limits = b
 whole_leaf (node t vs) l h = absurd l
 
 -- a text of which only a zero byte can be wrong
-pub checked_text : (k : Basic) (s x : List ℕ) (r : Result (Unit {0}) TreeFault) → basic_size k ≡ None → is_text k s ≡ true → x ≡ s → MatchResult r (λ _. has_zero_byte x ≡ false) (λ fault. (fault ≡ HasNul) × (has_zero_byte x ≡ true)) → MatchResult r (λ _. IsTextOf k s) (IsBasicTextFault k s)
+pub checked_text : (k : Basic) (s x : List ℕ) (r : Result (Unit {0}) TreeFlaw) → basic_size k ≡ None → is_text k s ≡ true → x ≡ s → MatchResult r (λ _. has_zero_byte x ≡ false) (λ fault. (fault ≡ HasNul) × (has_zero_byte x ≡ true)) → MatchResult r (λ _. IsTextOf k s) (IsBasicTextFault k s)
 checked_text k s x (Ok u) size g e h = text_value k s size (ap has_zero_byte (sym e) ∙ h) g
 checked_text k s x (Err fault) size g e h = subst (IsBasicTextFault k s) (sym h.0) (ap has_zero_byte (sym e) ∙ h.1)
 

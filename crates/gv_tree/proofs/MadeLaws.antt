@@ -5,17 +5,21 @@ use Rattle.std.specs.Prelude.{Result, Ok, Err, MatchResult, MatchOption}
 use Rattle.gv_model.specs.Ty.{Ty, Basic, letter, spelling, spellings, nesting, members}
 use Rattle.gv_model.specs.Ty.Ty.{basic, maybe, tuple, entry}
 use Rattle.gv_model.specs.Ty.Types.{end, member}
-use Rattle.gv_model.specs.Tree.{Tree as Value, Trees, type_of}
+use Rattle.gv_model.specs.Tree.{Tree as Value, Trees, type_of, children}
 use Rattle.gv_model.specs.Tree.Tree.{node}
 use Rattle.gv_model.specs.Tree.Trees.{none, first}
 use Rattle.gv_model.specs.Typed.{MayHold, AllOf, types_of}
 use Rattle.gv_model.proofs.Prefixes.{nesting-positive}
+use Rattle.refused.specs.declared.Refused.{Refused}
+use Rattle.refused.specs.declared.Refused.TheVariants.{Fault, Memory}
+use Rattle.refused.specs.Faults.{OfFault}
 use Rattle.gv_tree.specs.declared.sums.Sums.{Sums}
-use Rattle.gv_tree.specs.declared.fault.TreeFault.{TreeFault}
-use Rattle.gv_tree.specs.declared.fault.TreeFault.TheVariants.{HasNul, BadObjectPath, BadSignature, WrongType, KeyNotBasic, TooDeep, TooLarge, Memory}
+use Rattle.gv_tree.specs.declared.fault.TreeFlaw.{TreeFlaw}
+use Rattle.gv_tree.specs.declared.fault.TreeFlaw.TheVariants.{HasNul, BadObjectPath, BadSignature, WrongType, KeyNotBasic, TooDeep, TooLarge}
 use Rattle.gv_tree.specs.Nodes.{trees_of, trees_of_option}
-use Rattle.gv_tree.specs.Faults.{IsSizeFault}
+use Rattle.gv_tree.specs.Faults.{IsSizeFault, IsContentFault}
 use Rattle.gv_tree.specs.Sums.{top, AreWhole, SumsAre, IsWith, IsSized, ContentIs}
+use Rattle.gv_tree.proofs.ListLaws.{none_other}
 use Rattle.gv_tree.proofs.SumLaws.{sums_start, sums_step, sums_end}
 
 -- ---- one tree, and two
@@ -60,7 +64,7 @@ entry_text k key value e =
 -- ---- arrays and maybes
 
 -- the sizes of a container of children of one type
-pub content_sizes : (t u : Ty) (vs : Trees) (r : Result Sums TreeFault) → AllOf t vs → AreWhole vs → MatchResult r (λ s. IsSized s (node u vs)) (IsSizeFault (node u vs)) → ContentIs t (node u vs) r
+pub content_sizes : (t u : Ty) (vs : Trees) (r : Result Sums TreeFlaw) → AllOf t vs → AreWhole vs → MatchResult r (λ s. IsSized s (node u vs)) (IsSizeFault (node u vs)) → ContentIs t (node u vs) r
 content_sizes t u vs (Ok s) a w h = record { all = a; whole = w; sized = h }
 content_sizes t u vs (Err (WrongType i)) a w h = absurd h
 content_sizes t u vs (Err HasNul) a w h = (a, h)
@@ -69,7 +73,17 @@ content_sizes t u vs (Err BadSignature) a w h = (a, h)
 content_sizes t u vs (Err KeyNotBasic) a w h = (a, h)
 content_sizes t u vs (Err TooDeep) a w h = (a, h)
 content_sizes t u vs (Err TooLarge) a w h = (a, h)
-content_sizes t u vs (Err Memory) a w h = (a, h)
+
+-- if all are of the type, only the size is at fault
+pub size_at_fault : (t : Ty) (v : Value) (e : Refused TreeFlaw) → AllOf t (children v) → IsContentFault t v e → OfFault (IsSizeFault v) e
+size_at_fault t v (Fault (WrongType i)) a h = absurd (none_other t (children v) i a h)
+size_at_fault t v (Fault HasNul) a h = h.1
+size_at_fault t v (Fault BadObjectPath) a h = h.1
+size_at_fault t v (Fault BadSignature) a h = h.1
+size_at_fault t v (Fault KeyNotBasic) a h = h.1
+size_at_fault t v (Fault TooDeep) a h = h.1
+size_at_fault t v (Fault TooLarge) a h = h.1
+size_at_fault t v Memory a h = tt
 
 pub option_trees : (o : Option Value) (xs : List Value) → MatchOption o (xs ≡ []) (λ x. xs ≡ x ∷ []) → trees_of xs ≡ trees_of_option o
 option_trees None xs h = ap trees_of h

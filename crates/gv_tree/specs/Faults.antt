@@ -7,8 +7,11 @@ use Rattle.gv_model.specs.Tree.{Tree, Trees, type_of, children, depth}
 use Rattle.gv_model.specs.Tree.Tree.{text}
 use Rattle.gv_model.specs.Tree.Trees.{none, first}
 use Rattle.gv_model.specs.Typed.{AllOf}
-use Rattle.gv_tree.specs.declared.fault.TreeFault.{TreeFault}
-use Rattle.gv_tree.specs.declared.fault.TreeFault.TheVariants.{HasNul, BadObjectPath, BadSignature, WrongType, KeyNotBasic, TooDeep, TooLarge, Memory}
+use Rattle.refused.specs.declared.Refused.{Refused}
+use Rattle.refused.specs.declared.Refused.TheVariants.{Fault}
+use Rattle.refused.specs.Faults.{OfFault}
+use Rattle.gv_tree.specs.declared.fault.TreeFlaw.{TreeFlaw}
+use Rattle.gv_tree.specs.declared.fault.TreeFlaw.TheVariants.{HasNul, BadObjectPath, BadSignature, WrongType, KeyNotBasic, TooDeep, TooLarge}
 pub use Rattle.gv_model.specs.Texts.{has_zero_byte as has_zero}
 
 -- a text without a zero byte that isn't allowed at its type
@@ -17,14 +20,14 @@ pub record IsBadText (is : Basic) (good : Bool) (k : Basic) (s : List ℕ) : Typ
   pub no_zero : has_zero_byte s ≡ false
   pub bad : good ≡ false
 
-abbrev pub IsBasicTextFault : Basic → List ℕ → TreeFault → Type 0
+abbrev pub IsBasicTextFault : Basic → List ℕ → TreeFlaw → Type 0
 IsBasicTextFault k s HasNul = has_zero_byte s ≡ true
 IsBasicTextFault k s BadObjectPath = IsBadText path (is_object_path s) k s
 IsBasicTextFault k s BadSignature = IsBadText signature (is_signature s) k s
 IsBasicTextFault k s _ = ⊥
 
 -- a number is never refused
-abbrev pub IsBasicFault : Tree → TreeFault → Type 0
+abbrev pub IsBasicFault : Tree → TreeFlaw → Type 0
 IsBasicFault (text k s) fault = IsBasicTextFault k s fault
 IsBasicFault _ fault = ⊥
 
@@ -37,10 +40,9 @@ pub record IsTooLarge (v : Tree) : Type 0 where
   pub long : 67108864 < length (spelling (type_of v))
 
 -- why a container that is a value of its type isn't made
-abbrev pub IsSizeFault : Tree → TreeFault → Type 0
+abbrev pub IsSizeFault : Tree → TreeFlaw → Type 0
 IsSizeFault v TooDeep = IsTooDeepTree v
 IsSizeFault v TooLarge = IsTooLarge v
-IsSizeFault v Memory = Unit {0}
 IsSizeFault v _ = ⊥
 
 -- the tree at this index is the first of another type
@@ -50,12 +52,11 @@ IsFirstOther t (first v vs) zero = type_of v ≢ t
 IsFirstOther t (first v vs) (suc i) = (type_of v ≡ t) × IsFirstOther t vs i
 
 -- why a container whose children are to be of type t isn't made
-abbrev pub IsContentFault : Ty → Tree → TreeFault → Type 0
-IsContentFault t v (WrongType i) = IsFirstOther t (children v) i
-IsContentFault t v fault = AllOf t (children v) × IsSizeFault v fault
+abbrev pub IsContentFault : Ty → Tree → Refused TreeFlaw → Type 0
+IsContentFault t v (Fault (WrongType i)) = IsFirstOther t (children v) i
+IsContentFault t v fault = AllOf t (children v) × OfFault (IsSizeFault v) fault
 
 -- why an entry isn't made, if its key is basic
-abbrev pub IsEntryFault : Option Tree → TreeFault → Type 0
-IsEntryFault None KeyNotBasic = Unit {0}
-IsEntryFault None _ = ⊥
-IsEntryFault (Some v) fault = IsSizeFault v fault
+abbrev pub IsEntryFault : Option Tree → Refused TreeFlaw → Type 0
+IsEntryFault None fault = fault ≡ Fault KeyNotBasic
+IsEntryFault (Some v) fault = OfFault (IsSizeFault v) fault

@@ -5,7 +5,8 @@ use Rattle.gv_model.specs.Tree.{Tree, Trees, type_of, children, depth, greatest_
 use Rattle.gv_model.specs.Tree.Trees.{none, first}
 use Rattle.gv_model.specs.Typed.{types_of, AllOf}
 use Rattle.gv_tree.specs.declared.sums.Sums.{Sums}
-use Rattle.gv_tree.specs.declared.fault.TreeFault.{TreeFault}
+use Rattle.refused.specs.declared.Refused.TheVariants.{Fault}
+use Rattle.gv_tree.specs.declared.fault.TreeFlaw.{TreeFlaw}
 use Rattle.gv_tree.specs.Wholes.{IsWhole}
 use Rattle.gv_tree.specs.Faults.{IsContentFault}
 
@@ -47,5 +48,5 @@ pub record IsContent (t : Ty) (v : Tree) (s : Sums) : Type 0 where
   pub whole : AreWhole (children v)
   pub sized : IsSized s v
 
-abbrev pub ContentIs : Ty → Tree → Result Sums TreeFault → Type 0
-ContentIs t v r = MatchResult r (IsContent t v) (IsContentFault t v)
+abbrev pub ContentIs : Ty → Tree → Result Sums TreeFlaw → Type 0
+ContentIs t v r = MatchResult r (IsContent t v) (λ f. IsContentFault t v (Fault f))

@@ -6,9 +6,9 @@ ghost use Rattle.gv_model.specs.BasicValue.{number_in};
 ghost use Rattle.gv_model.specs.Typed.{IsValue};
 ghost use Rattle.gv_types.specs.Classes.{basic_of};
 ghost use Rattle.gv_tree.specs.Faults.{IsBasicFault, has_zero};
-ghost use Rattle.gv_tree.specs.declared.fault.TreeFault.TheVariants.{HasNul};
+ghost use Rattle.gv_tree.specs.declared.fault.TreeFlaw.TheVariants.{HasNul};
 
-use crate::fault::TreeFault;
+use crate::fault::TreeFlaw;
 use gv_types::{BasicType, is_object_path, is_signature};
 use std::alloc::{AllocError, Global};
 
@@ -137,7 +137,7 @@ impl Basic {
     }
 
     /// Refuses a text that is no value of its type. It looks at each byte of a text.
-    pub(crate) fn check(&self) -> Result<(), TreeFault>
+    pub(crate) fn check(&self) -> Result<(), TreeFlaw>
         ensures { MatchResult result
             (λ _. IsValue (basic_tree self.now))
             (IsBasicFault (basic_tree self.now)) }
@@ -149,7 +149,7 @@ impl Basic {
                 if is_object_path(text.as_str()) {
                     Ok(())
                 } else {
-                    Err(TreeFault::BadObjectPath)
+                    Err(TreeFlaw::BadObjectPath)
                 }
             }
             Basic::Signature(text) => {
@@ -157,7 +157,7 @@ impl Basic {
                 if is_signature(text.as_str()) {
                     Ok(())
                 } else {
-                    Err(TreeFault::BadSignature)
+                    Err(TreeFlaw::BadSignature)
                 }
             }
             _ => {
@@ -169,13 +169,13 @@ impl Basic {
 }
 
 /// Refuses a text with a zero byte.
-fn check_nul(text: &str) -> Result<(), TreeFault>
+fn check_nul(text: &str) -> Result<(), TreeFlaw>
     ensures { MatchResult result
         (λ _. has_zero text.now ≡ false)
         (λ fault. (fault ≡ HasNul) × (has_zero text.now ≡ true)) }
 {
     if text.as_bytes().contains(&0) {
-        Err(TreeFault::HasNul)
+        Err(TreeFlaw::HasNul)
     } else {
         Ok(())
     }

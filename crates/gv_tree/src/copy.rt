@@ -1,18 +1,15 @@
 //! Copies of trees.
-ghost use Rattle.std.specs.Prelude.{◌≡◌, IfOk, IfErr};
-ghost use Rattle.gv_tree.specs.declared.fault.TreeFault.TheVariants.{Memory};
+ghost use Rattle.std.specs.Prelude.{◌≡◌, IfOk};
 
-use crate::fault::TreeFault;
 use crate::tree::{Node, Tree};
-use std::alloc::Global;
+use std::alloc::{AllocError, Global};
 
 impl Tree {
     /// A copy of the whole tree. It fails only by running out of memory.
     ///
     /// It takes time linear in the tree.
-    pub fn try_copy(&self, alloc: Global) -> Result<Tree, TreeFault>
-        ensures copy { IfOk result (λ t. t ≡ self.now) }
-        ensures fault { IfErr result (λ e. e ≡ Memory) }
+    pub fn try_copy(&self, alloc: Global) -> Result<Tree, AllocError>
+        ensures { IfOk result (λ t. t ≡ self.now) }
     {
         let node = match &self.node {
             Node::Basic(value) => Node::Basic(value.try_copy(alloc)?),

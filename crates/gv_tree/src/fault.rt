@@ -1,14 +1,17 @@
 //! Why a tree is not made.
 ghost use Rattle.std.specs.Prelude.{◌≡◌};
-ghost use Rattle.gv_tree.specs.declared.fault.TreeFault.TheVariants.{Memory};
+ghost use Rattle.refused.specs.declared.Refused.TheVariants.{Fault};
 
-use std::alloc::{AllocError, AllocFailed};
+use refused::Refused;
 use std::error::Error;
 use std::fmt;
 
 /// Why a tree is not made.
+pub type TreeFault = Refused<TreeFlaw>;
+
+/// What is wrong with the parts of a tree.
 #[derive(Clone, Copy, Debug, PartialEq, Eq)]
-pub enum TreeFault {
+pub enum TreeFlaw {
     /// A text has a zero byte.
     HasNul,
     /// A text is no object path.
@@ -23,11 +26,9 @@ pub enum TreeFault {
     TooDeep,
     /// The text of its type would have over 67,108,864 bytes.
     TooLarge,
-    /// A growth was refused.
-    Memory,
 }
 
-impl TreeFault {
+impl TreeFlaw {
     ghost use Rattle.gv_tree.specs.FaultTexts.{tree_fault_name};
 
     /// Its name.
@@ -35,46 +36,37 @@ impl TreeFault {
         ensures { result.now ≡ tree_fault_name self }
     {
         match self {
-            TreeFault::HasNul => "HasNul",
-            TreeFault::BadObjectPath => "BadObjectPath",
-            TreeFault::BadSignature => "BadSignature",
-            TreeFault::WrongType(_) => "WrongType",
-            TreeFault::KeyNotBasic => "KeyNotBasic",
-            TreeFault::TooDeep => "TooDeep",
-            TreeFault::TooLarge => "TooLarge",
-            TreeFault::Memory => "Memory",
+            TreeFlaw::HasNul => "HasNul",
+            TreeFlaw::BadObjectPath => "BadObjectPath",
+            TreeFlaw::BadSignature => "BadSignature",
+            TreeFlaw::WrongType(_) => "WrongType",
+            TreeFlaw::KeyNotBasic => "KeyNotBasic",
+            TreeFlaw::TooDeep => "TooDeep",
+            TreeFlaw::TooLarge => "TooLarge",
         }
     }
 }
 
-impl fmt::Display for TreeFault {
+impl fmt::Display for TreeFlaw {
     ghost use Rattle.std.specs.Prelude.{Some};
     ghost use Rattle.gv_tree.specs.FaultTexts.{tree_fault_text};
 
-    ghost output = { λ fault. Some (tree_fault_text fault) };
+    ghost output = { λ flaw. Some (tree_fault_text flaw) };
 
     fn fmt<W: fmt::Write>(&self, f: &mut fmt::Formatter<W>) -> fmt::Result {
         match self {
-            TreeFault::WrongType(at) => write!(f, "{} at {at}", self.name()),
+            TreeFlaw::WrongType(at) => write!(f, "{} at {at}", self.name()),
             _ => f.write_str(self.name()),
         }
     }
 }
 
-impl Error for TreeFault {}
+impl Error for TreeFlaw {}
 
-impl From<AllocError> for TreeFault {
-    ghost from_gives = { λ _ e. e ≡ Memory };
+impl From<TreeFlaw> for Refused<TreeFlaw> {
+    ghost from_gives = { λ flaw e. e ≡ Fault flaw };
 
-    fn from(_error: AllocError) -> TreeFault {
-        TreeFault::Memory
-    }
-}
-
-impl<T: Drop> From<AllocFailed<T>> for TreeFault {
-    ghost from_gives = { λ _ e. e ≡ Memory };
-
-    fn from(_error: AllocFailed<T>) -> TreeFault {
-        TreeFault::Memory
+    fn from(flaw: TreeFlaw) -> Refused<TreeFlaw> {
+        Refused::Fault(flaw)
     }
 }

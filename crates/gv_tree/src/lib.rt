@@ -23,6 +23,6 @@ mod tree;
 mod type_texts;
 
 pub use basic::Basic;
-pub use fault::TreeFault;
+pub use fault::{TreeFault, TreeFlaw};
 pub use shape::Shape;
 pub use tree::Tree;

@@ -9,15 +9,15 @@ ghost use Rattle.gv_tree.specs.Nodes.{trees_of, trees_of_option};
 ghost use Rattle.gv_tree.specs.Wholes.{IsWhole, entry_tree};
 ghost use Rattle.gv_tree.specs.Faults.{IsBasicFault, IsContentFault, IsSizeFault, IsEntryFault};
 ghost use Rattle.gv_tree.specs.Sums.{ContentIs};
-ghost use Rattle.gv_tree.specs.declared.fault.TreeFault.TheVariants.{Memory};
+ghost use Rattle.refused.specs.Faults.{OfFault, OfFaultAlone};
 
 use crate::basic::Basic;
-use crate::fault::TreeFault;
+use crate::fault::{TreeFault, TreeFlaw};
 use crate::sums::Sums;
 use crate::tree::{Node, Tree};
 use crate::type_texts::{bracketed, first_other, nesting_of, prefixed};
 use gv_types::TypeStr;
-use std::alloc::Global;
+use std::alloc::{AllocError, Global};
 
 impl Tree {
     /// A basic value.
@@ -27,7 +27,7 @@ impl Tree {
     pub fn basic(_alloc: Global, value: Basic) -> Result<Tree, TreeFault>
         ensures made { IfOk result (λ t. t ≡ basic_tree value) }
         ensures whole { IfOk result IsWhole }
-        ensures fault { IfErr result (IsBasicFault (basic_tree value)) }
+        ensures fault { IfErr result (OfFaultAlone (IsBasicFault (basic_tree value))) }
     {
         value.check()?;
         Ok(Tree {
@@ -74,7 +74,7 @@ impl Tree {
     pub fn tuple(alloc: Global, members: Vec<Tree>) -> Result<Tree, TreeFault>
         ensures made { IfOk result (λ t. t ≡ node (tuple (types_of (trees_of members.items))) (trees_of members.items)) }
         ensures whole { IfOk result IsWhole }
-        ensures fault { IfErr result (IsSizeFault (node (tuple (types_of (trees_of members.items))) (trees_of members.items))) }
+        ensures fault { IfErr result (OfFault (IsSizeFault (node (tuple (types_of (trees_of members.items))) (trees_of members.items)))) }
     {
         let sums = Sums::of(members.as_slice());
         let sizes = sums.container(sums.type_levels + 1, sums.type_bytes.saturating_add(2))?;
@@ -92,7 +92,7 @@ impl Tree {
         ensures fault { IfErr result (IsEntryFault (entry_tree key value)) }
     {
         if !key.type_text().is_basic() {
-            return Err(TreeFault::KeyNotBasic);
+            return Err(TreeFault::Fault(TreeFlaw::KeyNotBasic));
         }
         let sums = Sums::none().with(&key).with(&value);
         let sizes = sums.container(sums.type_levels + 1, sums.type_bytes.saturating_add(2))?;
@@ -107,7 +107,7 @@ impl Tree {
     pub fn variant(alloc: Global, child: Tree) -> Result<Tree, TreeFault>
         ensures made { IfOk result (λ t. t ≡ node variant (first child none)) }
         ensures whole { IfOk result IsWhole }
-        ensures fault { IfErr result (IsSizeFault (node variant (first child none))) }
+        ensures fault { IfErr result (OfFault (IsSizeFault (node variant (first child none)))) }
     {
         let sums = Sums::none().with(&child);
         let sizes = sums.container(1, 1)?;
@@ -118,21 +118,20 @@ impl Tree {
 }
 
 /// The sizes of an array or a maybe that holds the trees, if they are all of the type.
-fn content_sizes(of: TypeStr<'_>, trees: &[Tree]) -> Result<Sums, TreeFault>
+fn content_sizes(of: TypeStr<'_>, trees: &[Tree]) -> Result<Sums, TreeFlaw>
     ensures array { ContentIs (ty of.entry) (node (array (ty of.entry)) (trees_of trees.now)) result }
     ensures maybe { ContentIs (ty of.entry) (node (maybe (ty of.entry)) (trees_of trees.now)) result }
 {
     if let Some(at) = first_other(of, trees) {
-        return Err(TreeFault::WrongType(at));
+        return Err(TreeFlaw::WrongType(at));
     }
     let sums = Sums::of(trees);
     sums.container(nesting_of(of) + 1, of.as_str().len() + 1)
 }
 
 /// A list of the tree, if there is one.
-fn at_most_one(alloc: Global, tree: Option<Tree>) -> Result<Vec<Tree>, TreeFault>
-    ensures list { IfOk result (λ trees. trees_of trees.items ≡ trees_of_option tree) }
-    ensures fault { IfErr result (λ e. e ≡ Memory) }
+fn at_most_one(alloc: Global, tree: Option<Tree>) -> Result<Vec<Tree>, AllocError>
+    ensures { IfOk result (λ trees. trees_of trees.items ≡ trees_of_option tree) }
 {
     match tree {
         Some(tree) => Ok(Vec::from_array(alloc, [tree])?),

@@ -7,7 +7,7 @@ ghost use Rattle.gv_tree.specs.Faults.{IsSizeFault};
 ghost use Rattle.gv_tree.specs.Kept.{IsKept};
 ghost use Rattle.gv_tree.specs.declared.tree.Node.TheVariants.{Container};
 
-use crate::fault::TreeFault;
+use crate::fault::TreeFlaw;
 use crate::tree::{Node, Tree};
 use gv_types::TypeStr;
 
@@ -67,7 +67,7 @@ impl Sums {
     /// Those of a container of trees of these sizes, whose type has so many levels and bytes.
     ///
     /// Refused is first a container or a type that is too deep, then a type whose text is too long.
-    pub(crate) fn container(self, type_levels: u8, type_bytes: usize) -> Result<Sums, TreeFault>
+    pub(crate) fn container(self, type_levels: u8, type_bytes: usize) -> Result<Sums, TreeFlaw>
         requires { self.levels ≤ 128 }
         ensures { (t : Ty) (vs : Trees) → SumsAre self vs → type_levels ≡ nesting t
             → type_bytes ≡ min (length (spelling t)) (2 ^ 64 - 1)
@@ -75,10 +75,10 @@ impl Sums {
     {
         let levels = self.levels + 1;
         if levels > Tree::MAX_LEVELS || type_levels > TypeStr::MAX_LEVELS {
-            return Err(TreeFault::TooDeep);
+            return Err(TreeFlaw::TooDeep);
         }
         if type_bytes > TypeStr::MAX_LEN {
-            return Err(TreeFault::TooLarge);
+            return Err(TreeFlaw::TooLarge);
         }
         Ok(Sums {
             levels,

@@ -13,8 +13,12 @@ use Rattle.gv_model.specs.BasicValue.{basic_value, basic_of_size, bits_of, numbe
 use Rattle.gv_model.specs.Decode.{decode}
 use Rattle.gv_model.proofs.DecodeLaws.{decode_children}
 use Rattle.gv_model.proofs.WellTyped.{text_value, default_value}
-use Rattle.gv_tree.specs.declared.fault.TreeFault.{TreeFault}
-use Rattle.gv_tree.specs.declared.fault.TreeFault.TheVariants.{HasNul, BadObjectPath, BadSignature, WrongType, KeyNotBasic, TooDeep, TooLarge, Memory}
+use Rattle.refused.specs.declared.Refused.{Refused}
+use Rattle.refused.specs.declared.Refused.TheVariants.{Memory}
+use Rattle.refused.specs.Faults.{OfFaultAlone}
+use Rattle.refused.proofs.Faults.{never_refused as never}
+use Rattle.gv_tree.specs.declared.fault.TreeFlaw.{TreeFlaw}
+use Rattle.gv_tree.specs.declared.fault.TreeFlaw.TheVariants.{HasNul, BadObjectPath, BadSignature, WrongType, KeyNotBasic, TooDeep, TooLarge}
 use Rattle.gv_tree.specs.Faults.{IsBasicFault}
 
 -- a text is one that its type allows
@@ -47,7 +51,7 @@ never_zero (c ∷ cs) h e = go (c == 0) refl e (never_zero cs h.1)
     go true p q f = absurd (grind (arith, h.0))
     go false p q f = f q
 
-fine_text : (k : Basic) (s : List ℕ) → IsTextOf k s → (f : TreeFault) → IsBasicFault (text k s) f → ⊥
+fine_text : (k : Basic) (s : List ℕ) → IsTextOf k s → (f : TreeFlaw) → IsBasicFault (text k s) f → ⊥
 fine_text k s h HasNul r = never_zero s h.no_zero r
 fine_text k s h BadObjectPath r = let good : is_object_path s ≡ true = subst (λ (j : Basic). is_text j s ≡ true) r.type h.allowed in let bad = r.bad in absurd cc
 fine_text k s h BadSignature r = let good : is_signature s ≡ true = subst (λ (j : Basic). is_text j s ≡ true) r.type h.allowed in let bad = r.bad in absurd cc
@@ -55,14 +59,13 @@ fine_text k s h (WrongType i) r = r
 fine_text k s h KeyNotBasic r = r
 fine_text k s h TooDeep r = r
 fine_text k s h TooLarge r = r
-fine_text k s h Memory r = r
 
-fine_tree : (v : Tree) → HasFineText v → (f : TreeFault) → IsBasicFault v f → ⊥
+fine_tree : (v : Tree) → HasFineText v → (f : TreeFlaw) → IsBasicFault v f → ⊥
 fine_tree (number k n) h f r = r
 fine_tree (text k s) h f r = fine_text k s h f r
 fine_tree (node t vs) h f r = r
 
-pub never_refused : (t : Ty) (k : Basic) (b : List ℕ) (v : Tree) → t ≡ basic k → v ≡ decode t b → (f : TreeFault) → IsBasicFault v f → f ≡ Memory
+pub never_refused : (t : Ty) (k : Basic) (b : List ℕ) (v : Tree) → t ≡ basic k → v ≡ decode t b → (f : Refused TreeFlaw) → OfFaultAlone (IsBasicFault v) f → f ≡ Memory
 never_refused t k b v e g f r =
     let same : v ≡ basic_value k b = g ∙ (ap (λ u. decode u b) e ∙ decode_children (basic k) b) in
-    absurd (fine_tree v (subst HasFineText (sym same) (fine_basic k b)) f r)
+    absurd (never _ (fine_tree v (subst HasFineText (sym same) (fine_basic k b))) f r)

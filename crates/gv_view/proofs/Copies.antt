@@ -21,12 +21,16 @@ use Rattle.gv_types.specs.Classes.{class_of}
 use Rattle.gv_types.specs.declared.class.Class.{Class}
 use Rattle.gv_types.specs.declared.class.Class.TheVariants as classes
 use Rattle.gv_types.proofs.ClassLaws.{variant_class}
-use Rattle.gv_tree.specs.declared.fault.TreeFault.{TreeFault}
-use Rattle.gv_tree.specs.declared.fault.TreeFault.TheVariants.{HasNul, BadObjectPath, BadSignature, WrongType, KeyNotBasic, TooDeep, TooLarge, Memory}
+use Rattle.refused.specs.declared.Refused.{Refused}
+use Rattle.refused.specs.declared.Refused.TheVariants.{Memory}
+use Rattle.refused.specs.Faults.{OfFault}
+use Rattle.refused.proofs.Faults.{only_memory}
+use Rattle.gv_tree.specs.declared.fault.TreeFlaw.{TreeFlaw}
+use Rattle.gv_tree.specs.declared.fault.TreeFlaw.TheVariants.{HasNul, BadObjectPath, BadSignature, WrongType, KeyNotBasic, TooDeep, TooLarge}
 use Rattle.gv_tree.specs.Faults.{IsSizeFault, IsContentFault, IsEntryFault}
 use Rattle.gv_tree.specs.Nodes.{trees_of, trees_of_option}
 use Rattle.gv_tree.specs.Wholes.{entry_tree, entry_at_key}
-use Rattle.gv_tree.proofs.ListLaws.{none_other}
+use Rattle.gv_tree.proofs.MadeLaws.{size_at_fault}
 use Rattle.gv_view.specs.declared.view.View.{View}
 use Rattle.gv_view.specs.Views.{type_str_of, view_ty, view_bytes, value}
 use Rattle.gv_view.specs.Copying.{AreChildTrees}
@@ -79,33 +83,25 @@ limits text = go (type_of_text text) refl
     go None e = unit_limits
     go (Some t) e = let read = spelling_of_read text t e in ap (is_within_limits t) read.0 ∙ read.1
 
-memory_alone : (v : Tree) → depth v ≤ 128 → is_within_limits (type_of v) (spelling (type_of v)) ≡ true → (f : TreeFault) → IsSizeFault v f → f ≡ Memory
-memory_alone v d l TooDeep (inl h) = absurd (omega arith)
-memory_alone v d l TooDeep (inr h) = let small : nesting (type_of v) ≤ 128 = grind arith in absurd (omega arith)
-memory_alone v d l TooLarge h = let long = h.long in let short : length (spelling (type_of v)) ≤ 67108864 = grind arith in absurd (omega arith)
-memory_alone v d l Memory h = refl
-memory_alone v d l HasNul h = absurd h
-memory_alone v d l BadObjectPath h = absurd h
-memory_alone v d l BadSignature h = absurd h
-memory_alone v d l (WrongType i) h = absurd h
-memory_alone v d l KeyNotBasic h = absurd h
+within_limits : (v : Tree) → depth v ≤ 128 → is_within_limits (type_of v) (spelling (type_of v)) ≡ true → (f : TreeFlaw) → IsSizeFault v f → ⊥
+within_limits v d l TooDeep (inl h) = omega arith
+within_limits v d l TooDeep (inr h) = let small : nesting (type_of v) ≤ 128 = grind arith in omega arith
+within_limits v d l TooLarge h = let long = h.long in let short : length (spelling (type_of v)) ≤ 67108864 = grind arith in omega arith
+within_limits v d l HasNul h = h
+within_limits v d l BadObjectPath h = h
+within_limits v d l BadSignature h = h
+within_limits v d l (WrongType i) h = h
+within_limits v d l KeyNotBasic h = h
 
-content_memory : (t : Ty) (v : Tree) → AllOf t (children v) → ((f : TreeFault) → IsSizeFault v f → f ≡ Memory) → (f : TreeFault) → IsContentFault t v f → f ≡ Memory
-content_memory t v a m (WrongType i) h = absurd (none_other t (children v) i a h)
-content_memory t v a m HasNul h = m HasNul h.1
-content_memory t v a m BadObjectPath h = m BadObjectPath h.1
-content_memory t v a m BadSignature h = m BadSignature h.1
-content_memory t v a m KeyNotBasic h = m KeyNotBasic h.1
-content_memory t v a m TooDeep h = m TooDeep h.1
-content_memory t v a m TooLarge h = m TooLarge h.1
-content_memory t v a m Memory h = refl
+content_memory : (t : Ty) (v : Tree) → AllOf t (children v) → ((f : TreeFlaw) → IsSizeFault v f → ⊥) → (f : Refused TreeFlaw) → IsContentFault t v f → f ≡ Memory
+content_memory t v a m f h = only_memory _ m f (size_at_fault t v f a h)
 
 -- ---- a value is the container of its children
 
 pub record IsWhole (t : Ty) (v : Tree) (vs : Trees) : Type 0 where
   pub is : v ≡ node t vs
   pub held : MayHold t vs
-  pub memory : (f : TreeFault) → IsSizeFault (node t vs) f → f ≡ Memory
+  pub within : (f : TreeFlaw) → IsSizeFault (node t vs) f → ⊥
 
 whole : (t : Ty) (b : List ℕ) (vs : Trees) → IsContainer t → is_within_limits t (spelling t) ≡ true → depth (decode t b) ≤ 128 → vs ≡ children (decode t b) → IsWhole t (decode t b) vs
 whole t b vs c l d e =
@@ -115,7 +111,7 @@ whole t b vs c l d e =
     record {
       is = is;
       held = subst (MayHold t) (sym same) (children_held t b c);
-      memory = memory_alone (node t vs) (subst (λ v. depth v ≤ 128) is d) l;
+      within = within_limits (node t vs) (subst (λ v. depth v ≤ 128) is d) l;
     }
 
 whole_at : (v : View) (class : Class) (xs : List Tree) (t : Ty) → AreChildTrees v class xs → view_ty v ≡ t → IsContainer t → IsWhole t (value v) (trees_of xs)
@@ -129,22 +125,22 @@ pub element_type : (v : View) (s u : TypeStr) (o : Option TypeStr) → s ≡ typ
 element_type v s u o h e g = sym (ap (option_map ty) g) ∙ (e ∙ ap (λ r. element_of (ty r)) h)
 
 -- the tree that is made is the value, and it isn't made only where memory runs out
-pub record IsMade (v made : Tree) (Refused : TreeFault → Type 0) : Type 0 where
+pub record IsMade (v made : Tree) (Why : Refused TreeFlaw → Type 0) : Type 0 where
   pub is : made ≡ v
-  pub memory : (f : TreeFault) → Refused f → f ≡ Memory
+  pub memory : (f : Refused TreeFlaw) → Why f → f ≡ Memory
 
 pub array_made : (v : View) (xs : List Tree) (u : Ty) → AreChildTrees v classes.Array xs → Some u ≡ element_of (view_ty v) → IsMade (value v) (node (array u) (trees_of xs)) (IsContentFault u (node (array u) (trees_of xs)))
 array_made v xs u h e =
     let t = array_class (view_ty v) h.kind in
     let same : t.0 ≡ u = sym (same_Some u t.0 (e ∙ ap element_of t.1)) in
     let w = whole_at v classes.Array xs (array u) h (t.1 ∙ ap array same) tt in
-    record { is = sym w.is; memory = content_memory u (node (array u) (trees_of xs)) w.held w.memory }
+    record { is = sym w.is; memory = content_memory u (node (array u) (trees_of xs)) w.held w.within }
 
-pub tuple_made : (v : View) (xs : List Tree) → AreChildTrees v classes.Tuple xs → IsMade (value v) (node (tuple (types_of (trees_of xs))) (trees_of xs)) (IsSizeFault (node (tuple (types_of (trees_of xs))) (trees_of xs)))
+pub tuple_made : (v : View) (xs : List Tree) → AreChildTrees v classes.Tuple xs → IsMade (value v) (node (tuple (types_of (trees_of xs))) (trees_of xs)) (OfFault (IsSizeFault (node (tuple (types_of (trees_of xs))) (trees_of xs))))
 tuple_made v xs h =
     let t = tuple_class (view_ty v) h.kind in
     let w = whole_at v classes.Tuple xs (tuple t.0) h t.1 tt in
-    subst (λ (ts : Types). IsMade (value v) (node (tuple ts) (trees_of xs)) (IsSizeFault (node (tuple ts) (trees_of xs)))) (sym w.held) (record { is = sym w.is; memory = w.memory })
+    subst (λ (ts : Types). IsMade (value v) (node (tuple ts) (trees_of xs)) (OfFault (IsSizeFault (node (tuple ts) (trees_of xs))))) (sym w.held) (record { is = sym w.is; memory = only_memory _ w.within })
 
 -- ---- children that are popped off a list
 
@@ -174,7 +170,7 @@ maybe_made v xs u o h e p s =
     let w = whole_at v classes.Maybe xs (maybe u) h (t.1 ∙ ap maybe same) tt in
     let all : trees_of_option o ≡ trees_of xs = popped_or_none u xs o w.held p s in
     subst (λ (vs : Trees). IsMade (value v) (node (maybe u) vs) (IsContentFault u (node (maybe u) vs))) (sym all)
-    (record { is = sym w.is; memory = content_memory u (node (maybe u) (trees_of xs)) (just_all u (trees_of xs) w.held) w.memory })
+    (record { is = sym w.is; memory = content_memory u (node (maybe u) (trees_of xs)) (just_all u (trees_of xs) w.held) w.within })
 
 pub record IsOnly (xs : List Tree) : Type 0 where
   pub child : Tree
@@ -189,13 +185,13 @@ one_held (x ∷ y ∷ xs) h = absurd h
 pub variant_child : (v : View) (xs : List Tree) → AreChildTrees v classes.Variant xs → IsOnly xs
 variant_child v xs h = one_held xs (whole_at v classes.Variant xs variant h (variant_class (view_ty v) (sym h.kind)) tt).held
 
-pub variant_made : (v : View) (xs : List Tree) (x : Tree) → AreChildTrees v classes.Variant xs → IsPopped xs (Some x) → IsMade (value v) (node variant (first x none)) (IsSizeFault (node variant (first x none)))
+pub variant_made : (v : View) (xs : List Tree) (x : Tree) → AreChildTrees v classes.Variant xs → IsPopped xs (Some x) → IsMade (value v) (node variant (first x none)) (OfFault (IsSizeFault (node variant (first x none))))
 variant_made v xs x h p =
     let w = whole_at v classes.Variant xs variant h (variant_class (view_ty v) (sym h.kind)) tt in
     let only = one_held xs w.held in
     let same : only.child ≡ x = sym (same_Some x only.child (subst (λ (ys : List Tree). IsPopped ys (Some x)) only.are p x (omega arith))) in
     let all : trees_of xs ≡ first x none = ap trees_of only.are ∙ ap (λ c. first c none) same in
-    subst (λ (vs : Trees). IsMade (value v) (node variant vs) (IsSizeFault (node variant vs))) all (record { is = sym w.is; memory = w.memory })
+    subst (λ (vs : Trees). IsMade (value v) (node variant vs) (OfFault (IsSizeFault (node variant vs)))) all (record { is = sym w.is; memory = only_memory _ w.within })
 
 pub record IsPair (k : Basic) (u : Ty) (xs : List Tree) : Type 0 where
   pub key : Tree
@@ -225,7 +221,7 @@ entry_children v xs h =
 
 -- the key and the value, popped off the end
 pub entry_made : (v : View) (xs ys : List Tree) (key val : Tree) → AreChildTrees v classes.Entry xs → IsPopped xs (Some val) → ys ≡ take (length xs - 1) xs → IsPopped ys (Some key)
-    → (entry_tree key val ≡ Some (value v)) × ((f : TreeFault) → IsEntryFault (entry_tree key val) f → f ≡ Memory)
+    → (entry_tree key val ≡ Some (value v)) × ((f : Refused TreeFlaw) → IsEntryFault (entry_tree key val) f → f ≡ Memory)
 entry_made v xs ys key val h p e q =
     let en = entry_children v xs h in
     let pair = en.pair in
@@ -237,4 +233,4 @@ entry_made v xs ys key val h p e q =
     ap (λ t. entry_at_key t key val) (ap type_of prefix ∙ pair.key_type) ∙ ap (λ t. Some (node (entry en.key_is t) (first key (first val none)))) (ap type_of second ∙ pair.value_type) in
     let all : first key (first val none) ≡ trees_of xs = ap₂ (λ a b. first a (first b none)) prefix second ∙ sym (ap trees_of pair.are) in
     let is : entry_tree key val ≡ Some (node (entry en.key_is en.value_is) (trees_of xs)) = types ∙ ap (λ vs. Some (node (entry en.key_is en.value_is) vs)) all in
-    (is ∙ ap Some (sym w.is), (λ f r. w.memory f (subst (λ (o : Option Tree). IsEntryFault o f) is r)))
+    (is ∙ ap Some (sym w.is), (λ f r. only_memory _ w.within f (subst (λ (o : Option Tree). IsEntryFault o f) is r)))

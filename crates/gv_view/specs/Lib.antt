@@ -4,5 +4,4 @@ pub mod Variants
 pub mod Children
 pub mod Dictionaries
 pub mod Copying
-pub mod FaultTexts
 pub mod Laws

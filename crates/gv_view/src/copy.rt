@@ -6,26 +6,26 @@ ghost use Rattle.gv_types.specs.Classes.{basic_of};
 ghost use Rattle.gv_types.specs.declared.class.Class.TheVariants as classes;
 ghost use Rattle.gv_tree.specs.Basics.{basic_tree};
 ghost use Rattle.gv_tree.specs.Nodes.{trees_of};
-ghost use Rattle.gv_tree.specs.declared.fault.TreeFault.TheVariants.{Memory};
-ghost use Rattle.gv_view.specs.declared.owned.ViewFault.TheVariants.{TooLarge};
+ghost use Rattle.refused.specs.declared.Refused.TheVariants.{Memory};
+ghost use Rattle.refused.specs.Faults.{OfFault};
 ghost use Rattle.gv_view.specs.Views.{view_ty, value};
 ghost use Rattle.gv_view.specs.Copying.{AreChildTrees};
 
-use crate::owned::ViewFault;
+use crate::owned::{TooLarge, ViewFault};
 use crate::view::View;
 use gv_tree::{Basic, Tree, TreeFault};
 use gv_types::{BasicType, Class};
-use std::alloc::Global;
+use std::alloc::{AllocError, Global};
 
 /// The tree of a value of no more than these levels, `TooLarge` exactly where it has more.
 pub(crate) fn copied(alloc: Global, view: View<'_>, levels: u8) -> Result<Tree, ViewFault>
     requires { levels ≤ 128 }
     ensures tree { IfOk result (λ t. t ≡ value view.entry) }
     ensures fits { OnOk result (depth (value view.entry) ≤ levels) }
-    ensures fault { IfErr result (λ f. f ≡ TooLarge → levels < depth (value view.entry)) }
+    ensures fault { IfErr result (OfFault (λ _. levels < depth (value view.entry))) }
 {
     if levels == 0 {
-        return Err(ViewFault::TooLarge);
+        return Err(ViewFault::Fault(TooLarge));
     }
     let mut parts = Vec::new(alloc);
     for child in view.children() {
@@ -52,10 +52,9 @@ fn assembled(alloc: Global, view: View<'_>, parts: Vec<Tree>) -> Result<Tree, Tr
 }
 
 /// The value at the basic type. Texts are copied.
-fn basic(alloc: Global, view: View<'_>, of: BasicType) -> Result<Basic, TreeFault>
+fn basic(alloc: Global, view: View<'_>, of: BasicType) -> Result<Basic, AllocError>
     requires { view_ty view ≡ basic (basic_of of) }
-    ensures value { IfOk result (λ b. basic_tree b ≡ value view.entry) }
-    ensures fault { IfErr result (λ f. f ≡ Memory) }
+    ensures { IfOk result (λ b. basic_tree b ≡ value view.entry) }
 {
     Ok(match of {
         BasicType::Boolean => Basic::Bool(view.as_bool().unwrap()),

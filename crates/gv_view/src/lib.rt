@@ -23,7 +23,7 @@ mod variant;
 mod view;
 
 pub use children::Children;
-pub use owned::ViewFault;
+pub use owned::{TooLarge, ViewFault};
 pub use parts::parts_are_lent;
 pub use text::{text_in, utf8_of};
 pub use variant::held_in_variant;

@@ -1,66 +1,34 @@
 //! Copies of values as trees that own their parts. Of a value that is too large no part is left.
 ghost use Rattle.std.specs.Prelude.{◌≡◌, true, false, IfOk, IfErr, OnOk};
 ghost use Rattle.gv_model.specs.Printed.{is_too_large};
-ghost use Rattle.gv_view.specs.declared.owned.ViewFault.TheVariants.{TooLarge, Memory};
+ghost use Rattle.refused.specs.Faults.{OfFault};
 
 use crate::copy::copied;
 use crate::view::View;
 use gv_tree::Tree;
-use std::alloc::{AllocError, AllocFailed, Global};
+use refused::Refused;
+use std::alloc::Global;
 use std::error::Error;
 use std::fmt;
 
-/// Why no tree is made of a value.
+/// Why no tree is made of a value: it is more than 128 levels deep, or memory ran out.
+pub type ViewFault = Refused<TooLarge>;
+
+/// A value beyond a limit.
 #[derive(Clone, Copy, Debug, PartialEq, Eq)]
-pub enum ViewFault {
-    /// The value is more than 128 levels deep.
-    TooLarge,
-    /// A growth was refused.
-    Memory,
-}
+pub struct TooLarge;
 
-impl ViewFault {
-    ghost use Rattle.gv_view.specs.FaultTexts.{view_fault_text};
+impl fmt::Display for TooLarge {
+    ghost use Rattle.std.specs.Prelude.{Some, codes};
 
-    /// Its name.
-    fn name(self) -> &'static str
-        ensures { result.now ≡ view_fault_text self }
-    {
-        match self {
-            ViewFault::TooLarge => "TooLarge",
-            ViewFault::Memory => "Memory",
-        }
-    }
-}
-
-impl fmt::Display for ViewFault {
-    ghost use Rattle.std.specs.Prelude.{Some};
-    ghost use Rattle.gv_view.specs.FaultTexts.{view_fault_text};
-
-    ghost output = { λ fault. Some (view_fault_text fault) };
+    ghost output = { λ _. Some (codes "TooLarge") };
 
     fn fmt<W: fmt::Write>(&self, f: &mut fmt::Formatter<W>) -> fmt::Result {
-        f.write_str(self.name())
+        f.write_str("TooLarge")
     }
 }
 
-impl Error for ViewFault {}
-
-impl From<AllocError> for ViewFault {
-    ghost from_gives = { λ _ e. e ≡ Memory };
-
-    fn from(_error: AllocError) -> ViewFault {
-        ViewFault::Memory
-    }
-}
-
-impl<T: Drop> From<AllocFailed<T>> for ViewFault {
-    ghost from_gives = { λ _ e. e ≡ Memory };
-
-    fn from(_error: AllocFailed<T>) -> ViewFault {
-        ViewFault::Memory
-    }
-}
+impl Error for TooLarge {}
 
 impl<'a> View<'a> {
     ghost use Rattle.gv_view.specs.Views.{value};
@@ -72,7 +40,7 @@ impl<'a> View<'a> {
     pub fn to_tree(self, alloc: Global) -> Result<Tree, ViewFault>
         ensures tree { IfOk result (λ t. t ≡ value self.entry) }
         ensures fits { OnOk result (is_too_large (value self.entry) ≡ false) }
-        ensures fault { IfErr result (λ f. f ≡ TooLarge → is_too_large (value self.entry) ≡ true) }
+        ensures fault { IfErr result (OfFault (λ _. is_too_large (value self.entry) ≡ true)) }
     {
         copied(alloc, self, View::MAX_LEVELS)
     }

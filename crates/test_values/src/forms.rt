@@ -149,7 +149,7 @@ const STEPS: &str = r"
 fn sums(alloc: Global, view: View<'_>) -> Result<Option<(u8, u64)>, Fail> {
     match view.to_tree(alloc) {
         Ok(tree) => Ok(Some((tree.depth(), tree.nodes()))),
-        Err(ViewFault::TooLarge) => Ok(None),
+        Err(ViewFault::Fault(_)) => Ok(None),
         Err(ViewFault::Memory) => Err(Fail::new("no memory")),
     }
 }

@@ -64,7 +64,7 @@ fn agree_on_some(alloc: Global, of: TypeStr<'_>, seed: u32) -> Result<bool, Fail
     }
     match normal_form(alloc, View::new(of, bytes.as_slice())) {
         Ok(form) => agree_on_form(alloc, of, form, seed),
-        Err(BuildFault::TooLarge) => Ok(true),
+        Err(BuildFault::Fault(_)) => Ok(true),
         Err(BuildFault::Memory) => Err(Fail::new("no memory")),
     }
 }

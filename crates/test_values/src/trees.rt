@@ -1,7 +1,7 @@
 //! Trees by example: each constructor, each of its refusals, and what trees tell of themselves.
 use crate::samples::{value, view};
 use crate::table::TableOf;
-use gv_tree::{Basic, Tree, TreeFault};
+use gv_tree::{Basic, Tree, TreeFault, TreeFlaw};
 use gv_types::TypeStr;
 use std::alloc::Global;
 use std::fmt::Write;
@@ -222,7 +222,7 @@ fn trees_are_made_or_refused(rt: HostRuntime) -> Result<(), Fail> {
     table(alloc, &mut TableOf::Tree, TREES)?;
     table(alloc, &mut TableOf::Equal, EQUALS)?;
     let mut said = String::new(alloc);
-    push_made(&mut said, Err(TreeFault::WrongType(12)))?;
+    push_made(&mut said, Err(TreeFault::Fault(TreeFlaw::WrongType(12))))?;
     push_made(&mut said, Err(TreeFault::Memory))?;
     assert!(rt; said.as_str() == "WrongType at 12Memory");
     Ok(())

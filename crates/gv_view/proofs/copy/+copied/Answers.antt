@@ -1,9 +1,11 @@
-use Rattle.std.proofs.Common.{◌≤◌, ◌-◌, ◌++◌, ap, ◌∙◌, arith, rules}
+use Rattle.std.proofs.Common.{◌≤◌, ◌<◌, ◌-◌, ◌++◌, ap, ◌∙◌, arith, rules}
 use Rattle.std.specs.Prelude.{map}
 use Rattle.std.proofs.lemmas.Result.{err_from_is_err_and}
+use Rattle.refused.proofs.Faults.{OfFault-weaker}
 use Rattle.gv_model.specs.Tree.{depth, children}
 use Rattle.gv_tree.specs.Nodes.{trees_of}
 use Rattle.gv_view.specs.Views.{view_ty, view_bytes, value, shown}
+use Rattle.gv_view.specs.declared.owned.TooLarge.{TooLarge}
 use Rattle.gv_view.specs.Children.{children_left}
 use Rattle.gv_view.proofs.Depths.{depth_children}
 use Rattle.gv_view.proofs.PartValues.{part_value, all_listed, all_lower, whole_depth, first_lower, first_depth, fitting, one_more}
@@ -11,7 +13,7 @@ use Rattle.gv_view.proofs.copy.+copied.Goals as goal
 use Rattle.gv_view.proofs.Copies.{always_ok}
 
 pub returns-then-levels-eq0-clause-fault : goal.returns-then-levels-eq0-clause-fault
-returns-then-levels-eq0-clause-fault t c = λ h. omega (arith, c.if-levels-eq0.true, depth_children (value c.args.view))
+returns-then-levels-eq0-clause-fault t c = omega (arith, c.if-levels-eq0.true, depth_children (value c.args.view))
 
 pub loop-child-init : goal.loop-child-init
 loop-child-init t c =
@@ -50,7 +52,8 @@ pub returns-in_err-copied-clause-fault : goal.returns-in_err-copied-clause-fault
 returns-in_err-copied-clause-fault t c =
     let p = err_from_is_err_and c.from_residual.result c.from_residual.ensures.1 in
     let low = first_lower (shown c.in-Some.child) (children_left c.next.new.self) (children_left c.loop-child.child-iterator) (depth (value c.args.view)) c.in-Some.ensures.steps c.loop-child.invariant.2 in
-    rw (p.1, p.2) (λ is. let deep = c.in_err-copied.ensures.fault is in omega (arith, low.0, deep, c.if-levels-eq0.false))
+    rw (p.1, p.2) (OfFault-weaker {F = TooLarge} (λ _. c.args.levels - 1 < depth (part_value (shown c.in-Some.child))) (λ _. c.args.levels < depth (value c.args.view))
+    (λ f deep. omega (arith, low.0, deep, c.if-levels-eq0.false)) _ c.in_err-copied.ensures.fault)
 
 pub returns-clause-fault : goal.returns-clause-fault
 returns-clause-fault t c = search rules

@@ -12,4 +12,4 @@ pub returns-in_ok-basic-in-Basic-clause-fault : goal.returns-in_ok-basic-in-Basi
 returns-in_ok-basic-in-Basic-clause-fault c =
     let class = sym c.in-Basic.is ∙ (c.class.ensures ∙ ap (λ s. class_of (ty s)) c.type_str.ensures) in
     MatchResult-weaker c.basic-in-Basic.result c.basic-in-Basic.ensures.fault (λ t h. tt)
-    (never_refused (view_ty c.args.view) (basic_of c.in-Basic.of) (view_bytes c.args.view) (basic_tree c.in_ok-basic-in-Basic.field-0) (basic_class (view_ty c.args.view) c.in-Basic.of class) c.in_ok-basic-in-Basic.ensures.value)
+    (never_refused (view_ty c.args.view) (basic_of c.in-Basic.of) (view_bytes c.args.view) (basic_tree c.in_ok-basic-in-Basic.field-0) (basic_class (view_ty c.args.view) c.in-Basic.of class) c.in_ok-basic-in-Basic.ensures)

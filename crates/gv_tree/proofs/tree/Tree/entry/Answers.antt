@@ -1,5 +1,6 @@
 use Rattle.std.proofs.Common.{arith, rules, ◌≡◌, ◌∷◌, [], ◌++◌, true, Some, sym, ap, ◌∙◌, subst}
 use Rattle.std.proofs.lemmas.Result.{err_from_is_err_and}
+use Rattle.refused.specs.declared.Refused.TheVariants.{Fault}
 use Rattle.gv_model.specs.Ty.{spellings}
 use Rattle.gv_model.specs.Ty.Ty.{basic, entry}
 use Rattle.gv_model.specs.Tree.{type_of}
@@ -27,7 +28,7 @@ returns-in_err-sizes-clause-fault c =
     let kind : type_of c.args.key ≡ basic key.0 = sym c.type_text.ensures.text ∙ key.1 in
     let vs = first c.args.key (first c.args.value none) in
     let p = err_from_is_err_and c.from_residual.result c.from_residual.ensures.1 in
-    rw (p.1, p.2) (subst (λ t. IsEntryFault (entry_at_key t c.args.key c.args.value) c.in_err-sizes.field-0.0) (sym kind) (c.in_err-sizes.ensures (entry key.0 (type_of c.args.value)) vs sums (entry_levels _ key.0 _ _ sums kind) (entry_bytes _ key.0 _ _ _ sums kind c.saturating_add.ensures)))
+    rw (p.1, p.2) (subst (λ t. IsEntryFault (entry_at_key t c.args.key c.args.value) (Fault c.in_err-sizes.field-0.0)) (sym kind) (c.in_err-sizes.ensures (entry key.0 (type_of c.args.value)) vs sums (entry_levels _ key.0 _ _ sums kind) (entry_bytes _ key.0 _ _ _ sums kind c.saturating_add.ensures)))
 
 pub seal-requires : goal.seal-requires
 seal-requires c =
