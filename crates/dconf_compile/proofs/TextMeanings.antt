@@ -7,7 +7,6 @@ use Rattle.std.proofs.lemmas.Bool.{lt-ltb, le-leb, lt-leb}
 use Rattle.gv_model.specs.Tree.{Tree, depth}
 use Rattle.gv_model.specs.Literals.{ValueFault as TheFault}
 use Rattle.gv_syntax.specs.ModelTokens.{fault_at_span}
-use Rattle.gv_syntax.specs.declared.fault.TextFault.TheVariants.{Refused, Memory}
 use Rattle.gv_infer.specs.Reads.{Reads, HasTypingFault, IsReadFault}
 use Rattle.gv_infer.specs.ValueFaults.{fault_of}
 use Rattle.gv_infer.specs.declared.fault.TypingFault.{TypingFault}
@@ -16,7 +15,7 @@ use Rattle.gv_infer.specs.declared.read_fault.ReadFault.{ReadFault}
 use Rattle.gv_infer.specs.declared.read_fault.ReadFault.TheVariants.{Text, Typing, Value}
 use Rattle.gv_build.specs.Faults.{IsUnbuildable, TooLarge}
 use Rattle.refused.specs.declared.Refused.{Refused}
-use Rattle.refused.specs.declared.Refused.TheVariants as builds
+use Rattle.refused.specs.declared.Refused.TheVariants.{Fault, Memory}
 use Rattle.dconf_model.specs.Bytes.{longest_file}
 use Rattle.dconf_model.specs.Causes.{SettingsCause}
 use Rattle.dconf_model.specs.Causes.SettingsCause.{text_fault, value_fault, too_large}
@@ -52,7 +51,7 @@ unvalued s (Some f) h = computed s (Err (value_fault f)) (h.syntax, h.tree, inr 
 unvalued s None h = tt
 
 pub fault_read : (s : List ℕ) (e : ReadFault) → IsReadFault s e → Faults s (read_cause_of e)
-fault_read s (Text (Refused cause span)) h = computed s (Err (text_fault (fault_at_span cause span))) h
+fault_read s (Text (Fault f)) h = computed s (Err (text_fault (fault_at_span f.cause f.span))) h
 fault_read s (Text Memory) h = tt
 fault_read s (Typing e) h = untyped s e h
 fault_read s (Value e) h = unvalued s (fault_of e) h
@@ -82,8 +81,8 @@ unstorable v a b e = rw e refl
 
 pub text_too_large : (s : List ℕ) (v : Tree) (e : Refused TooLarge) → value_of_text s ≡ Ok v → IsUnbuildable ((longest_file < length (stored v)) ⊎ (depth v ≡ 128)) e →
     IfSome (cause_of (build_cause e)) (λ c. text_compiled s ≡ Err c)
-text_too_large s v builds.Memory h why = tt
-text_too_large s v (builds.Fault _) h why = ap if_storable h ∙ go why
+text_too_large s v Memory h why = tt
+text_too_large s v (Fault _) h why = ap if_storable h ∙ go why
   where
     go : (longest_file < length (stored v)) ⊎ (depth v ≡ 128) → if_storable (Ok v) ≡ Err too_large
     go (inl long) =

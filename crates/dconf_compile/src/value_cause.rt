@@ -33,7 +33,7 @@ impl ValueCause {
         ensures { result ≡ is_double_cause_if_any (read_cause_of self.fault) }
     {
         match self.fault {
-            ReadFault::Text(TextFault::Refused { cause, .. }) => cause == TextCause::DoubleText,
+            ReadFault::Text(TextFault::Fault(flaw)) => flaw.cause == TextCause::DoubleText,
             ReadFault::Value(fault) => fault == ValueFault::DoubleText,
             _ => false,
         }
@@ -41,10 +41,9 @@ impl ValueCause {
 }
 
 impl fmt::Display for ValueCause {
-    ghost use Rattle.std.specs.Prelude.{Some};
     ghost use Rattle.gv_infer.specs.FaultTexts.{read_fault_text};
 
-    ghost output = { λ cause. Some (read_fault_text cause.fault) };
+    ghost output = { λ cause. read_fault_text cause.fault };
 
     fn fmt<W: fmt::Write>(&self, f: &mut fmt::Formatter<W>) -> fmt::Result {
         write!(f, "{}", self.fault)

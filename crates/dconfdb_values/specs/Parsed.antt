@@ -9,7 +9,7 @@ use Rattle.gv_model.specs.Normal.{IsNormal}
 use Rattle.gv_syntax.specs.declared.token.Span.{Span}
 use Rattle.gv_syntax.specs.declared.fault.TextCause.{TextCause}
 use Rattle.gv_syntax.specs.declared.fault.TextCause.TheVariants as causes
-use Rattle.gv_syntax.specs.declared.fault.TextFault.TheVariants as texts
+use Rattle.refused.specs.declared.Refused.TheVariants as texts
 use Rattle.gv_infer.specs.Reads.{IsReadFault, Reads}
 use Rattle.gv_infer.specs.TypingValues.{value_fault}
 use Rattle.gv_infer.specs.declared.read_fault.ReadFault.{ReadFault}
@@ -71,7 +71,7 @@ value_number values.BadObjectPath = 39
 value_number values.BadSignature = 40
 
 abbrev pub read_number : ReadFault → ℕ
-read_number (Text (texts.Refused cause span)) = text_number cause
+read_number (Text (texts.Fault f)) = text_number f.cause
 read_number (Text texts.Memory) = 1
 read_number (Typing fault) = value_number (value_fault fault)
 read_number (Value fault) = value_number fault
@@ -85,7 +85,7 @@ unparsed_number (Read fault) = read_number fault
 
 -- where the text's first fault is, if it is one of its tokens or of its syntax
 abbrev pub place_of : Unparsed → Span
-place_of (Read (Text (texts.Refused cause span))) = span
+place_of (Read (Text (texts.Fault f))) = f.span
 place_of _ = record { start = 0; end = 0 }
 
 -- the number and the place are told

@@ -57,7 +57,7 @@ impl Unparsed {
         ensures { result ≡ place_of self }
     {
         match self {
-            Unparsed::Read(ReadFault::Text(TextFault::Refused { span, .. })) => span,
+            Unparsed::Read(ReadFault::Text(TextFault::Fault(flaw))) => flaw.span,
             _ => Span { start: 0, end: 0 },
         }
     }
@@ -69,7 +69,7 @@ fn number_of_read(fault: ReadFault) -> u32
     ensures some { result ≢ 0 }
 {
     match fault {
-        ReadFault::Text(TextFault::Refused { cause, .. }) => number_of_text(cause),
+        ReadFault::Text(TextFault::Fault(flaw)) => number_of_text(flaw.cause),
         ReadFault::Text(TextFault::Memory) => 1,
         ReadFault::Typing(fault) => number_of_value(ValueFault::from(fault)),
         ReadFault::Value(fault) => number_of_value(fault),

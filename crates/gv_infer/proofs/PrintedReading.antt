@@ -13,7 +13,7 @@ use Rattle.gv_model.specs.TextValues.{HasChoice, HasValue}
 use Rattle.gv_model.specs.PrintedLaws.{ReadsBack}
 use Rattle.gv_model.proofs.TextOutcomes.{one_outcome, tree_no_fault}
 use Rattle.gv_model.proofs.PrintedReadBack.{reads_back}
-use Rattle.gv_syntax.specs.declared.fault.TextFault.TheVariants as texts
+use Rattle.refused.specs.declared.Refused.TheVariants as texts
 use Rattle.gv_syntax.specs.ModelTokens.{fault_at_span}
 use Rattle.gv_infer.specs.declared.fault.TypingFault.TheVariants as types
 use Rattle.gv_infer.specs.declared.value_fault.ValueFault.TheVariants as values
@@ -52,7 +52,7 @@ not_ambiguous : (t : Ty) (v : Tree) (b : ReadsBack t v) (x : Syntax) → IsTree 
 not_ambiguous t v b x tree h = let same : ambiguous ≡ is t = choice_is t v b x ambiguous tree h in absurd (cc)
 
 fault_is : (t : Ty) (v : Tree) (b : ReadsBack t v) (e : ReadFault) → IsReadFault (printed v true) e → IsWantOfMemory e
-fault_is t v b (Text (texts.Refused cause span)) h = absurd (tree_no_fault (printed v true) b.syntax (fault_at_span cause span) b.parses h)
+fault_is t v b (Text (texts.Fault f)) h = absurd (tree_no_fault (printed v true) b.syntax (fault_at_span f.cause f.span) b.parses h)
 fault_is t v b (Text texts.Memory) h = refl
 fault_is t v b (Typing types.NoCommonType) h = absurd (no_type_fault t v b h.syntax h.tree h.fault)
 fault_is t v b (Typing types.Ambiguous) h = absurd (not_ambiguous t v b h.syntax h.tree h.fault)

@@ -1,6 +1,7 @@
 -- How faults are printed: as the model's fault that each one is, or else as running out of memory.
-use Rattle.std.specs.Prelude.{ℕ, List, codes, option_map, unwrap_or}
+use Rattle.std.specs.Prelude.{ℕ, List, Option, Some, codes, option_map, unwrap_or}
 use Rattle.gv_model.specs.FaultTexts.{value_fault_text as fault_text}
+use Rattle.refused.specs.Faults.{refused_text}
 use Rattle.gv_syntax.specs.FaultTexts.{text_fault_text}
 use Rattle.gv_infer.specs.ValueFaults.{fault_of}
 use Rattle.gv_infer.specs.TypingValues.{value_fault}
@@ -15,7 +16,7 @@ value_fault_text e = unwrap_or (option_map fault_text (fault_of e)) (codes "Memo
 abbrev pub typing_fault_text : TypingFault → List ℕ
 typing_fault_text e = value_fault_text (value_fault e)
 
-abbrev pub read_fault_text : ReadFault → List ℕ
-read_fault_text (Text e) = text_fault_text e
-read_fault_text (Typing e) = typing_fault_text e
-read_fault_text (Value e) = value_fault_text e
+abbrev pub read_fault_text : ReadFault → Option (List ℕ)
+read_fault_text (Text e) = refused_text (λ f. Some (text_fault_text f)) e
+read_fault_text (Typing e) = Some (typing_fault_text e)
+read_fault_text (Value e) = Some (value_fault_text e)

@@ -6,7 +6,7 @@ use Rattle.gv_model.specs.Tree.{Tree, depth}
 use Rattle.gv_model.specs.Typed.{HasType}
 use Rattle.gv_model.specs.Printed.{printed, holds_double}
 use Rattle.gv_model.specs.Literals.{ValueFault as TheFault}
-use Rattle.gv_syntax.specs.declared.fault.TextFault.TheVariants as texts
+use Rattle.refused.specs.declared.Refused.TheVariants as texts
 use Rattle.gv_infer.specs.declared.fault.TypingFault.TheVariants as types
 use Rattle.gv_infer.specs.declared.value_fault.ValueFault.TheVariants as values
 use Rattle.gv_infer.specs.declared.read_fault.ReadFault.{ReadFault}

@@ -20,10 +20,9 @@ pub enum ReadFault {
 }
 
 impl fmt::Display for ReadFault {
-    ghost use Rattle.std.specs.Prelude.{Some};
     ghost use Rattle.gv_infer.specs.FaultTexts.{read_fault_text};
 
-    ghost output = { λ fault. Some (read_fault_text fault) };
+    ghost output = { read_fault_text };
 
     fn fmt<W: fmt::Write>(&self, f: &mut fmt::Formatter<W>) -> fmt::Result {
         match self {

@@ -16,14 +16,14 @@ use Rattle.gv_syntax.specs.declared.token.Mark.TheVariants.{CloseTuple, CloseBra
 use Rattle.gv_syntax.specs.declared.token.Span.{Span}
 use Rattle.gv_syntax.specs.declared.token.Token.{Token}
 use Rattle.gv_syntax.specs.declared.fault.TextCause.TheVariants.{Unclosed}
-use Rattle.gv_syntax.specs.declared.fault.TextFault.{TextFault}
-use Rattle.gv_syntax.specs.declared.fault.TextFault.TheVariants.{Refused}
+use Rattle.refused.specs.declared.Refused.{Refused}
+use Rattle.gv_syntax.specs.declared.fault.TextFlaw.{TextFlaw}
 use Rattle.gv_syntax.specs.declared.syntax.SyntaxNode.{SyntaxNode}
 use Rattle.gv_syntax.specs.declared.syntax.SyntaxKind.{SyntaxKind}
 use Rattle.gv_syntax.specs.declared.syntax.SyntaxKind.TheVariants.{Dictionary, Entry}
 use Rattle.gv_syntax.specs.SyntaxNodes.{nodes_of, pairs_of}
 use Rattle.gv_syntax.specs.ModelTokens.{token_of, mark_of}
-use Rattle.gv_syntax.specs.Expectations.{Want, first_fault, kinds_of, Taken, NotTaken, TakesMark, Stops, StopsWith, EndsValue, end_stage}
+use Rattle.gv_syntax.specs.Expectations.{Want, refused, first_fault, kinds_of, Taken, NotTaken, TakesMark, Stops, StopsWith, EndsValue, end_stage}
 use Rattle.gv_syntax.specs.ParseSteps.{IsValue, IsValueBefore, IsBraced, IsEntryAfter, ArePairs, AreMembers, AreMore}
 use Rattle.gv_syntax.proofs.ExpectationLaws.{Opens, Refuses, carried_in, carried_out, entered, taken, taken_tokens, not_taken, second_opens, wants_colon, wants_brace, wants_box}
 use Rattle.gv_syntax.proofs.SequenceLaws.{PairsSoFar, pairs_more, pairs_levels_more, members_of, no_longer}
@@ -32,11 +32,11 @@ use Rattle.gv_syntax.proofs.SequenceLaws.{PairsSoFar, pairs_more, pairs_levels_m
 abbrev pub Reaches : List Want → List Token → List Want → List Token → Type 0
 Reaches ws old vs mid = (e : Span) (more : List Want) → first_fault e (ws ++ more) old ≡ first_fault e (vs ++ more) mid
 
-pub stops_after : (ws vs : List Want) (old mid : List Token) (f : TextFault) → Reaches ws old vs mid → Stops vs mid f → Stops ws old f
+pub stops_after : (ws vs : List Want) (old mid : List Token) (f : Refused TextFlaw) → Reaches ws old vs mid → Stops vs mid f → Stops ws old f
 stops_after ws vs old mid f g h = carried_out f ws vs old mid h (λ e more. (more, g e more))
 
 -- a fault in a value that occurs in a bracket
-pub stops_in_value : (ws : List Want) (q : Stage) (d : ℕ) (at : Span) (old mid : List Token) (f ended : TextFault) → ended ≡ Refused Unclosed at → Reaches ws old (a_value d ∷ inside q d at ∷ []) mid → StopsWith ended (a_value d ∷ []) mid f → Stops ws old f
+pub stops_in_value : (ws : List Want) (q : Stage) (d : ℕ) (at : Span) (old mid : List Token) (f ended : Refused TextFlaw) → ended ≡ refused Unclosed at → Reaches ws old (a_value d ∷ inside q d at ∷ []) mid → StopsWith ended (a_value d ∷ []) mid f → Stops ws old f
 stops_in_value ws q d at old mid f ended i g h = carried_in f ended ws (a_value d ∷ []) old mid h (λ e more. (inside q d at ∷ more, g e more, sym i))
 
 -- a bracket's first value
@@ -54,17 +54,17 @@ holds_first r q m d at t ts old mid x o h k v = record {
 
 -- A value and the one mark that comes after it
 
-pub value_read : (m : TheMark) (d : ℕ) (at : Span) (old mid new : List Token) (r : Result (Unit {0}) TextFault) (x : Value) → IsValue d old mid x → TakesMark m at mid new r → IfOk (result_and r (Ok x)) (IsValueBefore m d old new)
+pub value_read : (m : TheMark) (d : ℕ) (at : Span) (old mid new : List Token) (r : Result (Unit {0}) (Refused TextFlaw)) (x : Value) → IsValue d old mid x → TakesMark m at mid new r → IfOk (result_and r (Ok x)) (IsValueBefore m d old new)
 value_read m d at old mid new (Ok u) x v t = record { between = mid; value = v; taken = t }
 value_read m d at old mid new (Err f) x v t = tt
 
-no_end : (m : Mark) (d : ℕ) (at : Span) (old : List Token) (f : TextFault) → EndsValue m → NotTaken (λ t. t ≡ mark (mark_of m)) at old f → Stops (inside (end_stage m) d at ∷ []) old f
+no_end : (m : Mark) (d : ℕ) (at : Span) (old : List Token) (f : Refused TextFlaw) → EndsValue m → NotTaken (λ t. t ≡ mark (mark_of m)) at old f → Stops (inside (end_stage m) d at ∷ []) old f
 no_end Colon d at old f c h = not_taken pair_colon (λ t. t ≡ mark colon) d at [] old f wants_colon h
 no_end CloseBrace d at old f c h = not_taken lone_end (λ t. t ≡ mark close_brace) d at [] old f wants_brace h
 no_end CloseVariant d at old f c h = not_taken box_end (λ t. t ≡ mark close_box) d at [] old f wants_box h
 no_end _ d at old f c h = absurd c
 
-pub not_ended : (m : Mark) (d : ℕ) (at : Span) (old mid new : List Token) (r : Result (Unit {0}) TextFault) (x : Value) → EndsValue m → IsValue d old mid x → TakesMark (mark_of m) at mid new r
+pub not_ended : (m : Mark) (d : ℕ) (at : Span) (old mid new : List Token) (r : Result (Unit {0}) (Refused TextFlaw)) (x : Value) → EndsValue m → IsValue d old mid x → TakesMark (mark_of m) at mid new r
     → IfErr (result_and r (Ok x)) (Stops (a_value d ∷ inside (end_stage m) d at ∷ []) old)
 not_ended m d at old mid new (Ok u) x c v t = tt
 not_ended m d at old mid new (Err f) x c v t =

@@ -12,13 +12,15 @@ use Rattle.gv_model.specs.GrammarFaults.Stage.{list_start, list_more, tuple_star
 use Rattle.gv_syntax.specs.declared.token.Span.{Span}
 use Rattle.gv_syntax.specs.declared.token.Token.{Token}
 use Rattle.gv_syntax.specs.declared.fault.TextCause.TheVariants.{Unclosed, Unexpected}
-use Rattle.gv_syntax.specs.declared.fault.TextFault.{TextFault}
-use Rattle.gv_syntax.specs.declared.fault.TextFault.TheVariants.{Refused, Memory}
+use Rattle.refused.specs.declared.Refused.{Refused}
+use Rattle.refused.specs.declared.Refused.TheVariants.{Fault, Memory}
+use Rattle.refused.proofs.Faults.{OfFault-weaker}
+use Rattle.gv_syntax.specs.declared.fault.TextFlaw.{TextFlaw}
 use Rattle.gv_syntax.specs.ModelTokens.{token_of}
-use Rattle.gv_syntax.specs.Expectations.{Want, fault_as, at_spans, wants_after, at_end, first_fault, kinds_of, Stops, StopsWith, Taken, NotTaken}
+use Rattle.gv_syntax.specs.Expectations.{Want, refused, fault_as, at_spans, wants_after, at_end, first_fault, kinds_of, Stops, StopsWith, Taken, NotTaken}
 
 -- the first fault after a step
-abbrev stepped : Span → List Want → List Token → Left Span → Option TextFault
+abbrev stepped : Span → List Want → List Token → Left Span → Option (Refused TextFlaw)
 stepped e more ts r = option_map fault_as (or_fault r (first_fault_at e (wants_of r ++ more) (at_spans ts)))
 
 -- one token, which goes on to these wants, or is the fault
@@ -35,34 +37,30 @@ unfolding first_fault first_fault_at
 ends w e more = refl
 
 -- a fault after a part that passes
-pub carried : (f ended inner : TextFault) (ws vs : List Want) (old mid : List Token) → StopsWith inner vs mid f
+pub carried : (f ended inner : Refused TextFlaw) (ws vs : List Want) (old mid : List Token) → StopsWith inner vs mid f
     → ((e : Span) (more : List Want) → at_end e more ≡ ended → (rest : List Want) × (first_fault e (ws ++ more) old ≡ first_fault e (vs ++ rest) mid) × (at_end e rest ≡ inner))
     → StopsWith ended ws old f
-carried Memory ended inner ws vs old mid h g = tt
-carried (Refused c s) ended inner ws vs old mid h g = λ e more q. let k = g e more q in k.1 ∙ h e k.0 k.2
+carried f ended inner ws vs old mid h g = OfFault-weaker _ _ (λ x stop e more q. let k = g e more q in k.1 ∙ stop e k.0 k.2) f h
 
 -- the same where the fault is in a bracket
-pub carried_in : (f inner : TextFault) (ws vs : List Want) (old mid : List Token) → StopsWith inner vs mid f
+pub carried_in : (f inner : Refused TextFlaw) (ws vs : List Want) (old mid : List Token) → StopsWith inner vs mid f
     → ((e : Span) (more : List Want) → (rest : List Want) × (first_fault e (ws ++ more) old ≡ first_fault e (vs ++ rest) mid) × (at_end e rest ≡ inner))
     → Stops ws old f
-carried_in Memory inner ws vs old mid h g = tt
-carried_in (Refused c s) inner ws vs old mid h g = λ e more. let k = g e more in k.1 ∙ h e k.0 k.2
+carried_in f inner ws vs old mid h g = OfFault-weaker _ _ (λ x stop e more. let k = g e more in k.1 ∙ stop e k.0 k.2) f h
 
-pub carried_out : (f : TextFault) (ws vs : List Want) (old mid : List Token) → Stops vs mid f
+pub carried_out : (f : Refused TextFlaw) (ws vs : List Want) (old mid : List Token) → Stops vs mid f
     → ((e : Span) (more : List Want) → (rest : List Want) × (first_fault e (ws ++ more) old ≡ first_fault e (vs ++ rest) mid))
     → Stops ws old f
-carried_out Memory ws vs old mid h g = tt
-carried_out (Refused c s) ws vs old mid h g = λ e more. let k = g e more in k.1 ∙ h e k.0
+carried_out f ws vs old mid h g = OfFault-weaker _ _ (λ x stop e more. let k = g e more in k.1 ∙ stop e k.0) f h
 
-pub always : (f ended : TextFault) (ws : List Want) (old : List Token) → Stops ws old f → StopsWith ended ws old f
-always Memory ended ws old h = tt
-always (Refused c s) ended ws old h = λ e more q. h e more
+pub always : (f ended : Refused TextFlaw) (ws : List Want) (old : List Token) → Stops ws old f → StopsWith ended ws old f
+always f ended ws old h = OfFault-weaker _ _ (λ x stop e more q. stop e more) f h
 
 -- the end of the tokens in a bracket
-pub unclosed : (r : Stage) (d : ℕ) (at : Span) (ws : List Want) (f : TextFault) (old : List Token) → old ≡ [] → f ≡ Refused Unclosed at → Stops (inside r d at ∷ ws) old f
+pub unclosed : (r : Stage) (d : ℕ) (at : Span) (ws : List Want) (f : Refused TextFlaw) (old : List Token) → old ≡ [] → f ≡ refused Unclosed at → Stops (inside r d at ∷ ws) old f
 unclosed r d at ws f old h g = subst (λ ts. Stops (inside r d at ∷ ws) ts f) (sym h) (subst (λ x. Stops (inside r d at ∷ ws) [] x) (sym g) (λ e more. ends (inside r d at) e (ws ++ more)))
 
-pub other : (w : Want) (ws : List Want) (f : TextFault) (t : Token) (ts old : List Token) → old ≡ t ∷ ts → f ≡ Refused Unexpected t.span → step 128 w t.span (token_of t.kind) ≡ Err (unexpected, t.span) → Stops (w ∷ ws) old f
+pub other : (w : Want) (ws : List Want) (f : Refused TextFlaw) (t : Token) (ts old : List Token) → old ≡ t ∷ ts → f ≡ refused Unexpected t.span → step 128 w t.span (token_of t.kind) ≡ Err (unexpected, t.span) → Stops (w ∷ ws) old f
 other w ws f t ts old h g k = subst (λ us. Stops (w ∷ ws) us f) (sym h) (subst (λ x. Stops (w ∷ ws) (t ∷ ts) x) (sym g) (λ e more. halts w (unexpected, t.span) t ts k e (ws ++ more)))
 
 -- Where a bracket wants one mark alone, another token can't occur
@@ -111,7 +109,7 @@ pair_wants d at s (mark _) h = refl
 pair_wants d at s _ h = refl
 
 -- a mark that is wanted and isn't there
-pub not_taken : (r : Stage) (IsRight : TheToken → Type 0) (d : ℕ) (at : Span) (ws : List Want) (old : List Token) (f : TextFault) → Refuses r IsRight → NotTaken IsRight at old f → Stops (inside r d at ∷ ws) old f
+pub not_taken : (r : Stage) (IsRight : TheToken → Type 0) (d : ℕ) (at : Span) (ws : List Want) (old : List Token) (f : Refused TextFlaw) → Refuses r IsRight → NotTaken IsRight at old f → Stops (inside r d at ∷ ws) old f
 not_taken r IsRight d at ws old f k (inl h) = unclosed r d at ws f old h.0 h.1
 not_taken r IsRight d at ws old f k (inr o) = other (inside r d at) ws f o.first o.later old o.tokens o.fault (k d at o.first.span (token_of o.first.kind) o.kind)
 
@@ -174,11 +172,11 @@ begins d t ts h l e more = goes (a_value d) (wants_after d t.span (token_of t.ki
     go None i = absurd cc
 
 -- a token that doesn't, or is too deep
-pub does_not_begin : (d : ℕ) (t : Token) (ts : List Token) (f : TextFault) → option_map fault_as (or_fault (begun 128 d t.span [] (begun_wants d t.span (token_of t.kind))) None) ≡ Some f → Stops (a_value d ∷ []) (t ∷ ts) f
+pub does_not_begin : (d : ℕ) (t : Token) (ts : List Token) (f : Refused TextFlaw) → option_map fault_as (or_fault (begun 128 d t.span [] (begun_wants d t.span (token_of t.kind))) None) ≡ Some f → Stops (a_value d ∷ []) (t ∷ ts) f
 does_not_begin d t ts Memory h = tt
-does_not_begin d t ts (Refused c s) h = λ e more. go (begun 128 d t.span [] (begun_wants d t.span (token_of t.kind))) refl h e more
+does_not_begin d t ts (Fault x) h = λ e more. go (begun 128 d t.span [] (begun_wants d t.span (token_of t.kind))) refl h e more
   where
-    go : (r : Left Span) → step 128 (a_value d) t.span (token_of t.kind) ≡ r → option_map fault_as (or_fault r None) ≡ Some (Refused c s) → (e : Span) (more : List Want) → first_fault e (a_value d ∷ more) (t ∷ ts) ≡ Some (Refused c s)
+    go : (r : Left Span) → step 128 (a_value d) t.span (token_of t.kind) ≡ r → option_map fault_as (or_fault r None) ≡ Some (Fault x) → (e : Span) (more : List Want) → first_fault e (a_value d ∷ more) (t ∷ ts) ≡ Some (Fault x)
     go (Ok vs) q g = absurd cc
     go (Err f) q g = λ e more. halts (a_value d) f t ts q e more ∙ g
 
@@ -187,9 +185,9 @@ pub entered : (r q : Stage) (m : TheMark) (d : ℕ) (at : Span) (t : Token) (ts 
 entered r q m d at t ts old o h k e more = ap (first_fault e (inside r d at ∷ more)) h ∙ enters r q d at t ts (o d at t.span (token_of t.kind) k) e more
 
 -- no token where a value is wanted
-pub missing : (d : ℕ) (f ended : TextFault) (old : List Token) → old ≡ [] → f ≡ ended → StopsWith ended (a_value d ∷ []) old f
+pub missing : (d : ℕ) (f ended : Refused TextFlaw) (old : List Token) → old ≡ [] → f ≡ ended → StopsWith ended (a_value d ∷ []) old f
 missing d f ended old h g = go f g
   where
-    go : (x : TextFault) → x ≡ ended → StopsWith ended (a_value d ∷ []) old x
+    go : (x : Refused TextFlaw) → x ≡ ended → StopsWith ended (a_value d ∷ []) old x
     go Memory i = tt
-    go (Refused c s) i = λ e more q. ap (first_fault e (a_value d ∷ more)) h ∙ (ends (a_value d) e more ∙ ap Some (q ∙ sym i))
+    go (Fault x) i = λ e more q. ap (first_fault e (a_value d ∷ more)) h ∙ (ends (a_value d) e more ∙ ap Some (q ∙ sym i))

@@ -16,13 +16,15 @@ use Rattle.gv_syntax.specs.declared.token.Span.{Span}
 use Rattle.gv_syntax.specs.declared.token.Token.{Token}
 use Rattle.gv_syntax.specs.declared.fault.TextCause.{TextCause}
 use Rattle.gv_syntax.specs.declared.fault.TextCause.TheVariants.{Unexpected}
-use Rattle.gv_syntax.specs.declared.fault.TextFault.{TextFault}
-use Rattle.gv_syntax.specs.declared.fault.TextFault.TheVariants.{Refused, Memory}
+use Rattle.refused.specs.declared.Refused.{Refused}
+use Rattle.refused.specs.declared.Refused.TheVariants.{Fault}
+use Rattle.refused.proofs.Faults.{OfFault-weaker}
+use Rattle.gv_syntax.specs.declared.fault.TextFlaw.{TextFlaw}
 use Rattle.gv_model.specs.Syntax.{Syntax as Value}
 use Rattle.gv_syntax.specs.ModelTokens.{token_of, placed_of, cause_of, fault_at_span, AreTokens, IsTokenFault}
 use Rattle.gv_syntax.specs.Parsed.{IsGrammarFault, IsTextFault, IsTreeOf, IsWithin}
 use Rattle.gv_syntax.specs.ParseSteps.{IsValue}
-use Rattle.gv_syntax.specs.Expectations.{cause_as, fault_as, at_spans, first_fault, kinds_of}
+use Rattle.gv_syntax.specs.Expectations.{cause_as, refused, fault_as, at_spans, first_fault, kinds_of}
 
 -- Where a numbered token is; the number past the last is the end of the text
 
@@ -80,33 +82,31 @@ fault_in_text size c None = ap (λ k. fault_at_token size k None) (cause_back c)
 fault_in_text size c (Some t) = ap (λ k. fault_at_token size k (Some (placed_of t))) (cause_back c)
 
 -- the first fault of a text's tokens is the text's
-pub fault_of_text : (text : List ℕ) (ts : List Token) (c : TextCause) (s : Span) → Lexes 0 text (map placed_of ts) None → first_fault (end_of (length text)) (a_value 1 ∷ []) ts ≡ Some (Refused c s) → HasFault text (fault_at_span c s)
-fault_of_text text ts c s l h = record { placed = map placed_of ts; stopped = None; lexes = l; fault = go (grammar_fault (kinds_of ts)) refl (sym (fault_by_numbers (end_of (length text)) ts) ∙ h) }
+pub fault_of_text : (text : List ℕ) (ts : List Token) (e : TextFlaw) → Lexes 0 text (map placed_of ts) None → first_fault (end_of (length text)) (a_value 1 ∷ []) ts ≡ Some (Fault e) → HasFault text (fault_at_span e.cause e.span)
+fault_of_text text ts e l h = record { placed = map placed_of ts; stopped = None; lexes = l; fault = go (grammar_fault (kinds_of ts)) refl (sym (fault_by_numbers (end_of (length text)) ts) ∙ h) }
   where
     spans : ℕ → Span
     spans n = span_at (end_of (length text)) ts n
 
-    go : (o : Option NumberedFault) → grammar_fault (kinds_of ts) ≡ o → option_map fault_as (option_map (move_fault spans) o) ≡ Some (Refused c s) → (f : NumberedFault)
-        × (grammar_fault (kinds (map placed_of ts)) ≡ Some f) × (fault_at_span c s ≡ fault_at_token (length text) f.0 (slice_get (map placed_of ts) f.1))
-    go None e g = absurd cc
-    go (Some f) e g = (f, ap grammar_fault (kinds_placed ts) ∙ e, refused f g ∙ (fault_in_text (length text) f.0 (slice_get ts f.1) ∙ ap (fault_at_token (length text) f.0) (sym (slice_get-map placed_of ts f.1))))
+    go : (o : Option NumberedFault) → grammar_fault (kinds_of ts) ≡ o → option_map fault_as (option_map (move_fault spans) o) ≡ Some (Fault e) → (f : NumberedFault)
+        × (grammar_fault (kinds (map placed_of ts)) ≡ Some f) × (fault_at_span e.cause e.span ≡ fault_at_token (length text) f.0 (slice_get (map placed_of ts) f.1))
+    go None is g = absurd cc
+    go (Some f) is g = (f, ap grammar_fault (kinds_placed ts) ∙ is, same_fault f g ∙ (fault_in_text (length text) f.0 (slice_get ts f.1) ∙ ap (fault_at_token (length text) f.0) (sym (slice_get-map placed_of ts f.1))))
       where
-        refused : (f : NumberedFault) → Some (fault_as (move_fault spans f)) ≡ Some (Refused c s) → fault_at_span c s ≡ fault_at_span (cause_as f.0) (spans f.1)
-        refused f g = cc
+        same_fault : (f : NumberedFault) → Some (fault_as (move_fault spans f)) ≡ Some (Fault e) → fault_at_span e.cause e.span ≡ fault_at_span (cause_as f.0) (spans f.1)
+        same_fault f g = let same : e ≡ record { cause = cause_as f.0; span = spans f.1 } = cc in ap (λ (x : TextFlaw). fault_at_span x.cause x.span) same
 
 -- a token after the value
-pub too_many : (size : ℕ) (all old mid : List Token) (t : Token) (new : List Token) (f : TextFault) → old ≡ all → f ≡ Refused Unexpected t.span → (x : Value) → IsValue 1 old mid x → mid ≡ t ∷ new → IsGrammarFault size all f
+pub too_many : (size : ℕ) (all old mid : List Token) (t : Token) (new : List Token) (f : Refused TextFlaw) → old ≡ all → f ≡ refused Unexpected t.span → (x : Value) → IsValue 1 old mid x → mid ≡ t ∷ new → IsGrammarFault size all f
 unfolding first_fault first_fault_at
 too_many size all old mid t new f o h x v m = subst (λ ts. IsGrammarFault size ts f) o (subst (IsGrammarFault size old) (sym h) (v.passes (end_of size) [] ∙ ap (first_fault (end_of size) []) m))
 
 -- a fault of a text's tokens, and one of its grammar
-pub token_fault : (text : List ℕ) (f : TextFault) → IsTokenFault text f → IsTextFault text f
-token_fault text Memory h = tt
-token_fault text (Refused c s) h = record { placed = h.0; stopped = Some (fault_at_span c s); lexes = h.1; fault = refl }
+pub token_fault : (text : List ℕ) (f : Refused TextFlaw) → IsTokenFault text f → IsTextFault text f
+token_fault text f h = OfFault-weaker _ _ (λ e l. record { placed = l.0; stopped = Some (fault_at_span e.cause e.span); lexes = l.1; fault = refl }) f h
 
-pub grammar_fault_of : (text : List ℕ) (ts : List Token) (f : TextFault) → AreTokens text ts → IsGrammarFault (length text) ts f → IsTextFault text f
-grammar_fault_of text ts Memory l h = tt
-grammar_fault_of text ts (Refused c s) l h = fault_of_text text ts c s l h
+pub grammar_fault_of : (text : List ℕ) (ts : List Token) (f : Refused TextFlaw) → AreTokens text ts → IsGrammarFault (length text) ts f → IsTextFault text f
+grammar_fault_of text ts f l h = OfFault-weaker _ _ (λ e g. fault_of_text text ts e l g) f h
 
 -- the tree of a text's tokens is the text's
 pub tree_of_text : (text : List ℕ) (ts : List Token) (x : Value) → AreTokens text ts → IsTreeOf ts x → IsTree text x

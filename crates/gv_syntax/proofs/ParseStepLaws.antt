@@ -18,7 +18,8 @@ use Rattle.gv_syntax.specs.declared.token.Mark.{Mark}
 use Rattle.gv_syntax.specs.declared.token.Mark.TheVariants.{CloseArray, CloseTuple}
 use Rattle.gv_syntax.specs.declared.token.Span.{Span}
 use Rattle.gv_syntax.specs.declared.token.Token.{Token}
-use Rattle.gv_syntax.specs.declared.fault.TextFault.{TextFault}
+use Rattle.refused.specs.declared.Refused.{Refused}
+use Rattle.gv_syntax.specs.declared.fault.TextFlaw.{TextFlaw}
 use Rattle.gv_syntax.specs.declared.syntax.SyntaxNode.{SyntaxNode}
 use Rattle.gv_syntax.specs.declared.syntax.SyntaxKind.{SyntaxKind}
 use Rattle.gv_syntax.specs.declared.syntax.SyntaxKind.TheVariants.{Array, Tuple, Truth, Integer, Text, ByteString, Variant, Just, Nothing, OfType, Keyword}
@@ -140,7 +141,7 @@ pub took_close : (m : TheMark) (at : Span) (old new : List Token) (b : Bool) →
 took_close m at old new false e h = h
 took_close m at old new true e h = absurd cc
 
-pub not_separated : (close : Mark) (d : ℕ) (at : Span) (old : List Token) (f : TextFault) → ClosesValues close → NotTaken (λ t. (t ≡ mark comma) ⊎ (t ≡ mark (mark_of close))) at old f → Stops (inside (more_stage close) d at ∷ []) old f
+pub not_separated : (close : Mark) (d : ℕ) (at : Span) (old : List Token) (f : Refused TextFlaw) → ClosesValues close → NotTaken (λ t. (t ≡ mark comma) ⊎ (t ≡ mark (mark_of close))) at old f → Stops (inside (more_stage close) d at ∷ []) old f
 not_separated CloseArray d at old f c h = not_taken list_more (Either close_list) d at [] old f list_wants h
 not_separated CloseTuple d at old f c h = not_taken tuple_more (Either close_tuple) d at [] old f tuple_wants h
 not_separated _ d at old f c h = absurd c

@@ -9,14 +9,15 @@ use Rattle.gv_model.specs.Lexing.{Start, start, token_at, token_by}
 use Rattle.gv_model.specs.Lexing.Start.{of_string, of_byte_string, of_word, of_type}
 use Rattle.gv_syntax.specs.LexSteps.{IsLexed, placed_as, quoted_at}
 use Rattle.gv_syntax.specs.declared.token.Token.{Token}
-use Rattle.gv_syntax.specs.declared.fault.TextFault.{TextFault}
+use Rattle.refused.specs.declared.Refused.{Refused}
+use Rattle.gv_syntax.specs.declared.fault.TextFlaw.{TextFlaw}
 use Rattle.gv_syntax.proofs.Lists.{prefix_byte, prefix_taken, rest_after}
 use Rattle.gv_syntax.proofs.NumeralLaws.{run_slice}
 use Rattle.gv_syntax.specs.declared.token.TokenKind.{TokenKind}
 use Rattle.gv_syntax.specs.declared.fault.TextCause.{TextCause}
 
 abbrev Answer : Type 0
-Answer = Result Token TextFault
+Answer = Result Token (Refused TextFlaw)
 
 -- the token is as its kind says
 pub found_by : (k : Start) (at c : ℕ) (cs : List ℕ) (r : Answer) → k ≡ start c cs → IsLexed (token_by k at c cs) r → IsLexed (token_at at c cs) r

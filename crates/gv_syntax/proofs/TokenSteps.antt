@@ -11,8 +11,9 @@ use Rattle.gv_model.proofs.TokenLoops.{TokensSoFar, one_more, at_last}
 use Rattle.gv_model.proofs.TokenSizes.{prefix_short}
 use Rattle.gv_syntax.specs.ModelTokens.{IsTokenFault, fault_at_span}
 use Rattle.gv_syntax.specs.LexSteps.{IsFaultOf}
-use Rattle.gv_syntax.specs.declared.fault.TextFault.{TextFault}
-use Rattle.gv_syntax.specs.declared.fault.TextFault.TheVariants.{Refused, Memory}
+use Rattle.refused.specs.declared.Refused.{Refused}
+use Rattle.refused.specs.declared.Refused.TheVariants as refused
+use Rattle.gv_syntax.specs.declared.fault.TextFlaw.{TextFlaw}
 use Rattle.gv_syntax.proofs.Lists.{length_of_drop}
 
 -- what the token at a place is, whatever the bytes there are called
@@ -53,10 +54,10 @@ text_last text at n prefix e l so_far =
     at_last text at prefix None so_far (subst (λ m. EndsWith (at + m) (drop m (drop at text)) None) e there)
 
 -- a fault of a token is the text's
-pub fault_found : (text : List ℕ) (at n : ℕ) (prefix : List Placed) (e : TextFault) → n ≡ blanks (drop at text) → at + n < length text → TokensSoFar text at prefix
+pub fault_found : (text : List ℕ) (at n : ℕ) (prefix : List Placed) (e : Refused TextFlaw) → n ≡ blanks (drop at text) → at + n < length text → TokensSoFar text at prefix
     → ((c : ℕ) (cs : List ℕ) → drop (at + n) text ≡ c ∷ cs → IsFaultOf (token_at (at + n) c cs) e) → IsTokenFault text e
-fault_found text at n prefix (Refused cause span) e l so_far is = (prefix, fault_last text at n prefix (fault_at_span cause span) e l so_far is)
-fault_found text at n prefix Memory e l so_far is = tt
+fault_found text at n prefix (refused.Fault x) e l so_far is = (prefix, fault_last text at n prefix (fault_at_span x.cause x.span) e l so_far is)
+fault_found text at n prefix refused.Memory e l so_far is = tt
 
 pub blanks_fit : (text : List ℕ) (at n : ℕ) → n ≡ blanks (drop at text) → at ≤ length text → at + n ≤ length text
 blanks_fit text at n e l = omega (arith, e, l, length_of_drop at text, prefix_short is_blank (drop at text))

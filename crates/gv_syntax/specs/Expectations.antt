@@ -16,8 +16,10 @@ use Rattle.gv_syntax.specs.declared.token.Span.{Span}
 use Rattle.gv_syntax.specs.declared.token.Token.{Token}
 use Rattle.gv_syntax.specs.declared.fault.TextCause.{TextCause}
 use Rattle.gv_syntax.specs.declared.fault.TextCause.TheVariants.{BadToken, Unclosed, BadEscape, DoubleText, Unexpected, TooDeep}
-use Rattle.gv_syntax.specs.declared.fault.TextFault.{TextFault}
-use Rattle.gv_syntax.specs.declared.fault.TextFault.TheVariants.{Refused, Memory}
+use Rattle.refused.specs.declared.Refused.{Refused}
+use Rattle.refused.specs.declared.Refused.TheVariants.{Fault}
+use Rattle.refused.specs.Faults.{OfFault}
+use Rattle.gv_syntax.specs.declared.fault.TextFlaw.{TextFlaw}
 use Rattle.gv_syntax.specs.ModelTokens.{token_of}
 
 abbrev pub cause_as : Cause → TextCause
@@ -29,8 +31,11 @@ cause_as unexpected = Unexpected
 cause_as too_deep = TooDeep
 
 -- the fault that the caller gets
-abbrev pub fault_as : FaultAt Span → TextFault
-fault_as f = Refused (cause_as f.0) f.1
+abbrev pub refused : TextCause → Span → Refused TextFlaw
+refused cause span = Fault (record { cause = cause; span = span })
+
+abbrev pub fault_as : FaultAt Span → Refused TextFlaw
+fault_as f = refused (cause_as f.0) f.1
 
 abbrev pub Want : Type 0
 Want = WantAt Span
@@ -39,11 +44,11 @@ abbrev pub at_spans : List Token → List (Span × TheToken)
 at_spans ts = map (λ t. (t.span, token_of t.kind)) ts
 
 -- the fault where the text ends there and these things are wanted
-abbrev pub at_end : Span → List Want → TextFault
+abbrev pub at_end : Span → List Want → Refused TextFlaw
 at_end end wants = fault_as (end_fault end wants)
 
 -- the first fault of tokens where these things are wanted in this order and the text ends there
-unfoldable pub first_fault : Span → List Want → List Token → Option TextFault
+unfoldable pub first_fault : Span → List Want → List Token → Option (Refused TextFlaw)
 first_fault end wants ts = option_map fault_as (first_fault_at end wants (at_spans ts))
 
 abbrev pub kinds_of : List Token → List TheToken
@@ -62,14 +67,12 @@ abbrev pub Passes : List Want → List Token → List Token → Type 0
 Passes ws old new = (end : Span) (more : List Want) → first_fault end (ws ++ more) old ≡ first_fault end more new
 
 -- this fault is in them, where the text's end would be that one
-abbrev pub StopsWith : TextFault → List Want → List Token → TextFault → Type 0
-StopsWith ended ws old Memory = Unit {0}
-StopsWith ended ws old (Refused cause span) = (end : Span) (more : List Want) → at_end end more ≡ ended → first_fault end (ws ++ more) old ≡ Some (Refused cause span)
+abbrev pub StopsWith : Refused TextFlaw → List Want → List Token → Refused TextFlaw → Type 0
+StopsWith ended ws old fault = OfFault (λ f. (end : Span) (more : List Want) → at_end end more ≡ ended → first_fault end (ws ++ more) old ≡ Some (Fault f)) fault
 
 -- this fault is in them, whatever follows
-abbrev pub Stops : List Want → List Token → TextFault → Type 0
-Stops ws old Memory = Unit {0}
-Stops ws old (Refused cause span) = (end : Span) (more : List Want) → first_fault end (ws ++ more) old ≡ Some (Refused cause span)
+abbrev pub Stops : List Want → List Token → Refused TextFlaw → Type 0
+Stops ws old fault = OfFault (λ f. (end : Span) (more : List Want) → first_fault end (ws ++ more) old ≡ Some (Fault f)) fault
 
 -- the first token is this one
 pub record Taken (t : TheToken) (old new : List Token) : Type 0 where
@@ -78,21 +81,21 @@ pub record Taken (t : TheToken) (old new : List Token) : Type 0 where
   pub kind : token_of first.kind ≡ t
 
 -- no token is left in the bracket that was opened there, or else one that is other than it should be
-pub record OneOther (IsRight : TheToken → Type 0) (old : List Token) (f : TextFault) : Type 0 where
+pub record OneOther (IsRight : TheToken → Type 0) (old : List Token) (f : Refused TextFlaw) : Type 0 where
   pub first : Token
   pub later : List Token
   pub tokens : old ≡ first ∷ later
   pub kind : IsRight (token_of first.kind) → ⊥
-  pub fault : f ≡ Refused Unexpected first.span
+  pub fault : f ≡ refused Unexpected first.span
 
-abbrev pub NotTaken : (TheToken → Type 0) → Span → List Token → TextFault → Type 0
-NotTaken IsRight opened old f = ((old ≡ []) × (f ≡ Refused Unclosed opened)) ⊎ OneOther IsRight old f
+abbrev pub NotTaken : (TheToken → Type 0) → Span → List Token → Refused TextFlaw → Type 0
+NotTaken IsRight opened old f = ((old ≡ []) × (f ≡ refused Unclosed opened)) ⊎ OneOther IsRight old f
 
-abbrev pub TakesMark : TheMark → Span → List Token → List Token → Result (Unit {0}) TextFault → Type 0
+abbrev pub TakesMark : TheMark → Span → List Token → List Token → Result (Unit {0}) (Refused TextFlaw) → Type 0
 TakesMark m opened old new (Ok x) = Taken (mark m) old new
 TakesMark m opened old new (Err f) = NotTaken (λ t. t ≡ mark m) opened old f
 
-abbrev pub TakesSeparator : TheMark → Span → List Token → List Token → Result Bool TextFault → Type 0
+abbrev pub TakesSeparator : TheMark → Span → List Token → List Token → Result Bool (Refused TextFlaw) → Type 0
 TakesSeparator m opened old new (Ok true) = Taken (mark comma) old new
 TakesSeparator m opened old new (Ok false) = Taken (mark m) old new
 TakesSeparator m opened old new (Err f) = NotTaken (λ t. (t ≡ mark comma) ⊎ (t ≡ mark m)) opened old f

@@ -12,8 +12,9 @@ use Rattle.gv_syntax.specs.ModelTokens.{placed_of, token_of, cause_of, fault_at_
 use Rattle.gv_syntax.specs.declared.token.Token.{Token}
 use Rattle.gv_syntax.specs.declared.token.TokenKind.{TokenKind}
 use Rattle.gv_syntax.specs.declared.fault.TextCause.{TextCause}
-use Rattle.gv_syntax.specs.declared.fault.TextFault.{TextFault}
-use Rattle.gv_syntax.specs.declared.fault.TextFault.TheVariants.{Refused, Memory}
+use Rattle.refused.specs.declared.Refused.{Refused}
+use Rattle.refused.specs.Faults.{OfFault}
+use Rattle.gv_syntax.specs.declared.fault.TextFlaw.{TextFlaw}
 use Rattle.gv_syntax.specs.declared.lexing.part.Part.{Part}
 use Rattle.gv_syntax.specs.declared.lexing.part.Part.TheVariants.{Char, Closes, Faulty}
 use Rattle.gv_syntax.specs.declared.lexing.start.Start.{Start}
@@ -21,12 +22,11 @@ use Rattle.gv_syntax.specs.declared.lexing.start.Start.TheVariants.{OfText, OfBy
 use Rattle.gv_syntax.specs.declared.lexing.start.Start.TheVariants.{OfMark}
 
 -- a fault is what reading gives; running out of memory says nothing of the text
-abbrev pub IsFaultOf : {A : Type 0} → Result A Fault → TextFault → Type 0
-IsFaultOf r (Refused cause span) = r ≡ Err (fault_at_span cause span)
-IsFaultOf r Memory = Unit {0}
+abbrev pub IsFaultOf : {A : Type 0} → Result A Fault → Refused TextFlaw → Type 0
+IsFaultOf r fault = OfFault (λ f. r ≡ Err (fault_at_span f.cause f.span)) fault
 
 -- reading gives this token, or this fault
-abbrev pub IsLexed : Result Placed Fault → Result Token TextFault → Type 0
+abbrev pub IsLexed : Result Placed Fault → Result Token (Refused TextFlaw) → Type 0
 IsLexed r found = MatchResult found (λ t. r ≡ Ok (placed_of t)) (IsFaultOf r)
 
 -- a kind of token, or a cause, between two places

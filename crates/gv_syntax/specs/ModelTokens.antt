@@ -19,8 +19,9 @@ use Rattle.gv_syntax.specs.declared.token.Word.{Word}
 use Rattle.gv_syntax.specs.declared.token.Word.TheVariants.{Truth, Just, Nothing, «Type»}
 use Rattle.gv_syntax.specs.declared.fault.TextCause.{TextCause}
 use Rattle.gv_syntax.specs.declared.fault.TextCause.TheVariants.{BadToken, Unclosed, BadEscape, DoubleText, Unexpected, TooDeep}
-use Rattle.gv_syntax.specs.declared.fault.TextFault.{TextFault}
-use Rattle.gv_syntax.specs.declared.fault.TextFault.TheVariants.{Refused, Memory}
+use Rattle.refused.specs.declared.Refused.{Refused}
+use Rattle.refused.specs.Faults.{OfFault}
+use Rattle.gv_syntax.specs.declared.fault.TextFlaw.{TextFlaw}
 
 abbrev pub mark_of : Mark → TheMark
 mark_of OpenTuple = open_tuple
@@ -69,6 +70,5 @@ abbrev pub AreTokens : List ℕ → List Token → Type 0
 AreTokens text ts = Lexes 0 text (map placed_of ts) None
 
 -- the first fault of a text's tokens; running out of memory is never the text's fault
-abbrev pub IsTokenFault : List ℕ → TextFault → Type 0
-IsTokenFault text (Refused cause span) = (ts : List Placed) × Lexes 0 text ts (Some (fault_at_span cause span))
-IsTokenFault text Memory = Unit {0}
+abbrev pub IsTokenFault : List ℕ → Refused TextFlaw → Type 0
+IsTokenFault text fault = OfFault (λ f. (ts : List Placed) × Lexes 0 text ts (Some (fault_at_span f.cause f.span))) fault

@@ -11,7 +11,8 @@ use Rattle.gv_model.specs.GrammarFaults.Stage.{list_start, tuple_start, brace_st
 use Rattle.gv_syntax.specs.declared.token.Mark.{Mark}
 use Rattle.gv_syntax.specs.declared.token.Span.{Span}
 use Rattle.gv_syntax.specs.declared.token.Token.{Token}
-use Rattle.gv_syntax.specs.declared.fault.TextFault.{TextFault}
+use Rattle.refused.specs.declared.Refused.{Refused}
+use Rattle.gv_syntax.specs.declared.fault.TextFlaw.{TextFlaw}
 use Rattle.gv_syntax.specs.declared.syntax.SyntaxKind.{SyntaxKind}
 use Rattle.gv_syntax.specs.SyntaxNodes.{nodes_of, pairs_of, syntax_of}
 use Rattle.gv_syntax.specs.ModelTokens.{token_of, mark_of}
@@ -36,7 +37,7 @@ pub record IsAfter (d : ℕ) (s : Span) (t : TheToken) (old new : List Token) (k
   pub levels : levels (syntax_of k) + d ≤ 129
 
 -- whether a value so deep may begin with a token
-abbrev pub BeginsValue : ℕ → Token → Result (Unit {0}) TextFault → Type 0
+abbrev pub BeginsValue : ℕ → Token → Result (Unit {0}) (Refused TextFlaw) → Type 0
 BeginsValue d t (Ok x) = IsSome (begun_wants d t.span (token_of t.kind)) × (d ≤ 128)
 BeginsValue d t (Err f) = option_map fault_as (or_fault (begun 128 d t.span [] (begun_wants d t.span (token_of t.kind))) None) ≡ Some f
 

@@ -6,8 +6,10 @@ use Rattle.gv_model.specs.PlainTexts.{IsPlain}
 use Rattle.gv_model.specs.Parsing.{HasFault}
 use Rattle.gv_model.specs.GrammarFaults.Want.{a_value}
 use Rattle.gv_syntax.specs.declared.token.Token.{Token}
-use Rattle.gv_syntax.specs.declared.fault.TextFault.{TextFault}
-use Rattle.gv_syntax.specs.declared.fault.TextFault.TheVariants.{Refused, Memory}
+use Rattle.refused.specs.declared.Refused.{Refused}
+use Rattle.refused.specs.declared.Refused.TheVariants.{Fault}
+use Rattle.refused.specs.Faults.{OfFault}
+use Rattle.gv_syntax.specs.declared.fault.TextFlaw.{TextFlaw}
 use Rattle.gv_syntax.specs.ModelTokens.{fault_at_span}
 use Rattle.gv_syntax.specs.Expectations.{kinds_of, first_fault}
 
@@ -18,9 +20,8 @@ pub record IsWithin (x : Syntax) : Type 0 where
   pub plain : IsPlain x
 
 -- the first fault of a text; running out of memory is never the text's fault
-abbrev pub IsTextFault : List ℕ → TextFault → Type 0
-IsTextFault text (Refused cause span) = HasFault text (fault_at_span cause span)
-IsTextFault text Memory = Unit {0}
+abbrev pub IsTextFault : List ℕ → Refused TextFlaw → Type 0
+IsTextFault text fault = OfFault (λ f. HasFault text (fault_at_span f.cause f.span)) fault
 
 -- the tree of these tokens
 pub record IsTreeOf (ts : List Token) (x : Syntax) : Type 0 where
@@ -28,6 +29,5 @@ pub record IsTreeOf (ts : List Token) (x : Syntax) : Type 0 where
   pub shallow : levels x ≤ 128
 
 -- the first fault of these tokens, the text being so long
-abbrev pub IsGrammarFault : ℕ → List Token → TextFault → Type 0
-IsGrammarFault length ts Memory = Unit {0}
-IsGrammarFault length ts (Refused cause span) = first_fault (record { start = length; end = length }) (a_value 1 ∷ []) ts ≡ Some (Refused cause span)
+abbrev pub IsGrammarFault : ℕ → List Token → Refused TextFlaw → Type 0
+IsGrammarFault length ts fault = OfFault (λ f. first_fault (record { start = length; end = length }) (a_value 1 ∷ []) ts ≡ Some (Fault f)) fault

@@ -1,9 +1,9 @@
 //! Why a text has no tokens or no syntax.
 ghost use Rattle.std.specs.Prelude.{◌≡◌};
-ghost use Rattle.gv_syntax.specs.declared.fault.TextFault.TheVariants.{Memory, Refused};
+ghost use Rattle.refused.specs.declared.Refused.TheVariants.{Fault};
 
 use crate::token::Span;
-use std::alloc::{AllocError, AllocFailed};
+use refused::Refused;
 use std::error::Error;
 use std::fmt;
 
@@ -25,23 +25,24 @@ pub enum TextCause {
 }
 
 /// Why a text has no tokens or no syntax.
+pub type TextFault = Refused<TextFlaw>;
+
+/// A text's first fault and where it is.
 #[derive(Clone, Copy, Debug, PartialEq, Eq)]
-pub enum TextFault {
-    /// The text's first fault and where it is.
-    Refused { cause: TextCause, span: Span },
-    /// A growth was refused.
-    Memory,
+pub struct TextFlaw {
+    pub cause: TextCause,
+    pub span: Span,
 }
 
-impl TextFault {
+impl TextFlaw {
     /// A fault of the text between two places.
     pub(crate) fn at(cause: TextCause, start: usize, end: usize) -> TextFault
-        ensures { result ≡ Refused cause (record { start = start; end = end }) }
+        ensures { result ≡ Fault (record { cause = cause; span = record { start = start; end = end } }) }
     {
-        TextFault::Refused {
+        TextFault::Fault(TextFlaw {
             cause,
             span: Span { start, end },
-        }
+        })
     }
 }
 
@@ -64,38 +65,19 @@ impl fmt::Display for TextCause {
     }
 }
 
-impl fmt::Display for TextFault {
+impl fmt::Display for TextFlaw {
     ghost use Rattle.std.specs.Prelude.{Some};
     ghost use Rattle.gv_syntax.specs.FaultTexts.{text_fault_text};
 
-    ghost output = { λ fault. Some (text_fault_text fault) };
+    ghost output = { λ flaw. Some (text_fault_text flaw) };
 
     fn fmt<W: fmt::Write>(&self, f: &mut fmt::Formatter<W>) -> fmt::Result {
-        match self {
-            TextFault::Refused { cause, span } => write!(
-                f,
-                "{cause} at {}..{}",
-                span.start, span.end
-            ),
-            TextFault::Memory => write!(f, "Memory"),
-        }
+        write!(
+            f,
+            "{} at {}..{}",
+            self.cause, self.span.start, self.span.end
+        )
     }
 }
 
-impl Error for TextFault {}
-
-impl From<AllocError> for TextFault {
-    ghost from_gives = { λ _ e. e ≡ Memory };
-
-    fn from(_error: AllocError) -> TextFault {
-        TextFault::Memory
-    }
-}
-
-impl<T: Drop> From<AllocFailed<T>> for TextFault {
-    ghost from_gives = { λ _ e. e ≡ Memory };
-
-    fn from(_error: AllocFailed<T>) -> TextFault {
-        TextFault::Memory
-    }
-}
+impl Error for TextFlaw {}

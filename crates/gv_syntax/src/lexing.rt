@@ -19,7 +19,7 @@ mod quoted;
 mod start;
 mod word;
 
-use crate::fault::{TextCause, TextFault};
+use crate::fault::{TextCause, TextFault, TextFlaw};
 use crate::token::{Span, Token, TokenKind};
 use crate::type_text::TypeText;
 use bytes::ByteClass;
@@ -118,7 +118,7 @@ fn placed(found: Result<TokenKind, TextCause>, start: usize, end: usize) -> Resu
 {
     match found {
         Ok(kind) => Ok(Token::at(kind, start, end)),
-        Err(cause) => Err(TextFault::at(cause, start, end)),
+        Err(cause) => Err(TextFlaw::at(cause, start, end)),
     }
 }
 
@@ -133,7 +133,7 @@ fn type_token(alloc: Global, text: &str, at: usize) -> Result<Token, TextFault>
             let end = at + 1 + found.as_str().len();
             Ok(Token::at(TokenKind::Type(TypeText::copy(alloc, found)?), at, end))
         }
-        None => Err(TextFault::at(TextCause::BadToken, at, at + 1)),
+        None => Err(TextFlaw::at(TextCause::BadToken, at, at + 1)),
     }
 }
 
@@ -145,6 +145,6 @@ fn mark_token(c: u8, at: usize) -> Result<Token, TextFault>
 {
     match mark(c) {
         Some(mark) => Ok(Token::at(TokenKind::Mark(mark), at, at + 1)),
-        None => Err(TextFault::at(TextCause::BadToken, at, at + char_len(c))),
+        None => Err(TextFlaw::at(TextCause::BadToken, at, at + char_len(c))),
     }
 }

@@ -12,7 +12,7 @@ mod syntax;
 mod token;
 mod type_text;
 
-pub use fault::{TextCause, TextFault};
+pub use fault::{TextCause, TextFault, TextFlaw};
 pub use lexing::tokens;
 pub use parsing::parse;
 pub use plain::is_plain;

@@ -16,8 +16,8 @@ mod print_fault;
 mod printing;
 
 pub use gv_syntax::{
-    Mark, Span, Syntax, SyntaxKind, SyntaxNode, TextCause, TextFault, Token, TokenKind, TypeText,
-    Word, is_plain, parse, tokens,
+    Mark, Span, Syntax, SyntaxKind, SyntaxNode, TextCause, TextFault, TextFlaw, Token, TokenKind,
+    TypeText, Word, is_plain, parse, tokens,
 };
 pub use print_fault::PrintFault;
 pub use printing::{print, print_onto};

@@ -6,10 +6,9 @@ ghost use Rattle.gv_model.specs.Characters.{prefix_of, is_quote};
 ghost use Rattle.gv_syntax.specs.ByteClasses.{is_of};
 ghost use Rattle.gv_syntax.specs.declared.lexing.bytes.ByteClass.TheVariants.{Plain};
 ghost use Rattle.gv_syntax.specs.LexSteps.{quoted_at, IsFaultOf, char_bytes, byte_alone};
-ghost use Rattle.gv_syntax.specs.declared.fault.TextFault.TheVariants.{Memory};
 ghost use Rattle.std.specs.Str.{IsCharBoundary};
 
-use crate::fault::{TextCause, TextFault};
+use crate::fault::{TextCause, TextFault, TextFlaw};
 use crate::lexing::bytes::ByteClass;
 use crate::lexing::part::{Part, byte_part, text_part};
 use std::alloc::{AllocError, Global};
@@ -33,7 +32,7 @@ pub(crate) fn text_between(
     loop {
         at = push_plain(&mut string, text, at, quote)?;
         if at == bytes.len() {
-            return Err(TextFault::at(TextCause::Unclosed, from, from + 1));
+            return Err(TextFlaw::at(TextCause::Unclosed, from, from + 1));
         }
         match text_part(&bytes[at..], quote) {
             Part::Char(meaning, len) => {
@@ -42,7 +41,7 @@ pub(crate) fn text_between(
             }
             Part::Closes => return Ok((string, at + 1)),
             Part::Faulty(cause, start, end) => {
-                return Err(TextFault::at(cause, at + start, at + end));
+                return Err(TextFlaw::at(cause, at + start, at + end));
             }
         }
     }
@@ -73,8 +72,8 @@ fn push_char(string: &mut String, c: Option<char>) -> Result<(), AllocError>
 }
 
 /// Writes a byte, if there is one.
-fn push_byte(bytes: &mut Vec<u8>, byte: Option<u8>) -> Result<(), TextFault>
-    ensures { MatchResult result (λ _. bytes.new.items ≡ bytes.old.items ++ byte_alone byte) (λ e. e ≡ Memory) }
+fn push_byte(bytes: &mut Vec<u8>, byte: Option<u8>) -> Result<(), AllocError>
+    ensures { OnOk result (bytes.new.items ≡ bytes.old.items ++ byte_alone byte) }
 {
     if let Some(byte) = byte {
         bytes.push(byte)?;
@@ -105,9 +104,9 @@ pub(crate) fn bytes_between(
             }
             Part::Closes => return Ok((bytes, at + 1)),
             Part::Faulty(cause, start, end) => {
-                return Err(TextFault::at(cause, at + start, at + end));
+                return Err(TextFlaw::at(cause, at + start, at + end));
             }
         }
     }
-    Err(TextFault::at(TextCause::Unclosed, from, from + 1))
+    Err(TextFlaw::at(TextCause::Unclosed, from, from + 1))
 }

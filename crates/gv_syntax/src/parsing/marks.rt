@@ -3,17 +3,17 @@ ghost use Rattle.std.specs.Prelude.{◌≡◌, ◌∷◌, [], ◌↔◌, IsTrue,
 ghost use Rattle.gv_model.specs.Tokens.Token.{mark as mark_token};
 ghost use Rattle.gv_syntax.specs.ModelTokens.{token_of, mark_of};
 ghost use Rattle.gv_syntax.specs.Expectations.{left, TakesMark, TakesSeparator};
-ghost use Rattle.gv_syntax.specs.declared.fault.TextFault.TheVariants.{Refused};
+ghost use Rattle.refused.specs.declared.Refused.TheVariants.{Fault};
 
-use crate::fault::{TextCause, TextFault};
+use crate::fault::{TextCause, TextFault, TextFlaw};
 use crate::token::{Mark, Span, Token, TokenKind};
 use std::vec::IntoIter;
 
 /// The fault of a cause at a span.
 pub(crate) fn refused(cause: TextCause, span: Span) -> TextFault
-    ensures { result ≡ Refused cause span }
+    ensures { result ≡ Fault (record { cause = cause; span = span }) }
 {
-    TextFault::Refused { cause, span }
+    TextFault::Fault(TextFlaw { cause, span })
 }
 
 /// The next token, or that fault where there is none.
