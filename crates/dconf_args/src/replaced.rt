@@ -52,8 +52,8 @@ pub fn user_file(alloc: Global, profile: &str, bytes: &[u8]) -> Result<String, A
     };
     match read_profile(alloc, text) {
         Ok(read) => name_of_first(alloc, profile, read.databases()),
+        Err(ProfileFault::Fault(_)) => String::from_str(alloc, profile),
         Err(ProfileFault::Memory) => Err(AllocError),
-        Err(_) => String::from_str(alloc, profile),
     }
 }
 

@@ -13,7 +13,7 @@ ghost use Rattle.dconf_commands.specs.StoreReads.{NoDatabases, NoItems, bytes_of
 use dconf_disk::Folder;
 use dconf_engine::{Engine, EngineFault, open_layers};
 use dconf_layers::Layer;
-use dconf_path::{Database, DatabaseKind, Profile, read_profile, settings_text};
+use dconf_path::{Database, DatabaseKind, Profile, read_profile, settings_text, ProfileFault};
 use dconf_streams::{NamedFile, Refusal, file_if_any, refused, refused_at};
 use std::alloc::{AllocError, Global};
 
@@ -97,10 +97,8 @@ pub(crate) fn profile<'a>(
     };
     match read_profile(alloc, text) {
         Ok(profile) => Ok(profile),
-        Err(fault) => match fault.line() {
-            Some(line) => Err(refused_at(alloc, name, line, fault)),
-            None => Err(Refusal::NoMemory),
-        },
+        Err(ProfileFault::Fault(flaw)) => Err(refused_at(alloc, name, flaw.line(), flaw)),
+        Err(ProfileFault::Memory) => Err(Refusal::NoMemory),
     }
 }
 

@@ -1,10 +1,7 @@
 -- Which fault of the model it is that a file is refused for.
-use Rattle.std.specs.Prelude.{ℕ, Option, Some, None, option_map}
+use Rattle.std.specs.Prelude.{ℕ, Option, option_map}
 use Rattle.dconf_model.specs.Causes.{SettingsCause}
 use Rattle.dconf_model.specs.Lines.{LineFault}
-use Rattle.keyfile_core.specs.KeyfileFaults.{cause_of as keyfile_cause_of}
-use Rattle.keyfile_core.specs.declared.fault.KeyfileFault.{KeyfileFault}
-use Rattle.keyfile_core.specs.declared.fault.KeyfileFault.TheVariants.{Refused, Memory}
 use Rattle.dconf_compile.specs.declared.line_stop.LineStop.{LineStop}
 use Rattle.dconf_compile.specs.CompileFaults.{cause_of}
 
@@ -13,7 +10,3 @@ at_line line cause = record { line = line; cause = cause }
 
 abbrev pub line_fault_of : LineStop → Option LineFault
 line_fault_of stop = option_map (at_line stop.line) (cause_of stop.cause)
-
-abbrev pub keyfile_fault_of : KeyfileFault → Option LineFault
-keyfile_fault_of (Refused line cause) = Some (record { line = line; cause = keyfile_cause_of cause })
-keyfile_fault_of Memory = None

@@ -2,11 +2,13 @@
 ghost use Rattle.std.specs.Prelude.{◌≡◌, None, Some};
 ghost use Rattle.dconf_path.specs.LineFaults.{locks_fault_of};
 ghost use Rattle.dconf_path.specs.SettingsTexts.{text_fault_of};
-ghost use Rattle.dconf_compile.specs.LineStops.{keyfile_fault_of, line_fault_of};
+ghost use Rattle.keyfile_core.specs.KeyfileFaults.{fault_of};
+ghost use Rattle.refused.specs.Faults.{fault_in};
+ghost use Rattle.dconf_compile.specs.LineStops.{line_fault_of};
 
 use crate::fault::CompileCause;
-use dconf_path::{LocksFault, TextFault};
-use keyfile_core::{KeyfileCause, KeyfileFault};
+use dconf_path::{LockNotKey, LocksFault, TextFault};
+use keyfile_core::{KeyfileFault, KeyfileFlaw};
 use std::alloc::{AllocError, AllocFailed};
 use std::error::Error;
 use std::fmt;
@@ -44,11 +46,11 @@ impl fmt::Display for LineStop {
 impl Error for LineStop {}
 
 impl From<KeyfileFault> for LineStop {
-    ghost from_gives = { λ fault stop. line_fault_of stop ≡ keyfile_fault_of fault };
+    ghost from_gives = { λ fault stop. line_fault_of stop ≡ fault_in fault_of fault };
 
     fn from(fault: KeyfileFault) -> LineStop {
         match fault {
-            KeyfileFault::Refused { line, cause } => LineStop {
+            KeyfileFault::Fault(KeyfileFlaw { line, cause }) => LineStop {
                 line,
                 cause: CompileCause::from(cause),
             },
@@ -75,11 +77,11 @@ impl From<TextFault> for LineStop {
 }
 
 impl From<LocksFault> for LineStop {
-    ghost from_gives = { λ fault stop. line_fault_of stop ≡ locks_fault_of fault };
+    ghost from_gives = { λ fault stop. line_fault_of stop ≡ fault_in locks_fault_of fault };
 
     fn from(fault: LocksFault) -> LineStop {
         match fault {
-            LocksFault::LockNotKey(line) => LineStop {
+            LocksFault::Fault(LockNotKey(line)) => LineStop {
                 line,
                 cause: CompileCause::LockNotKey,
             },

@@ -7,7 +7,7 @@ use Rattle.dconf_model.specs.Lines.{LineReading}
 use Rattle.dconf_model.specs.Lines.LineReading.{nothing, found, wrong}
 use Rattle.dconf_model.specs.Profiles.{Kind, Database as ProfileDatabase, kind_text, without_prefix}
 use Rattle.dconf_model.specs.Profiles.Kind.{user_db, system_db, file_db}
-use Rattle.dconf_path.specs.declared.line_fault.ProfileFault.{ProfileFault}
+use Rattle.dconf_path.specs.declared.line_fault.ProfileFlaw.{ProfileFlaw}
 use Rattle.dconf_path.specs.declared.profiles.DatabaseKind.{DatabaseKind}
 use Rattle.dconf_path.specs.declared.profiles.DatabaseKind.TheVariants.{User, System, File}
 use Rattle.dconf_path.specs.declared.profiles.Database.{Database}
@@ -32,10 +32,10 @@ reading_of None = nothing
 reading_of (Some d) = found (database_of d)
 
 -- The line of that number has the fault of what is read of it.
-pub record IsFaultAt (line : ℕ) (reading : LineReading ProfileDatabase) (fault : ProfileFault) : Type 0 where
+pub record IsFaultAt (line : ℕ) (reading : LineReading ProfileDatabase) (fault : ProfileFlaw) : Type 0 where
   pub cause : SettingsCause
   pub is : reading ≡ wrong cause
-  pub same : profile_fault_of fault ≡ Some (record { line = line; cause = cause })
+  pub same : profile_fault_of fault ≡ record { line = line; cause = cause }
 
 -- the text behind a kind's word
 abbrev pub named_as : Kind → List ℕ → ProfileDatabase

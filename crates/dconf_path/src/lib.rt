@@ -21,7 +21,7 @@ mod profiles;
 mod texts;
 
 pub use fault::PathFault;
-pub use line_fault::{LocksFault, ProfileFault};
+pub use line_fault::{LockNotKey, LocksFault, ProfileFault, ProfileFlaw};
 pub use lock_path::LockPath;
 pub use locks::{Lock, read_locks};
 pub use path::{DirPath, KeyPath, MAX_PATH_LEN};

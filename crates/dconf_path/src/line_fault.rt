@@ -1,46 +1,35 @@
 //! Why a lock file or a profile is refused.
-ghost use Rattle.std.specs.Prelude.{◌≡◌, Some, option_map};
-ghost use Rattle.dconf_path.specs.LineFaults.{fault_name, locks_fault_of, profile_fault_of};
+ghost use Rattle.std.specs.Prelude.{◌≡◌, Some};
+ghost use Rattle.dconf_model.specs.FaultTexts.{cause_text};
+ghost use Rattle.dconf_path.specs.LineFaults.{locks_fault_of, profile_fault_of};
 
-use std::alloc::AllocFailed;
+use refused::Refused;
 use std::error::Error;
 use std::fmt;
 
-/// Why a lock file is refused. A fault is printed as its name.
-#[derive(Clone, Copy, Debug, PartialEq, Eq)]
-pub enum LocksFault {
-    /// The line of this number, counted from 1, starts with `/` and is no path.
-    LockNotKey(usize),
-    /// A growth was refused.
-    Memory,
-}
+/// Why a lock file is refused.
+pub type LocksFault = Refused<LockNotKey>;
 
-impl fmt::Display for LocksFault {
-    ghost output = { λ fault. Some (fault_name (locks_fault_of fault)) };
+/// The line of this number, counted from 1, starts with `/` and is no path. It is printed as its name.
+#[derive(Clone, Copy, Debug, PartialEq, Eq)]
+pub struct LockNotKey(pub usize);
+
+impl fmt::Display for LockNotKey {
+    ghost output = { λ fault. Some (cause_text (locks_fault_of fault).cause) };
 
     fn fmt<W: fmt::Write>(&self, f: &mut fmt::Formatter<W>) -> fmt::Result {
-        f.write_str(match self {
-            LocksFault::LockNotKey(_) => "LockNotKey",
-            LocksFault::Memory => "Memory",
-        })
+        f.write_str("LockNotKey")
     }
 }
 
-impl Error for LocksFault {}
+impl Error for LockNotKey {}
 
-impl<T: Drop> From<AllocFailed<T>> for LocksFault {
-    ghost use Rattle.dconf_path.specs.declared.line_fault.LocksFault.TheVariants.{Memory};
+/// Why a profile is refused.
+pub type ProfileFault = Refused<ProfileFlaw>;
 
-    ghost from_gives = { λ _ fault. fault ≡ Memory };
-
-    fn from(_error: AllocFailed<T>) -> LocksFault {
-        LocksFault::Memory
-    }
-}
-
-/// Why a profile is refused: the first line at fault, counted from 1, and on one line the first of these. A fault is printed as its name.
+/// The first line of a profile at fault, counted from 1, and on one line the first of these. It is printed as its name.
 #[derive(Clone, Copy, Debug, PartialEq, Eq)]
-pub enum ProfileFault {
+pub enum ProfileFlaw {
     /// The line names no database: it is none of `user-db:NAME`, `system-db:NAME` and `file-db:PATH`, or its name is
     /// empty, has a zero byte, or has a `/` and is no `PATH`.
     BadLine(usize),
@@ -50,47 +39,33 @@ pub enum ProfileFault {
     UserNotFirst(usize),
     /// The line names a 65th database.
     TooMany(usize),
-    /// A growth was refused.
-    Memory,
 }
 
-impl ProfileFault {
-    /// The line at fault, counted from 1; None of `Memory`.
-    pub fn line(self) -> Option<usize>
-        ensures { result ≡ option_map (λ fault. fault.line) (profile_fault_of self) }
+impl ProfileFlaw {
+    /// The line at fault, counted from 1.
+    pub fn line(self) -> usize
+        ensures { result ≡ (profile_fault_of self).line }
     {
         match self {
-            ProfileFault::BadLine(line) => Some(line),
-            ProfileFault::ServiceDb(line) => Some(line),
-            ProfileFault::UserNotFirst(line) => Some(line),
-            ProfileFault::TooMany(line) => Some(line),
-            ProfileFault::Memory => None,
+            ProfileFlaw::BadLine(line) => line,
+            ProfileFlaw::ServiceDb(line) => line,
+            ProfileFlaw::UserNotFirst(line) => line,
+            ProfileFlaw::TooMany(line) => line,
         }
     }
 }
 
-impl fmt::Display for ProfileFault {
-    ghost output = { λ fault. Some (fault_name (profile_fault_of fault)) };
+impl fmt::Display for ProfileFlaw {
+    ghost output = { λ fault. Some (cause_text (profile_fault_of fault).cause) };
 
     fn fmt<W: fmt::Write>(&self, f: &mut fmt::Formatter<W>) -> fmt::Result {
         f.write_str(match self {
-            ProfileFault::BadLine(_) => "BadLine",
-            ProfileFault::ServiceDb(_) => "ServiceDb",
-            ProfileFault::UserNotFirst(_) => "UserNotFirst",
-            ProfileFault::TooMany(_) => "TooMany",
-            ProfileFault::Memory => "Memory",
+            ProfileFlaw::BadLine(_) => "BadLine",
+            ProfileFlaw::ServiceDb(_) => "ServiceDb",
+            ProfileFlaw::UserNotFirst(_) => "UserNotFirst",
+            ProfileFlaw::TooMany(_) => "TooMany",
         })
     }
 }
 
-impl Error for ProfileFault {}
-
-impl<T: Drop> From<AllocFailed<T>> for ProfileFault {
-    ghost use Rattle.dconf_path.specs.declared.line_fault.ProfileFault.TheVariants.{Memory};
-
-    ghost from_gives = { λ _ fault. fault ≡ Memory };
-
-    fn from(_error: AllocFailed<T>) -> ProfileFault {
-        ProfileFault::Memory
-    }
-}
+impl Error for ProfileFlaw {}

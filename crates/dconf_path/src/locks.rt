@@ -1,10 +1,11 @@
 //! Lock files: a line that starts with `/` is a lock, blanks and all, and any other says nothing. dconf(7), "Locks".
-ghost use Rattle.std.specs.Prelude.{◌≡◌, map, Ok, Err, IfOk, IfErr, IfSome};
+ghost use Rattle.std.specs.Prelude.{◌≡◌, map, Ok, Err, IfOk, IfErr};
+ghost use Rattle.refused.specs.Faults.{OfFault};
 ghost use Rattle.dconf_model.specs.Locks.{locks_in};
 ghost use Rattle.dconf_path.specs.LineFaults.{locks_fault_of};
 ghost use Rattle.dconf_path.specs.Locks.{lock_line_of};
 
-use crate::line_fault::LocksFault;
+use crate::line_fault::{LockNotKey, LocksFault};
 use crate::lock_path::LockPath;
 use std::alloc::Global;
 
@@ -23,7 +24,7 @@ pub struct Lock<'a> {
 /// looks at each byte a fixed number of times, and takes memory for the locks alone.
 pub fn read_locks<'a>(alloc: Global, text: &'a str) -> Result<Vec<Lock<'a>>, LocksFault>
     ensures found { IfOk result (λ locks. locks_in text.entry.now ≡ Ok (map lock_line_of locks.items)) }
-    ensures fault { IfErr result (λ e. IfSome (locks_fault_of e) (λ fault. locks_in text.entry.now ≡ Err fault)) }
+    ensures fault { IfErr result (OfFault (λ fault. locks_in text.entry.now ≡ Err (locks_fault_of fault))) }
 {
     let mut locks = Vec::new(alloc);
     for (before, line) in text.split('\n').enumerate() {
@@ -33,7 +34,7 @@ pub fn read_locks<'a>(alloc: Global, text: &'a str) -> Result<Vec<Lock<'a>>, Loc
         let number = before + 1;
         match LockPath::parse(line) {
             Ok(path) => locks.push(Lock { path, line: number })?,
-            Err(_) => return Err(LocksFault::LockNotKey(number)),
+            Err(_) => return Err(LocksFault::Fault(LockNotKey(number))),
         }
     }
     Ok(locks)

@@ -3,13 +3,14 @@
 //! From `#` on a line is comment. Spaces, tabs and carriage returns at both ends are dropped, and a line that is empty
 //! then says nothing. The user's database comes first or not at all.
 ghost use Rattle.std.specs.List.{before_first};
-ghost use Rattle.std.specs.Prelude.{◌≡◌, ◌==◌, is_some, length, nat_lt, map, option_map, Ok, Err, IfOk, IfErr, IfSome};
+ghost use Rattle.std.specs.Prelude.{◌≡◌, ◌==◌, is_some, length, nat_lt, map, option_map, Ok, Err, IfOk, IfErr};
+ghost use Rattle.refused.specs.Faults.{OfFault};
 ghost use Rattle.dconf_model.specs.Lines.LineReading.{found};
 ghost use Rattle.dconf_model.specs.Profiles.{databases_in, entry_line, entry_of_line, is_name, database_line};
 ghost use Rattle.dconf_path.specs.LineFaults.{profile_fault_of};
 ghost use Rattle.dconf_path.specs.Profiles.{database_of, databases_of, named_in, reading_of, IsFaultAt};
 
-use crate::line_fault::ProfileFault;
+use crate::line_fault::{ProfileFault, ProfileFlaw};
 use std::alloc::Global;
 
 /// How many databases a profile has at most.
@@ -55,16 +56,18 @@ impl<'a> Profile<'a> {
 
 /// The profile that a text spells. A last line needs no line feed.
 ///
-/// The first line at fault is refused, as [`ProfileFault`] says; `Memory` comes where a growth is refused. It looks at
+/// The first line at fault is refused, as [`ProfileFlaw`] says; `Memory` comes where a growth is refused. It looks at
 /// each byte a fixed number of times, and takes memory for the databases alone.
 pub fn read_profile<'a>(alloc: Global, text: &'a str) -> Result<Profile<'a>, ProfileFault>
     ensures found { IfOk result (λ profile. databases_in text.entry.now ≡ Ok (databases_of profile)) }
-    ensures fault { IfErr result (λ e. IfSome (profile_fault_of e) (λ fault. databases_in text.entry.now ≡ Err fault)) }
+    ensures fault { IfErr result (OfFault (λ fault. databases_in text.entry.now ≡ Err (profile_fault_of fault))) }
 {
     let mut databases = Vec::new(alloc);
     for (before, line) in text.split('\n').enumerate() {
-        if let Some(database) = read_entry(entry_of(line), databases.len(), before + 1)? {
-            databases.push(database)?;
+        match read_entry(entry_of(line), databases.len(), before + 1) {
+            Ok(Some(database)) => databases.push(database)?,
+            Ok(None) => {}
+            Err(flaw) => return Err(ProfileFault::Fault(flaw)),
         }
     }
     Ok(Profile { databases })
@@ -94,7 +97,7 @@ fn read_entry<'a>(
     entry: &'a str,
     others: usize,
     line: usize,
-) -> Result<Option<Database<'a>>, ProfileFault>
+) -> Result<Option<Database<'a>>, ProfileFlaw>
     ensures found { IfOk result (λ database. entry_line others entry.entry.now ≡ reading_of database) }
     ensures says { IfOk result (λ database. is_some database ≡ nat_lt 0 (length entry.entry.now)) }
     ensures fault { IfErr result (IsFaultAt line (entry_line others entry.entry.now)) }
@@ -103,11 +106,11 @@ fn read_entry<'a>(
         return Ok(None);
     }
     if entry.starts_with("service-db:") {
-        return Err(ProfileFault::ServiceDb(line));
+        return Err(ProfileFlaw::ServiceDb(line));
     }
     match database_in(entry) {
         Some(database) => Ok(Some(placed(database, others, line)?)),
-        None => Err(ProfileFault::BadLine(line)),
+        None => Err(ProfileFlaw::BadLine(line)),
     }
 }
 
@@ -130,18 +133,18 @@ fn database_in(entry: &str) -> Option<Database<'_>>
 }
 
 /// A database after so many others, if it has a name and may stand there.
-fn placed(database: Database<'_>, others: usize, line: usize) -> Result<Database<'_>, ProfileFault>
+fn placed(database: Database<'_>, others: usize, line: usize) -> Result<Database<'_>, ProfileFlaw>
     ensures found { IfOk result (λ d. database_line others (database_of database.entry).kind (database_of database.entry).name ≡ found (database_of d)) }
     ensures fault { IfErr result (IsFaultAt line (database_line others (database_of database.entry).kind (database_of database.entry).name)) }
 {
     if !has_name(database) {
-        return Err(ProfileFault::BadLine(line));
+        return Err(ProfileFlaw::BadLine(line));
     }
     if database.kind == DatabaseKind::User && others > 0 {
-        return Err(ProfileFault::UserNotFirst(line));
+        return Err(ProfileFlaw::UserNotFirst(line));
     }
     if others >= MAX_DATABASES {
-        return Err(ProfileFault::TooMany(line));
+        return Err(ProfileFlaw::TooMany(line));
     }
     Ok(database)
 }

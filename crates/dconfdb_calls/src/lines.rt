@@ -9,7 +9,7 @@ ghost use Rattle.dconfdb_calls.specs.declared.fault.Fault.TheVariants.{Memory};
 
 use crate::fault::Fault;
 use crate::profiles::{BadProfile, DconfdbName, fault_of, named};
-use dconf_path::MAX_DATABASES;
+use dconf_path::{MAX_DATABASES, ProfileFault};
 use memchr::memchr;
 use std::alloc::Global;
 
@@ -107,7 +107,8 @@ fn own_name<'a>(alloc: Global, line: &'a str) -> Result<Option<DconfdbName<'a>>,
 {
     match named(alloc, line) {
         Ok(names) => Ok(names.first().copied()),
-        Err(fault) => Err(fault_of(fault)),
+        Err(ProfileFault::Fault(flaw)) => Err(fault_of(flaw)),
+        Err(ProfileFault::Memory) => Err(Fault::Memory),
     }
 }
 

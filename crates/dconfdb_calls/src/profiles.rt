@@ -1,5 +1,6 @@
 //! The databases that a profile names.
-ghost use Rattle.std.specs.Prelude.{◌≡◌, Err, IfErr, IfNone, IfOk, IfSome, map};
+ghost use Rattle.std.specs.Prelude.{◌≡◌, Err, IfErr, IfOk, map};
+ghost use Rattle.refused.specs.Faults.{OfFault};
 ghost use Rattle.dconf_model.specs.Profiles.{databases_in};
 ghost use Rattle.dconf_path.specs.LineFaults.{profile_fault_of};
 ghost use Rattle.dconf_path.specs.Profiles.{database_of, kind_of};
@@ -7,7 +8,7 @@ ghost use Rattle.dconfdb_calls.specs.Named.{AreNamesIn, IsNoProfile, cause_numbe
 ghost use Rattle.dconfdb_calls.specs.Numbers.{number_of};
 
 use crate::fault::Fault;
-use dconf_path::{Database, DatabaseKind, ProfileFault, read_profile};
+use dconf_path::{Database, DatabaseKind, ProfileFault, ProfileFlaw, read_profile};
 use std::alloc::{AllocFailed, Global};
 
 /// A database of a profile: 0 the user's, 1 one of the system, 2 the file of a path; and its name,
@@ -45,9 +46,13 @@ pub fn profile_databases<'a>(
     };
     match named(alloc, text) {
         Ok(names) => Ok(names),
-        Err(fault) => Err(BadProfile {
-            fault: fault_of(fault),
-            line: fault.line().unwrap_or(0),
+        Err(ProfileFault::Fault(flaw)) => Err(BadProfile {
+            fault: fault_of(flaw),
+            line: flaw.line(),
+        }),
+        Err(ProfileFault::Memory) => Err(BadProfile {
+            fault: Fault::Memory,
+            line: 0,
         }),
     }
 }
@@ -55,7 +60,7 @@ pub fn profile_databases<'a>(
 /// The databases that a profile's text names.
 pub(crate) fn named<'a>(alloc: Global, text: &'a str) -> Result<Vec<DconfdbName<'a>>, ProfileFault>
     ensures names { IfOk result (λ names. AreNamesIn text.entry.now names.items) }
-    ensures fault { IfErr result (λ e. IfSome (profile_fault_of e) (λ fault. databases_in text.entry.now ≡ Err fault)) }
+    ensures fault { IfErr result (OfFault (λ flaw. databases_in text.entry.now ≡ Err (profile_fault_of flaw))) }
 {
     let profile = read_profile(alloc, text)?;
     let names = names_of(alloc, profile.databases())?;
@@ -87,16 +92,14 @@ fn name_of(database: Database<'_>) -> DconfdbName<'_>
 }
 
 /// The fault of a profile.
-pub(crate) fn fault_of(fault: ProfileFault) -> Fault
-    ensures cause { IfSome (profile_fault_of fault) (λ f. number_of result ≡ cause_number f.cause) }
-    ensures memory { IfNone (profile_fault_of fault) (number_of result ≡ 1) }
+pub(crate) fn fault_of(flaw: ProfileFlaw) -> Fault
+    ensures { number_of result ≡ cause_number (profile_fault_of flaw).cause }
 {
-    match fault {
-        ProfileFault::BadLine(_) => Fault::BadLine,
-        ProfileFault::ServiceDb(_) => Fault::ServiceDb,
-        ProfileFault::UserNotFirst(_) => Fault::UserNotFirst,
-        ProfileFault::TooMany(_) => Fault::TooMany,
-        ProfileFault::Memory => Fault::Memory,
+    match flaw {
+        ProfileFlaw::BadLine(_) => Fault::BadLine,
+        ProfileFlaw::ServiceDb(_) => Fault::ServiceDb,
+        ProfileFlaw::UserNotFirst(_) => Fault::UserNotFirst,
+        ProfileFlaw::TooMany(_) => Fault::TooMany,
     }
 }
 

@@ -1,11 +1,12 @@
 //! A row of a dump: a setting's path below the directory, cut at its last slash.
-ghost use Rattle.std.specs.Prelude.{◌≡◌, IfOk, IfErr, IfNone, IfSome, None, IsTrue, map, option_map, length, take, drop, ◌-◌, nat_eq};
+ghost use Rattle.std.specs.Prelude.{◌≡◌, IfOk, IfErr, IfNone, IfSome, None, Some, IsTrue, map, option_map, length, take, drop, ◌-◌, nat_eq};
 ghost use Rattle.std.specs.List.{starts_with};
+ghost use Rattle.refused.specs.Faults.{OfFault};
 ghost use Rattle.dconf_model.specs.Keyfiles.{first_row_fault, key_len};
 
 use crate::groups::{group_name, is_group};
 use crate::keys::is_readable_key;
-use crate::rows_fault::{RowsCause, RowsFault};
+use crate::rows_fault::{RowsCause, RowsFault, RowsFlaw};
 use crate::setting::AsSetting;
 use memchr::memrchr;
 use std::alloc::Global;
@@ -72,7 +73,7 @@ impl<'a> DumpRow<'a> {
 }
 
 ghost use Rattle.keyfile_core.specs.DumpRows.{AreAllBelow, dump_meant, row_below};
-ghost use Rattle.keyfile_core.specs.RowsFaults.{IsRowFault};
+ghost use Rattle.keyfile_core.specs.RowsFaults.{rows_fault_of};
 
 /// The rows of settings below a directory, unless one could not be read again.
 pub(crate) fn rows_below<'a, S: AsSetting>(
@@ -83,7 +84,7 @@ pub(crate) fn rows_below<'a, S: AsSetting>(
     requires { AreAllBelow S.setting directory.now settings.now }
     ensures rows { IfOk result (λ rows. map dump_meant rows.items ≡ map (row_below S.setting directory.entry.now) settings.entry.now) }
     ensures faultless { IfOk result (λ rows. first_row_fault 0 (map (row_below S.setting directory.entry.now) settings.entry.now) ≡ None) }
-    ensures fault { IfErr result (IsRowFault (first_row_fault 0 (map (row_below S.setting directory.entry.now) settings.entry.now))) }
+    ensures fault { IfErr result (OfFault (λ fault. first_row_fault 0 (map (row_below S.setting directory.entry.now) settings.entry.now) ≡ Some (rows_fault_of fault))) }
 {
     let mut rows = Vec::with_capacity(alloc, settings.len())?;
     let mut before = None;
@@ -91,7 +92,7 @@ pub(crate) fn rows_below<'a, S: AsSetting>(
         let path = path_below(setting.path(), directory);
         let row = DumpRow::new(path, setting.text());
         if let Some(cause) = row.fault_after(before) {
-            return Err(RowsFault::at(at, cause));
+            return Err(RowsFault::Fault(RowsFlaw { row: at, cause }));
         }
         before = Some(row.part);
         rows.push(row)?;

@@ -1,11 +1,10 @@
 //! Why bytes are refused as a keyfile.
-ghost use Rattle.std.specs.Prelude.{◌≡◌, Err};
+ghost use Rattle.std.specs.Prelude.{◌≡◌};
 ghost use Rattle.dconf_path.specs.SettingsTexts.{text_fault_of};
-ghost use Rattle.keyfile_core.specs.KeyfileFaults.{IsFaultIn};
-ghost use Rattle.keyfile_core.specs.declared.fault.KeyfileFault.TheVariants.{Memory, Refused};
+ghost use Rattle.keyfile_core.specs.KeyfileFaults.{fault_of};
 
 use dconf_path::TextFault;
-use std::alloc::AllocFailed;
+use refused::Refused;
 use std::error::Error;
 use std::fmt;
 
@@ -26,30 +25,31 @@ pub enum KeyfileCause {
     BadKeyName,
 }
 
-/// Why bytes have no rows. It is printed as the name of its cause: the line is for who knows the file's name.
+/// Why bytes have no rows.
+pub type KeyfileFault = Refused<KeyfileFlaw>;
+
+/// The first fault of a keyfile. It is printed as the name of its cause: the line is for who knows the file's name.
 #[derive(Clone, Copy, Debug, PartialEq, Eq)]
-pub enum KeyfileFault {
-    /// The first fault, and the number of its line, from 1 on. The line of `TooBig` is 0.
-    Refused { line: usize, cause: KeyfileCause },
-    /// A growth was refused.
-    Memory,
+pub struct KeyfileFlaw {
+    /// The number of its line, from 1 on, or 0 of `TooBig`.
+    pub line: usize,
+    pub cause: KeyfileCause,
 }
 
-impl KeyfileFault {
-    /// A fault of a line.
-    pub(crate) fn at(line: usize, cause: KeyfileCause) -> KeyfileFault
-        ensures { result ≡ Refused line cause }
-    {
-        KeyfileFault::Refused { line, cause }
-    }
-
+impl KeyfileFlaw {
     /// The fault of a file that is no text.
-    pub(crate) fn of_text(fault: TextFault) -> KeyfileFault
-        ensures { IsFaultIn (Err (text_fault_of fault)) result }
+    pub(crate) fn of_text(fault: TextFault) -> KeyfileFlaw
+        ensures { fault_of result ≡ text_fault_of fault }
     {
         match fault {
-            TextFault::TooBig => KeyfileFault::at(0, KeyfileCause::TooBig),
-            TextFault::NotUtf8(line) => KeyfileFault::at(line, KeyfileCause::NotUtf8),
+            TextFault::TooBig => KeyfileFlaw {
+                line: 0,
+                cause: KeyfileCause::TooBig,
+            },
+            TextFault::NotUtf8(line) => KeyfileFlaw {
+                line,
+                cause: KeyfileCause::NotUtf8,
+            },
         }
     }
 }
@@ -85,28 +85,17 @@ impl fmt::Display for KeyfileCause {
     }
 }
 
-impl fmt::Display for KeyfileFault {
+impl fmt::Display for KeyfileFlaw {
     ghost use Rattle.std.specs.Prelude.{Some};
-    ghost use Rattle.keyfile_core.specs.KeyfileFaults.{fault_text};
+    ghost use Rattle.dconf_model.specs.FaultTexts.{cause_text};
 
-    ghost output = { λ fault. Some (fault_text fault) };
+    ghost output = { λ fault. Some (cause_text (fault_of fault).cause) };
 
     fn fmt<W: fmt::Write>(&self, f: &mut fmt::Formatter<W>) -> fmt::Result {
-        match self {
-            KeyfileFault::Refused { cause, .. } => f.write_str(cause.name()),
-            KeyfileFault::Memory => f.write_str("Memory"),
-        }
+        f.write_str(self.cause.name())
     }
 }
 
 impl Error for KeyfileCause {}
 
-impl Error for KeyfileFault {}
-
-impl<T: Drop> From<AllocFailed<T>> for KeyfileFault {
-    ghost from_gives = { λ _ e. e ≡ Memory };
-
-    fn from(_error: AllocFailed<T>) -> KeyfileFault {
-        KeyfileFault::Memory
-    }
-}
+impl Error for KeyfileFlaw {}

@@ -21,8 +21,8 @@ mod rows_fault;
 mod setting;
 mod write;
 
-pub use fault::{KeyfileCause, KeyfileFault};
+pub use fault::{KeyfileCause, KeyfileFault, KeyfileFlaw};
 pub use rows::{Row, read};
-pub use rows_fault::{RowsCause, RowsFault};
+pub use rows_fault::{RowsCause, RowsFault, RowsFlaw};
 pub use setting::AsSetting;
 pub use write::{write_rows, write_settings};

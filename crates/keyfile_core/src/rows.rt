@@ -1,14 +1,15 @@
 //! The rows of a keyfile: each key of a group with the text of its value.
-ghost use Rattle.std.specs.Prelude.{◌≡◌, ◌≤◌, ◌+◌, IfOk, IfErr, length, map, option_map};
+ghost use Rattle.std.specs.Prelude.{◌≡◌, ◌≤◌, ◌+◌, Err, IfOk, IfErr, length, map, option_map};
 ghost use Rattle.std.specs.List.{slice_split};
+ghost use Rattle.refused.specs.Faults.{OfFault};
 ghost use Rattle.dconf_model.specs.Lines.{longest_text};
 ghost use Rattle.dconf_model.specs.Keyfiles.{without_blanks, rows_of};
 ghost use Rattle.keyfile_core.specs.Feeds.{is_feed};
-ghost use Rattle.keyfile_core.specs.KeyfileFaults.{IsFaultIn};
+ghost use Rattle.keyfile_core.specs.KeyfileFaults.{fault_of};
 ghost use Rattle.keyfile_core.specs.Readings.{read_below, line_meant, reading_of, row_read, row_reading, group_after};
 ghost use Rattle.keyfile_core.specs.Rows.{row_meant};
 
-use crate::fault::{KeyfileCause, KeyfileFault};
+use crate::fault::{KeyfileCause, KeyfileFault, KeyfileFlaw};
 use crate::keys::is_key;
 use crate::lines::{Line, split_line};
 use dconf_path::settings_text;
@@ -34,11 +35,11 @@ pub struct Row<'a> {
 /// may come at any row. Each byte is looked at a fixed number of times.
 pub fn read<'a>(alloc: Global, bytes: &'a [u8]) -> Result<Vec<Row<'a>>, KeyfileFault>
     ensures rows { IfOk result (λ rows. rows_of bytes.entry.now ≡ Ok (map row_meant rows.items)) }
-    ensures fault { IfErr result (IsFaultIn (rows_of bytes.entry.now)) }
+    ensures fault { IfErr result (OfFault (λ fault. rows_of bytes.entry.now ≡ Err (fault_of fault))) }
 {
     match settings_text(bytes) {
         Ok(text) => read_text(alloc, text),
-        Err(fault) => Err(KeyfileFault::of_text(fault)),
+        Err(fault) => Err(KeyfileFault::Fault(KeyfileFlaw::of_text(fault))),
     }
 }
 
@@ -46,7 +47,7 @@ pub fn read<'a>(alloc: Global, bytes: &'a [u8]) -> Result<Vec<Row<'a>>, KeyfileF
 fn read_text<'a>(alloc: Global, text: &'a str) -> Result<Vec<Row<'a>>, KeyfileFault>
     requires { length text.now ≤ longest_text }
     ensures rows { IfOk result (λ rows. read_below None 0 (slice_split is_feed text.entry.now) ≡ Ok (map row_meant rows.items)) }
-    ensures fault { IfErr result (IsFaultIn (read_below None 0 (slice_split is_feed text.entry.now))) }
+    ensures fault { IfErr result (OfFault (λ fault. read_below None 0 (slice_split is_feed text.entry.now) ≡ Err (fault_of fault))) }
 {
     let mut rows = Vec::new(alloc);
     let mut reader = Reader {
@@ -59,7 +60,10 @@ fn read_text<'a>(alloc: Global, text: &'a str) -> Result<Vec<Row<'a>>, KeyfileFa
         match reader.read(line) {
             Ok(Some(row)) => rows.push(row)?,
             Ok(None) => {}
-            Err(cause) => return Err(KeyfileFault::at(reader.line, cause)),
+            Err(cause) => {
+                let line = reader.line;
+                return Err(KeyfileFault::Fault(KeyfileFlaw { line, cause }));
+            }
         }
         rest = after;
     }

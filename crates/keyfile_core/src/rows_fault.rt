@@ -1,8 +1,7 @@
 //! Why rows can't be written as a keyfile.
 ghost use Rattle.std.specs.Prelude.{◌≡◌};
-ghost use Rattle.keyfile_core.specs.declared.rows_fault.RowsFault.TheVariants.{Memory, Refused};
 
-use std::alloc::{AllocError, AllocFailed};
+use refused::Refused;
 use std::error::Error;
 use std::fmt;
 
@@ -15,22 +14,15 @@ pub enum RowsCause {
     BadKeyName,
 }
 
-/// Why rows have no text. It is printed as the name of its cause.
-#[derive(Clone, Copy, Debug, PartialEq, Eq)]
-pub enum RowsFault {
-    /// The first fault, and the number of its row, from 0 on.
-    Refused { row: usize, cause: RowsCause },
-    /// A growth was refused.
-    Memory,
-}
+/// Why rows have no text.
+pub type RowsFault = Refused<RowsFlaw>;
 
-impl RowsFault {
-    /// A fault of a row.
-    pub(crate) fn at(row: usize, cause: RowsCause) -> RowsFault
-        ensures { result ≡ Refused row cause }
-    {
-        RowsFault::Refused { row, cause }
-    }
+/// The first fault of rows. It is printed as the name of its cause.
+#[derive(Clone, Copy, Debug, PartialEq, Eq)]
+pub struct RowsFlaw {
+    /// The number of its row, from 0 on.
+    pub row: usize,
+    pub cause: RowsCause,
 }
 
 impl RowsCause {
@@ -60,36 +52,18 @@ impl fmt::Display for RowsCause {
     }
 }
 
-impl fmt::Display for RowsFault {
+impl fmt::Display for RowsFlaw {
     ghost use Rattle.std.specs.Prelude.{Some};
-    ghost use Rattle.keyfile_core.specs.RowsFaults.{rows_fault_text};
+    ghost use Rattle.dconf_model.specs.FaultTexts.{cause_text};
+    ghost use Rattle.keyfile_core.specs.RowsFaults.{rows_cause_of};
 
-    ghost output = { λ fault. Some (rows_fault_text fault) };
+    ghost output = { λ fault. Some (cause_text (rows_cause_of fault.cause)) };
 
     fn fmt<W: fmt::Write>(&self, f: &mut fmt::Formatter<W>) -> fmt::Result {
-        match self {
-            RowsFault::Refused { cause, .. } => f.write_str(cause.name()),
-            RowsFault::Memory => f.write_str("Memory"),
-        }
+        f.write_str(self.cause.name())
     }
 }
 
 impl Error for RowsCause {}
 
-impl Error for RowsFault {}
-
-impl From<AllocError> for RowsFault {
-    ghost from_gives = { λ _ e. e ≡ Memory };
-
-    fn from(_error: AllocError) -> RowsFault {
-        RowsFault::Memory
-    }
-}
-
-impl<T: Drop> From<AllocFailed<T>> for RowsFault {
-    ghost from_gives = { λ _ e. e ≡ Memory };
-
-    fn from(_error: AllocFailed<T>) -> RowsFault {
-        RowsFault::Memory
-    }
-}
+impl Error for RowsFlaw {}

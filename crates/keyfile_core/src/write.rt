@@ -1,9 +1,10 @@
 //! Rows written as a keyfile: the directory's own keys first, then group by group, in byte order.
-ghost use Rattle.std.specs.Prelude.{◌≡◌, ◌++◌, ◌∷◌, [], None, Ok, IfOk, IfErr, OnOk, map, option_map, string_bytes};
+ghost use Rattle.std.specs.Prelude.{◌≡◌, ◌++◌, ◌∷◌, [], None, Ok, Err, IfOk, IfErr, OnOk, map, option_map, string_bytes};
+ghost use Rattle.refused.specs.Faults.{OfFault};
 ghost use Rattle.dconf_model.specs.Keyfiles.{dumped, heading, heading_after, in_groups, text_after};
 ghost use Rattle.dconf_path.specs.Paths.{directory_text};
 ghost use Rattle.keyfile_core.specs.DumpRows.{AreAllBelow, AreBelow, dump_meant, setting_of};
-ghost use Rattle.keyfile_core.specs.RowsFaults.{IsRowsFaultIn};
+ghost use Rattle.keyfile_core.specs.RowsFaults.{rows_fault_of};
 
 use crate::dump_row::{DumpRow, rows_below};
 use crate::groups::group_name;
@@ -25,7 +26,7 @@ pub fn write_rows(
 ) -> Result<String, RowsFault>
     requires { AreBelow (directory_text directory) settings.now }
     ensures text { IfOk result (λ text. dumped (directory_text directory.entry) (map setting_of settings.entry.now) ≡ Ok (string_bytes text)) }
-    ensures fault { IfErr result (IsRowsFaultIn (dumped (directory_text directory.entry) (map setting_of settings.entry.now))) }
+    ensures fault { IfErr result (OfFault (λ fault. dumped (directory_text directory.entry) (map setting_of settings.entry.now) ≡ Err (rows_fault_of fault))) }
 {
     write_settings(alloc, settings, directory)
 }
@@ -38,7 +39,7 @@ pub fn write_settings<S: AsSetting>(
 ) -> Result<String, RowsFault>
     requires { AreAllBelow S.setting (directory_text directory) settings.now }
     ensures text { IfOk result (λ text. dumped (directory_text directory.entry) (map S.setting settings.entry.now) ≡ Ok (string_bytes text)) }
-    ensures fault { IfErr result (IsRowsFaultIn (dumped (directory_text directory.entry) (map S.setting settings.entry.now))) }
+    ensures fault { IfErr result (OfFault (λ fault. dumped (directory_text directory.entry) (map S.setting settings.entry.now) ≡ Err (rows_fault_of fault))) }
 {
     let mut rows = rows_below(alloc, settings, directory.as_str())?;
     sort_rows(&mut rows)?;

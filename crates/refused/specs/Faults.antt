@@ -1,5 +1,5 @@
 -- A fault, or an allocation that failed.
-use Rattle.std.specs.Prelude.{ℕ, List, Option, Some, codes}
+use Rattle.std.specs.Prelude.{ℕ, List, Option, Some, None, codes}
 use Rattle.refused.specs.declared.Refused.{Refused}
 use Rattle.refused.specs.declared.Refused.TheVariants.{Fault, Memory}
 
@@ -12,6 +12,11 @@ OfFault P Memory = Unit {0}
 abbrev pub OfFaultAlone : {F : Type 0} → (F → Type 0) → Refused F → Type 0
 OfFaultAlone P (Fault f) = P f
 OfFaultAlone P Memory = ⊥
+
+-- what a fault is, if it is one
+abbrev pub fault_in : {F X : Type 0} → (F → X) → Refused F → Option X
+fault_in is (Fault f) = Some (is f)
+fault_in is Memory = None
 
 -- what is printed
 abbrev pub refused_text : {F : Type 0} → (F → Option (List ℕ)) → Refused F → Option (List ℕ)

@@ -76,7 +76,7 @@ fn written(
             text.insert_str(0, comments)?;
             Ok(Answer::Done(text))
         }
-        Err(RowsFault::Refused { row, cause }) => Err(refused_row(alloc, settings, row, cause)),
+        Err(RowsFault::Fault(flaw)) => Err(refused_row(alloc, settings, flaw.row, flaw.cause)),
         Err(RowsFault::Memory) => Err(Refusal::NoMemory),
     }
 }

@@ -1,7 +1,7 @@
 //! Lock files and profiles, and faults that no command prints.
 use dconf_path::{
-    Database, DatabaseKind, Lock, LocksFault, PathFault, ProfileFault, TextFault, read_locks,
-    read_profile, settings_text,
+    Database, DatabaseKind, Lock, LocksFault, PathFault, ProfileFault, ProfileFlaw, TextFault,
+    read_locks, read_profile, settings_text,
 };
 use gvdb_write::{SalvageFault, WriteFault};
 use std::alloc::{AllocError, Global};
@@ -52,8 +52,8 @@ fn are_read(alloc: Global) -> bool {
 /// Whether a profile and a text are refused by their second lines.
 fn are_refused(alloc: Global) -> bool {
     let profile = match read_profile(alloc, "system-db:a\nuser-db:b") {
-        Ok(_) => false,
-        Err(fault) => fault == ProfileFault::UserNotFirst(2) && fault.line() == Some(2),
+        Err(ProfileFault::Fault(flaw)) => flaw == ProfileFlaw::UserNotFirst(2) && flaw.line() == 2,
+        _ => false,
     };
     let text = match settings_text(b"[a]\nk='\xc3'\n") {
         Ok(_) => false,

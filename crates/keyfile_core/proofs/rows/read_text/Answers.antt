@@ -17,8 +17,7 @@ returns-in-Err-clause-fault c =
     let more = lines_in (text_of c.split_line.result.1) in
     let here = at_line rows group c.loop-rest.reader.line c.loop-rest.rest c.in-Some.text l more c.in-Some.is c.split_line.ensures.parts in
     let wrong = is_wrong rows group c.loop-rest.reader.line l more (cause_of c.in-Err.cause) c.in-Err.ensures.reading in
-    rw c.at.ensures
-    (sym (here ∙ c.loop-rest.invariant.reads) ∙ (wrong ∙ (λ i. Err (record { line = sym c.in-Err.ensures.line i; cause = cause_of c.in-Err.cause }))))
+    sym (here ∙ c.loop-rest.invariant.reads) ∙ (wrong ∙ (λ i. Err (record { line = sym c.in-Err.ensures.line i; cause = cause_of c.in-Err.cause })))
 
 pub loop-rest-preserved-in_ok-push-in-Ok-Some : goal.loop-rest-preserved-in_ok-push-in-Ok-Some
 loop-rest-preserved-in_ok-push-in-Ok-Some c =
