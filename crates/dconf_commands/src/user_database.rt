@@ -42,8 +42,8 @@ pub(crate) fn saved_saying(
             bytes,
             text,
         }),
+        Err(WriteFault::Fault(fault)) => Err(refused(alloc, fault)),
         Err(WriteFault::Memory) => Err(Refusal::NoMemory),
-        Err(fault) => Err(refused(alloc, fault)),
     }
 }
 

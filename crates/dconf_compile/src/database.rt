@@ -9,7 +9,7 @@ use crate::keyfiles::add_keyfiles;
 use crate::locks::add_lock_files;
 use crate::order::{Numbered, first_file, in_order};
 use crate::source::Source;
-use gvdb_write::{MapBuilder, WriteFault};
+use gvdb_write::{MapBuilder, WriteFault, Map, TooBig, write};
 use std::alloc::Global;
 
 /// The bytes of the database that keyfiles and lock files give, or their first fault.
@@ -34,7 +34,7 @@ pub fn compile(
     let settings = settings(alloc, &order, locks)?;
     match settings.write() {
         Ok(bytes) => Ok(bytes),
-        Err(WriteFault::TooBig) => Err(CompileFault::at(
+        Err(WriteFault::Fault(TooBig)) => Err(CompileFault::at(
             first_file(&order),
             0,
             CompileCause::TooBig,

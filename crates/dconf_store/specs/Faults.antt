@@ -12,6 +12,11 @@ use Rattle.refused.specs.declared.Refused.{Refused as FaultOrMemory}
 use Rattle.refused.specs.declared.Refused.TheVariants as viewed
 use Rattle.gvdb_write.specs.declared.write_fault.WriteFault.{WriteFault}
 use Rattle.gvdb_write.specs.declared.write_fault.WriteFault.TheVariants as written
+use Rattle.gv_view.specs.declared.owned.ViewFault.{ViewFault}
+use Rattle.gv_view.specs.declared.owned.ViewFault.TheVariants as viewed
+use Rattle.refused.specs.declared.Refused as written
+use Rattle.refused.specs.declared.Refused.TheVariants as written_as
+use Rattle.gvdb_write.specs.declared.write_fault.TooBig as big
 use Rattle.dconf_engine.specs.declared.fault.EngineFault.{EngineFault}
 use Rattle.dconf_engine.specs.declared.fault.EngineFault.TheVariants as opened
 use Rattle.dconf_engine.specs.declared.change_fault.ChangeFault.{ChangeFault}
@@ -66,9 +71,9 @@ abbrev pub fault_of_engine : EngineFault → StoreFault
 fault_of_engine (opened.BadDatabase i fault) = BadDatabase i fault
 fault_of_engine opened.Memory = Memory
 
-abbrev pub fault_of_write : WriteFault → StoreFault
-fault_of_write written.TooBig = TooBig
-fault_of_write written.Memory = Memory
+abbrev pub fault_of_write : written.Refused big.TooBig → StoreFault
+fault_of_write (written_as.Fault _) = TooBig
+fault_of_write written_as.Memory = Memory
 
 abbrev pub fault_of_view : {F : Type 0} → FaultOrMemory F → StoreFault
 fault_of_view (viewed.Fault f) = TooLarge

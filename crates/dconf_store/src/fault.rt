@@ -79,7 +79,7 @@ impl From<WriteFault> for StoreFault {
 
     fn from(fault: WriteFault) -> StoreFault {
         match fault {
-            WriteFault::TooBig => StoreFault::TooBig,
+            WriteFault::Fault(_) => StoreFault::TooBig,
             WriteFault::Memory => StoreFault::Memory,
         }
     }

@@ -18,7 +18,7 @@ use dconf_layers::Layer;
 use dconf_path::KeyPath;
 use gv_normal::is_normal;
 use gv_view::{View, ViewFault};
-use gvdb_write::WriteFault;
+use gvdb_write::{TooBig, WriteFault};
 use std::alloc::Global;
 
 /// A change: sets the value of a key (`sets`), or takes the user's value away. Where it sets
@@ -85,7 +85,7 @@ pub fn user_file(
     make_all(alloc, &mut engine, changes)?;
     match engine.into_saved() {
         Ok(file) => Ok(file),
-        Err(WriteFault::TooBig) => Err(Refused::of_none(Fault::TooBig)),
+        Err(WriteFault::Fault(TooBig)) => Err(Refused::of_none(Fault::TooBig)),
         Err(WriteFault::Memory) => Err(Refused::of_none(Fault::Memory)),
     }
 }

@@ -4,7 +4,7 @@ ghost use Rattle.dconfdb_calls.specs.Salvaged.{IsSalvageOf, IsUnsalvaged, IsUnwr
 
 use crate::fault::Fault;
 use crate::opened::fault_of;
-use gvdb_write::{Map, SalvageFault, WriteFault, salvage, write};
+use gvdb_write::{Map, SalvageFault, TooBig, WriteFault, salvage, write};
 use std::alloc::Global;
 
 /// The bytes of a sound database, and how many values and locks it has.
@@ -27,7 +27,7 @@ pub fn salvaged_file(alloc: Global, file: &[u8]) -> Result<Salvaged, Fault>
 {
     match salvage(alloc, file) {
         Ok(map) => written(alloc, &map),
-        Err(SalvageFault::Open(fault)) => Err(fault_of(fault)),
+        Err(SalvageFault::Fault(fault)) => Err(fault_of(fault)),
         Err(SalvageFault::Memory) => Err(Fault::Memory),
     }
 }
@@ -43,7 +43,7 @@ fn written(alloc: Global, map: &Map) -> Result<Salvaged, Fault>
             keys: map.key_count(),
             locks: map.lock_count(),
         }),
-        Err(WriteFault::TooBig) => Err(Fault::TooBig),
+        Err(WriteFault::Fault(TooBig)) => Err(Fault::TooBig),
         Err(WriteFault::Memory) => Err(Fault::Memory),
     }
 }

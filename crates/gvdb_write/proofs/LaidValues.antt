@@ -7,8 +7,9 @@ use Rattle.gv_model.specs.Layout.{round_up}
 use Rattle.gv_model.specs.Limits.{limit}
 use Rattle.dconf_model.specs.Plans.{values_end}
 use Rattle.gvdb_write.specs.declared.layout.Pointer.{Pointer}
-use Rattle.gvdb_write.specs.declared.write_fault.WriteFault.{WriteFault}
-use Rattle.gvdb_write.specs.declared.write_fault.WriteFault.TheVariants.{TooBig, Memory}
+use Rattle.refused.specs.declared.Refused.{Refused}
+use Rattle.refused.specs.declared.Refused.TheVariants.{Fault, Memory}
+use Rattle.gvdb_write.specs.declared.write_fault.TooBig.{TooBig}
 use Rattle.gvdb_write.specs.Limits.{IsPast, IsOver}
 use Rattle.gvdb_write.specs.LayoutParts.{value_start}
 use Rattle.gvdb_write.specs.Contents.{pointer_at, IsShort, ArePointers}
@@ -44,19 +45,19 @@ whole_end start values n at pointers so le = so.here ∙ ap (values_end start) (
 pub ends_below : (start : ℕ) (values : List (List ℕ)) (n : ℕ) → n < length values → value_start start values n + length (get_or values n []) ≤ values_end start values
 ends_below start values n l = grind (arith, common_steps, prefix_ends_below, next_end)
 
-pub past_is_over : (n m : ℕ) (e : WriteFault) → n ≤ m → IsPast n e → IsOver m e
-past_is_over n m TooBig le past = omega (arith, le, past)
+pub past_is_over : (n m : ℕ) (e : Refused TooBig) → n ≤ m → IsPast n e → IsOver m e
+past_is_over n m (Fault f) le past = omega (arith, le, past)
 past_is_over n m Memory le past = absurd past
 
 -- too much at one value is too much for all
-pub past_at_align : (start : ℕ) (values : List (List ℕ)) (n at : ℕ) (pointers : List Pointer) → AreLaid start values n at pointers → n < length values → (e : WriteFault) → IsPast (round_up 8 at) e → IsOver (values_end start values) e
+pub past_at_align : (start : ℕ) (values : List (List ℕ)) (n at : ℕ) (pointers : List Pointer) → AreLaid start values n at pointers → n < length values → (e : Refused TooBig) → IsPast (round_up 8 at) e → IsOver (values_end start values) e
 past_at_align start values n at pointers so l e past =
     let begins : round_up 8 at ≡ value_start start values n = ap (round_up 8) so.here in
     let le = ends_below start values n l in
     past_is_over (round_up 8 at) (values_end start values) e (omega (arith, begins, le)) past
 
 pub past_at_lay : (start : ℕ) (values : List (List ℕ)) (n at aligned size : ℕ) (pointers : List Pointer) → AreLaid start values n at pointers → n < length values
-    → aligned ≡ round_up 8 at → size ≡ length (get_or values n []) → (e : WriteFault) → IsPast (aligned + size) e → IsOver (values_end start values) e
+    → aligned ≡ round_up 8 at → size ≡ length (get_or values n []) → (e : Refused TooBig) → IsPast (aligned + size) e → IsOver (values_end start values) e
 past_at_lay start values n at aligned size pointers so l is many e past =
     let begins : aligned ≡ value_start start values n = is ∙ ap (round_up 8) so.here in
     let le = ends_below start values n l in

@@ -14,8 +14,9 @@ use Rattle.dconf_model.proofs.Renumbered.{name_is, kind_at as kind_by_number}
 use Rattle.gvdb_write.specs.declared.names.Content.{Content}
 use Rattle.gvdb_write.specs.declared.names.Named.{Named}
 use Rattle.gvdb_write.specs.declared.table.TablePlan.{TablePlan}
-use Rattle.gvdb_write.specs.declared.write_fault.WriteFault.{WriteFault}
-use Rattle.gvdb_write.specs.declared.write_fault.WriteFault.TheVariants.{TooBig, Memory}
+use Rattle.refused.specs.declared.Refused.{Refused}
+use Rattle.refused.proofs.Faults.{OfFault-weaker}
+use Rattle.gvdb_write.specs.declared.write_fault.TooBig.{TooBig}
 use Rattle.gvdb_write.specs.Limits.{IsOver, IsRefusal}
 use Rattle.gvdb_write.specs.PlanWords.{content_bytes, entries_of, plan_of}
 use Rattle.gvdb_write.specs.Names.{named, name_at, kind_at, IsThere, AreNamesOf, AreLockNames}
@@ -94,9 +95,8 @@ ready s names lock_names root locks settings are is are_locks is_locks =
 -- ---- what it leads to
 
 -- a database by a plan of the settings would be too long
-pub refused : (s : Settings) (root locks : TablePlan) (e : WriteFault) → IsPlanOf s (plan_of root locks) → IsOver (length_of (plan_of root locks)) e → IsRefusal s e
-refused s root locks TooBig is over = (length_of (plan_of root locks), (plan_of root locks, is, refl), over)
-refused s root locks Memory is over = tt
+pub refused : (s : Settings) (root locks : TablePlan) (e : Refused TooBig) → IsPlanOf s (plan_of root locks) → IsOver (length_of (plan_of root locks)) e → IsRefusal s e
+refused s root locks e is = OfFault-weaker _ _ (λ _ over. (length_of (plan_of root locks), (plan_of root locks, is, refl), over)) e
 
 -- a file that is laid by their plan holds the settings
 pub file_is_sound : (root locks : TablePlan) (file : List ℕ) → IsFileOf root locks file → IsSound (root_of file)

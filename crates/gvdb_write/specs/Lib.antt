@@ -1,6 +1,5 @@
 pub mod Maps
 pub mod PathsLeft
-pub mod WriteFaults
 pub mod Limits
 pub mod Groups
 pub mod PlanWords
@@ -16,4 +15,3 @@ pub mod Layouts
 pub mod PlannedTables
 pub mod Rows
 pub mod Salvaged
-pub mod SalvageFaults

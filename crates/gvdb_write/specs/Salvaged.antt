@@ -1,18 +1,19 @@
 -- What one item gives to the settings that are salvaged.
 use Rattle.std.specs.Prelude.{◌≡◌, ◌<◌, ◌⊎◌, ◌↔◌, ℕ, List, Some, IsTrue, IsUtf8, length}
 use Rattle.std.specs.FinMap.{get, contains_key}
+use Rattle.refused.specs.declared.Refused.{Refused}
+use Rattle.refused.specs.declared.Refused.TheVariants.{Fault, Memory}
 use Rattle.dconf_model.specs.Settings.{Settings, with_value}
 use Rattle.dconf_model.specs.Table.{Table, item, item_count, HasBytes, bytes_of, value_kind, table_of}
 use Rattle.dconf_model.specs.Names.{HasName, IsRow}
 use Rattle.dconf_model.specs.Opening.{IsDatabase, IsOpenFault}
 use Rattle.dconf_model.specs.Salvaging.{IsKeyText, IsPathText, IsLowest, IsLowestValue, IsOpenLocks}
 use Rattle.gvdb_format.specs.Faults.{open_fault_of}
-use Rattle.gvdb_write.specs.declared.salvage_fault.SalvageFault.{SalvageFault}
-use Rattle.gvdb_write.specs.declared.salvage_fault.SalvageFault.TheVariants.{Open, Memory}
+use Rattle.gvdb_format.specs.declared.fault.OpenFault.{OpenFault}
 
 -- why nothing is salvaged: memory is asked for in a database that opens, and there alone
-abbrev pub IsSalvageRefusal : List ℕ → SalvageFault → Type 0
-IsSalvageRefusal file (Open fault) = IsOpenFault file (open_fault_of fault)
+abbrev pub IsSalvageRefusal : List ℕ → Refused OpenFault → Type 0
+IsSalvageRefusal file (Fault fault) = IsOpenFault file (open_fault_of fault)
 IsSalvageRefusal file Memory = IsDatabase file
 
 -- each path of a key has the bytes of its lowest value

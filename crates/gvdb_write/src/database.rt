@@ -15,7 +15,7 @@ ghost use Rattle.gvdb_write.specs.LayoutParts.{CanBeLaid};
 ghost use Rattle.gvdb_write.specs.Layouts.{IsLayoutOf};
 ghost use Rattle.gvdb_write.specs.PlannedTables.{AreReady, IsFileOf};
 ghost use Rattle.gvdb_write.specs.WrittenParts.{CanBeWritten, HaveFourBytes, HaveNumbers, HaveKeys, HaveBits, HasItsTable, HasRecords, keys_bytes, numbers_of, with_padding, with_values, HasTable, HasTableOfLocks};
-ghost use Rattle.gvdb_write.specs.declared.write_fault.WriteFault.TheVariants.{Memory};
+ghost use Rattle.refused.specs.declared.Refused.TheVariants.{Memory};
 
 use crate::contents::Contents;
 use crate::layout::{Layout, Pointer, bloom_words};
@@ -25,7 +25,7 @@ use crate::sorted::Sorted;
 use crate::table::TablePlan;
 use crate::write_fault::WriteFault;
 use gvdb_format::{SIGNATURE, head_number, push_u32};
-use std::alloc::Global;
+use std::alloc::{AllocError, Global};
 
 /// The second hash of a bloom word is the hash after so many bits.
 const BLOOM_SHIFT: u32 = 5;
@@ -98,11 +98,10 @@ fn write_parts(
 }
 
 /// Appends the header of a file of version 0, whose root table is there.
-fn write_header(root: Pointer, out: &mut Vec<u8>) -> Result<(), WriteFault>
+fn write_header(root: Pointer, out: &mut Vec<u8>) -> Result<(), AllocError>
     requires start { root.start ≤ limit }
     requires end { root.end ≤ limit }
     ensures bytes { OnOk result (out.new.items ≡ out.old.items ++ header_bytes root.start root.end) }
-    ensures fault { IfErr result (λ e. e ≡ Memory) }
 {
     out.extend_from_slice(SIGNATURE)?;
     push_u32(0, out)?;
@@ -118,11 +117,10 @@ fn write_table(
     keys_at: usize,
     contents: Contents<'_>,
     out: &mut Vec<u8>,
-) -> Result<(), WriteFault>
+) -> Result<(), AllocError>
     requires out { length out.old.items ≤ limit }
     requires table { CanBeWritten table.now keys_at contents }
     ensures bytes { OnOk result (HasItsTable HasTable table.now keys_at contents.entry out.old.items out.new.items) }
-    ensures fault { IfErr result (λ e. e ≡ Memory) }
 {
     pad(out.len().next_multiple_of(4), out)?;
     let words = bloom(*out.allocator(), &table.items)?;
@@ -139,11 +137,10 @@ fn write_locks(
     keys_at: usize,
     contents: Contents<'_>,
     out: &mut Vec<u8>,
-) -> Result<(), WriteFault>
+) -> Result<(), AllocError>
     requires out { length out.old.items ≤ limit }
     requires table { CanBeWritten locks.now keys_at contents }
     ensures bytes { OnOk result (HasItsTable HasTableOfLocks locks.now keys_at contents.entry out.old.items out.new.items) }
-    ensures fault { IfErr result (λ e. e ≡ Memory) }
 {
     if locks.items.is_empty() {
         return Ok(());
@@ -152,11 +149,10 @@ fn write_locks(
 }
 
 /// Appends the two first numbers of a table of so many bloom words and buckets.
-fn write_head(words: usize, buckets: usize, out: &mut Vec<u8>) -> Result<(), WriteFault>
+fn write_head(words: usize, buckets: usize, out: &mut Vec<u8>) -> Result<(), AllocError>
     requires words { words < 2 ^ 27 }
     requires buckets { buckets ≤ limit }
     ensures bytes { OnOk result (out.new.items ≡ out.old.items ++ head_bytes words buckets) }
-    ensures fault { IfErr result (λ e. e ≡ Memory) }
 {
     push_u32(head_number(words as u32, BLOOM_SHIFT), out)?;
     push_u32(buckets as u32, out)?;
@@ -164,10 +160,9 @@ fn write_head(words: usize, buckets: usize, out: &mut Vec<u8>) -> Result<(), Wri
 }
 
 /// The bloom words: each hash sets two bits of the word that it chooses.
-fn bloom(alloc: Global, items: &[Named<'_>]) -> Result<Vec<u32>, WriteFault>
+fn bloom(alloc: Global, items: &[Named<'_>]) -> Result<Vec<u32>, AllocError>
     ensures len { IfOk result (λ words. length words.items ≡ (length items.now + 15) / 16) }
     ensures bits { IfOk result (λ words. HaveBits words.items items.now) }
-    ensures fault { IfErr result (λ e. e ≡ Memory) }
 {
     let mut words = Vec::new(alloc);
     words.resize(bloom_words(items.len()), 0u32)?;
@@ -188,9 +183,8 @@ fn with_bits(word: u32, hash: u32) -> u32
 }
 
 /// Appends bloom words.
-fn write_words(words: &[u32], out: &mut Vec<u8>) -> Result<(), WriteFault>
+fn write_words(words: &[u32], out: &mut Vec<u8>) -> Result<(), AllocError>
     ensures bytes { OnOk result (out.new.items ≡ out.old.items ++ words_bytes words.now) }
-    ensures fault { IfErr result (λ e. e ≡ Memory) }
 {
     for word in words {
         push_u32(*word, out)?;
@@ -199,10 +193,9 @@ fn write_words(words: &[u32], out: &mut Vec<u8>) -> Result<(), WriteFault>
 }
 
 /// Appends the numbers of items.
-fn write_numbers(numbers: &[usize], out: &mut Vec<u8>) -> Result<(), WriteFault>
+fn write_numbers(numbers: &[usize], out: &mut Vec<u8>) -> Result<(), AllocError>
     requires { HaveFourBytes numbers.now }
     ensures bytes { OnOk result (out.new.items ≡ out.old.items ++ words_bytes numbers.now) }
-    ensures fault { IfErr result (λ e. e ≡ Memory) }
 {
     for number in numbers {
         push_u32(*number as u32, out)?;
@@ -216,13 +209,12 @@ fn write_records(
     keys_at: usize,
     contents: Contents<'_>,
     out: &mut Vec<u8>,
-) -> Result<(), WriteFault>
+) -> Result<(), AllocError>
     requires items { CanBeLaid items.now }
     requires few { length items.now ≤ limit }
     requires keys { all_keys_end keys_at items.now ≤ limit }
     requires contents { CanPoint items.now contents }
     ensures bytes { OnOk result (HasRecords items.now keys_at contents.entry out.old.items out.new.items) }
-    ensures fault { IfErr result (λ e. e ≡ Memory) }
 {
     let mut key_start = keys_at;
     for (number, named) in items.iter().enumerate() {
@@ -234,10 +226,9 @@ fn write_records(
 }
 
 /// Appends the keys of items.
-fn write_keys(items: &[Named<'_>], out: &mut Vec<u8>) -> Result<(), WriteFault>
+fn write_keys(items: &[Named<'_>], out: &mut Vec<u8>) -> Result<(), AllocError>
     requires { HaveKeys items.now }
     ensures bytes { OnOk result (out.new.items ≡ out.old.items ++ keys_bytes items.now) }
-    ensures fault { IfErr result (λ e. e ≡ Memory) }
 {
     for named in items {
         out.extend_from_slice(&named.name[named.from as usize..])?;
@@ -246,11 +237,10 @@ fn write_keys(items: &[Named<'_>], out: &mut Vec<u8>) -> Result<(), WriteFault>
 }
 
 /// Appends the lists of all directories, at a multiple of 4.
-fn write_children(children: &[(usize, usize)], out: &mut Vec<u8>) -> Result<(), WriteFault>
+fn write_children(children: &[(usize, usize)], out: &mut Vec<u8>) -> Result<(), AllocError>
     requires out { length out.old.items ≤ limit }
     requires children { HaveNumbers children.now }
     ensures bytes { OnOk result (out.new.items ≡ with_padding 4 out.old.items ++ words_bytes (numbers_of children.now)) }
-    ensures fault { IfErr result (λ e. e ≡ Memory) }
 {
     pad(out.len().next_multiple_of(4), out)?;
     for (_, child) in children {
@@ -260,10 +250,9 @@ fn write_children(children: &[(usize, usize)], out: &mut Vec<u8>) -> Result<(), 
 }
 
 /// Appends values, each at a multiple of 8.
-fn write_values(values: &[&[u8]], out: &mut Vec<u8>) -> Result<(), WriteFault>
+fn write_values(values: &[&[u8]], out: &mut Vec<u8>) -> Result<(), AllocError>
     requires { values_end (length out.old.items) (bytes_of_each values.now) ≤ limit }
     ensures bytes { OnOk result (out.new.items ≡ with_values out.old.items (bytes_of_each values.now)) }
-    ensures fault { IfErr result (λ e. e ≡ Memory) }
 {
     for value in values {
         pad(out.len().next_multiple_of(8), out)?;
@@ -273,9 +262,8 @@ fn write_values(values: &[&[u8]], out: &mut Vec<u8>) -> Result<(), WriteFault>
 }
 
 /// Appends zero bytes up to a place.
-fn pad(to: usize, out: &mut Vec<u8>) -> Result<(), WriteFault>
+fn pad(to: usize, out: &mut Vec<u8>) -> Result<(), AllocError>
     ensures bytes { OnOk result (out.new.items ≡ out.old.items ++ replicate (to - length out.old.items) 0) }
-    ensures fault { IfErr result (λ e. e ≡ Memory) }
 {
     if out.len() < to {
         out.resize(to, 0)?;

@@ -18,7 +18,7 @@ use crate::contents::Contents;
 use crate::names::Named;
 use crate::table::TablePlan;
 use crate::values::PlacedValues;
-use crate::write_fault::WriteFault;
+use crate::write_fault::{TooBig, WriteFault};
 use gvdb_format::{HEAD_LEN, HEADER_LEN, NUMBER_LEN, RECORD_LEN, WORD_LEN};
 use std::alloc::Global;
 
@@ -51,7 +51,7 @@ impl Cursor {
         ensures fault { IfErr result (IsPast (self.old.at + len)) }
     {
         if len > MAX_DATABASE_LEN - self.at {
-            return Err(WriteFault::TooBig);
+            return Err(WriteFault::Fault(TooBig));
         }
         let start = self.at;
         self.at += len;
@@ -90,7 +90,7 @@ fn lay_table(cursor: &mut Cursor, items: usize) -> Result<Pointer, WriteFault>
     ensures fault { IfErr result (IsPast (table_end cursor.old.at items)) }
 {
     if items > MAX_DATABASE_LEN / ITEM_LEN {
-        return Err(WriteFault::TooBig);
+        return Err(WriteFault::Fault(TooBig));
     }
     cursor.align(4)?;
     cursor.lay(HEAD_LEN + WORD_LEN * bloom_words(items) + ITEM_LEN * items)
@@ -133,7 +133,7 @@ fn lay_lists(cursor: &mut Cursor, numbers: usize) -> Result<usize, WriteFault>
 {
     cursor.align(4)?;
     if numbers > MAX_DATABASE_LEN / NUMBER_LEN {
-        return Err(WriteFault::TooBig);
+        return Err(WriteFault::Fault(TooBig));
     }
     let all = cursor.lay(NUMBER_LEN * numbers)?;
     Ok(all.start)

@@ -7,7 +7,7 @@ ghost use Rattle.dconf_model.specs.Settings.{IsSettings};
 ghost use Rattle.gvdb_write.specs.PlanWords.{kind_of, entry_of};
 ghost use Rattle.dconf_model.specs.Paths.{is_key_path};
 ghost use Rattle.gvdb_write.specs.Names.{ArePlaced, AreGood, IsDirectoryAt, IsBeyond, IsAdded, AreNamesOf, AreLockNames, last_name, name_at, kind_at, IsSlash};
-ghost use Rattle.gvdb_write.specs.declared.write_fault.WriteFault.TheVariants.{Memory};
+ghost use Rattle.refused.specs.declared.Refused.TheVariants.{Memory};
 
 use crate::sorted::Sorted;
 use crate::write_fault::WriteFault;

@@ -10,11 +10,14 @@ ghost use Rattle.gvdb_read.specs.Tables.{region};
 ghost use Rattle.gvdb_write.specs.Salvaged.{HasLowestValues, HasNoShortText, IsLowestLocks, IsPointed, IsSalvageRefusal, SpellsLock, TakesLock, TakesValue};
 
 use crate::map::Map;
-use crate::salvage_fault::SalvageFault;
 use dconf_path::{KeyPath, LockPath, MAX_PATH_LEN};
-use gvdb_format::{Kind, LOCKS};
+use gvdb_format::{Kind, LOCKS, OpenFault};
 use gvdb_read::Table;
+use refused::Refused;
 use std::alloc::{AllocError, Global};
+
+/// Why nothing is salvaged: the bytes are no database.
+pub type SalvageFault = Refused<OpenFault>;
 
 /// What can be saved of a database, sound or not.
 ///
@@ -22,14 +25,17 @@ use std::alloc::{AllocError, Global};
 /// paths that the lowest `.locks` which opens names by values. What spells no path is passed over, and no value is
 /// looked into.
 ///
-/// `Open` comes where the bytes are no database, and `Memory` where a growth is refused. It walks from each item up its
+/// An [`OpenFault`] comes where the bytes are no database, and `Memory` where a growth is refused. It walks from each item up its
 /// parents, for at most 65,536 items, and compares as many paths as the map is deep. Of a path it holds one value at a time.
 pub fn salvage(alloc: Global, file: &[u8]) -> Result<Map, SalvageFault>
     ensures opens { IfOk result (λ _. IsDatabase file.now) }
     ensures salvaged { IfOk result (λ map. IsSalvaged file.now map) }
     ensures fault { IfErr result (IsSalvageRefusal file.now) }
 {
-    let root = Table::open(file)?;
+    let root = match Table::open(file) {
+        Ok(root) => root,
+        Err(fault) => return Err(SalvageFault::Fault(fault)),
+    };
     let mut map = salvaged_values(alloc, root)?;
     if let Some(locks) = lowest_locks(root) {
         salvage_locks(alloc, locks, &mut map)?;

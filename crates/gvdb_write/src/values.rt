@@ -1,16 +1,14 @@
 //! The values of a database: equal ones are stored once, at the first place. A value is looked for at the slot of its hash,
 //! where most are alone; those that come to a slot that is taken are in a map. So its bytes are compared with those of one
 //! value, and else with as many as that map is deep, whatever their hashes are.
-ghost use Rattle.std.specs.Prelude.{◌≡◌, ◌<◌, ◌≤◌, [], fold, length, slice_index_or, OnOk, IfOk, IfErr};
+ghost use Rattle.std.specs.Prelude.{◌≡◌, ◌<◌, ◌≤◌, [], fold, length, slice_index_or, OnOk, IfOk};
 ghost use Rattle.dconf_model.specs.Plans.{with_new};
 ghost use Rattle.gvdb_write.specs.Contents.{own_values, HavePlaces};
 ghost use Rattle.gvdb_write.specs.Values.{bytes_of_each, place_by, ArePlaces};
-ghost use Rattle.gvdb_write.specs.declared.write_fault.WriteFault.TheVariants.{Memory};
 
 use crate::names::{Content, Named};
-use crate::write_fault::WriteFault;
 use gvdb_format::hash;
-use std::alloc::Global;
+use std::alloc::{AllocError, Global};
 use std::collections::BTreeMap;
 
 /// Values in the order in which they came, each of them once.
@@ -25,10 +23,9 @@ pub(crate) struct Values<'a> {
 
 impl<'a> Values<'a> {
     /// No values. There is room for so many, and they are looked for fast.
-    pub(crate) fn new(alloc: Global, many: usize) -> Result<Values<'a>, WriteFault>
+    pub(crate) fn new(alloc: Global, many: usize) -> Result<Values<'a>, AllocError>
         ensures empty { IfOk result (λ values. values.distinct.items ≡ []) }
         ensures places { IfOk result (λ values. ArePlaces values.slots.items values.others (bytes_of_each values.distinct.items)) }
-        ensures fault { IfErr result (λ e. e ≡ Memory) }
     {
         let mut slots = Vec::new(alloc);
         // With four slots for each item, one value in nine or less comes to a slot that is taken.
@@ -41,13 +38,12 @@ impl<'a> Values<'a> {
     }
 
     /// Adds a value, unless an equal one is there, and gives the place that it has.
-    pub(crate) fn add(&mut self, value: &'a [u8]) -> Result<usize, WriteFault>
+    pub(crate) fn add(&mut self, value: &'a [u8]) -> Result<usize, AllocError>
         requires { ArePlaces self.old.slots.items self.old.others (bytes_of_each self.old.distinct.items) }
         ensures places { OnOk result (ArePlaces self.new.slots.items self.new.others (bytes_of_each self.new.distinct.items)) }
         ensures distinct { OnOk result (bytes_of_each self.new.distinct.items ≡ with_new (bytes_of_each self.old.distinct.items) value.now) }
         ensures within { IfOk result (λ place. place < length self.new.distinct.items) }
         ensures place { IfOk result (λ place. slice_index_or (bytes_of_each self.new.distinct.items) place [] ≡ value.now) }
-        ensures fault { IfErr result (λ e. e ≡ Memory) }
     {
         let slot = hash(value) as usize % self.slots.len();
         if let Some(place) = self.place(value, self.slots[slot]) {
@@ -95,12 +91,11 @@ impl<'a> PlacedValues<'a> {
         alloc: Global,
         root: &[Named<'a>],
         locks: &[Named<'a>],
-    ) -> Result<PlacedValues<'a>, WriteFault>
+    ) -> Result<PlacedValues<'a>, AllocError>
         ensures distinct { IfOk result (λ placed. bytes_of_each placed.distinct.items
             ≡ fold with_new (fold with_new [] (own_values root.now)) (own_values locks.now)) }
         ensures root { IfOk result (λ placed. HavePlaces root.now (bytes_of_each placed.distinct.items) placed.root.items) }
         ensures locks { IfOk result (λ placed. HavePlaces locks.now (bytes_of_each placed.distinct.items) placed.locks.items) }
-        ensures fault { IfErr result (λ e. e ≡ Memory) }
     {
         let mut values = Values::new(alloc, root.len())?;
         let root = value_places(alloc, root, &mut values)?;
@@ -118,13 +113,12 @@ fn value_places<'a>(
     alloc: Global,
     items: &[Named<'a>],
     values: &mut Values<'a>,
-) -> Result<Vec<usize>, WriteFault>
+) -> Result<Vec<usize>, AllocError>
     requires { ArePlaces values.old.slots.items values.old.others (bytes_of_each values.old.distinct.items) }
     ensures known { OnOk result (ArePlaces values.new.slots.items values.new.others (bytes_of_each values.new.distinct.items)) }
     ensures distinct { OnOk result (bytes_of_each values.new.distinct.items
         ≡ fold with_new (bytes_of_each values.old.distinct.items) (own_values items.now)) }
     ensures places { IfOk result (λ places. HavePlaces items.now (bytes_of_each values.new.distinct.items) places.items) }
-    ensures fault { IfErr result (λ e. e ≡ Memory) }
 {
     let mut places = Vec::with_capacity(alloc, items.len())?;
     for named in items {

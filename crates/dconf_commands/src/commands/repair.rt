@@ -31,7 +31,7 @@ fn repaired(alloc: Global, bytes: &[u8], out: &str) -> Result<Answer, Refusal>
 {
     match salvage(alloc, bytes) {
         Ok(map) => rewritten(alloc, &map, out),
-        Err(SalvageFault::Open(fault)) => Err(refused(alloc, fault)),
+        Err(SalvageFault::Fault(fault)) => Err(refused(alloc, fault)),
         Err(SalvageFault::Memory) => Err(Refusal::NoMemory),
     }
 }
@@ -42,7 +42,7 @@ fn rewritten(alloc: Global, map: &Map, out: &str) -> Result<Answer, Refusal>
 {
     match write(alloc, map) {
         Ok(bytes) => changed(alloc, map, out, bytes),
-        Err(WriteFault::TooBig) => Err(refused(alloc, WriteFault::TooBig)),
+        Err(WriteFault::Fault(fault)) => Err(refused(alloc, fault)),
         Err(WriteFault::Memory) => Err(Refusal::NoMemory),
     }
 }

@@ -3,7 +3,7 @@ use dconf_path::{
     Database, DatabaseKind, Lock, LocksFault, PathFault, ProfileFault, ProfileFlaw, TextFault,
     read_locks, read_profile, settings_text,
 };
-use gvdb_write::{SalvageFault, WriteFault};
+use gvdb_write::{SalvageFault, TooBig, WriteFault};
 use std::alloc::{AllocError, Global};
 use std::fmt::Write;
 use std::test::Fail;
@@ -66,7 +66,7 @@ fn are_refused(alloc: Global) -> bool {
 fn show_faults(names: &mut String) -> Result<(), AllocError> {
     write!(names, "{} {} ", PathFault::HasNul, LocksFault::Memory)?;
     write!(names, "{} {} ", ProfileFault::Memory, SalvageFault::Memory)?;
-    write!(names, "{} {}", WriteFault::TooBig, WriteFault::Memory)
+    write!(names, "{} {}", TooBig, WriteFault::Memory)
 }
 
 #[test]

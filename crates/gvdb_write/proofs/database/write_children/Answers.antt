@@ -19,9 +19,9 @@ loop-child-preserved c =
     mapped_appended (λ (m : ℕ × ℕ). m.1) (number_bytes 4) c.args.children.now c.loop-child.child-index (0, 0) (with_padding 4 c.args.out.now.items) c.loop-child.out.items c.push_u32.new.out.items
     c.loop-child-test.true c.loop-child.invariant c.in_ok-push_u32.ensures
 
-pub returns-clause-bytes : goal.returns-clause-bytes
-returns-clause-bytes c =
-    all_taken (λ (ms : List (ℕ × ℕ)). with_padding 4 c.args.out.now.items ++ words_bytes (numbers_of ms)) c.args.children.now c.loop-child.child-index c.loop-child.out.items c.loop-child-test.false c.loop-child.invariant
+pub returns : goal.returns
+returns c =
+    record { bytes = all_taken (λ (ms : List (ℕ × ℕ)). with_padding 4 c.args.out.now.items ++ words_bytes (numbers_of ms)) c.args.children.now c.loop-child.child-index c.loop-child.out.items c.loop-child-test.false c.loop-child.invariant }
 
 pub overflow_cast-child : goal.overflow_cast-child
 overflow_cast-child c = let few = c.requires.children c.loop-child.child-index c.loop-child-test.true in omega (arith, few)

@@ -13,6 +13,6 @@ loop-named-preserved c =
     key_appended c.args.items.now c.loop-named.named-index _ c.args.out.now.items c.loop-named.out.items c.extend_from_slice.new.self.items
     c.loop-named-test.true c.loop-named.invariant c.in_ok-extend_from_slice.ensures.items
 
-pub returns-clause-bytes : goal.returns-clause-bytes
-returns-clause-bytes c =
-    all_taken (λ (ns : List Named). c.args.out.now.items ++ keys_bytes ns) c.args.items.now c.loop-named.named-index c.loop-named.out.items c.loop-named-test.false c.loop-named.invariant
+pub returns : goal.returns
+returns c =
+    record { bytes = all_taken (λ (ns : List Named). c.args.out.now.items ++ keys_bytes ns) c.args.items.now c.loop-named.named-index c.loop-named.out.items c.loop-named-test.false c.loop-named.invariant }

@@ -1,8 +1,8 @@
 use Rattle.std.proofs.Common.{rules}
 use Rattle.gvdb_write.proofs.database.write_locks.Goals as goal
 
-pub returns-then-is_empty-clause-bytes : goal.returns-then-is_empty-clause-bytes
-returns-then-is_empty-clause-bytes c = search rules
+pub returns-then-is_empty : goal.returns-then-is_empty
+returns-then-is_empty c = record { bytes = search rules }
 
-pub returns-clause-bytes : goal.returns-clause-bytes
-returns-clause-bytes c = search rules
+pub returns : goal.returns
+returns c = record { bytes = search rules }

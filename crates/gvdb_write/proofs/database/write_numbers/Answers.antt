@@ -13,9 +13,9 @@ loop-number-preserved c =
     piece_appended (number_bytes 4) c.args.numbers.now c.loop-number.number-index 0 c.args.out.now.items c.loop-number.out.items c.push_u32.new.out.items
     c.loop-number-test.true c.loop-number.invariant c.in_ok-push_u32.ensures
 
-pub returns-clause-bytes : goal.returns-clause-bytes
-returns-clause-bytes c =
-    all_taken (λ (ws : List ℕ). c.args.out.now.items ++ words_bytes ws) c.args.numbers.now c.loop-number.number-index c.loop-number.out.items c.loop-number-test.false c.loop-number.invariant
+pub returns : goal.returns
+returns c =
+    record { bytes = all_taken (λ (ws : List ℕ). c.args.out.now.items ++ words_bytes ws) c.args.numbers.now c.loop-number.number-index c.loop-number.out.items c.loop-number-test.false c.loop-number.invariant }
 
 pub overflow_cast-number : goal.overflow_cast-number
 overflow_cast-number c = let few = c.requires c.loop-number.number-index c.loop-number-test.true in omega (arith, few)

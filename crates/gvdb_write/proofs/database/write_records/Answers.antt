@@ -49,9 +49,11 @@ loop-number-preserved c = record {
       c.loop-number.invariant.so_far (sym (item_there c.args.items.now c.loop-number.number c.loop-number-test.true)) refl c.item_record-item.ensures.numbers c.item_record-item.ensures.pointer c.in_ok-push.ensures;
 }
 
-pub returns-clause-bytes : goal.returns-clause-bytes
-returns-clause-bytes c =
+pub returns : goal.returns
+returns c =
     let test = c.loop-number-test.false in
     let end = c.loop-number.auto.number-end in
-    all_written c.args.items.now c.args.keys_at c.args.contents c.args.out.now.items c.loop-number.out.items c.loop-number.key_start c.loop-number.number
-    c.loop-number.invariant.so_far (omega (arith, test, end))
+    record {
+      bytes = all_written c.args.items.now c.args.keys_at c.args.contents c.args.out.now.items c.loop-number.out.items c.loop-number.key_start c.loop-number.number
+          c.loop-number.invariant.so_far (omega (arith, test, end));
+    }

@@ -36,8 +36,8 @@ write_records-requires-clause-contents c = subst (λ (ns : List Named). CanPoint
 pub write_keys-requires : goal.write_keys-requires
 write_keys-requires c = subst HaveKeys (sym c.deref-5.ensures.value) c.requires.table.items.from
 
-pub returns-clause-bytes : goal.returns-clause-bytes
-returns-clause-bytes c =
+pub returns : goal.returns
+returns c =
     let table = c.args.table.now in
     let words = c.in_ok-words.words.items in
     let out = c.args.out.now.items in
@@ -48,22 +48,24 @@ returns-clause-bytes c =
     let many : c.len-2.result ≡ length words = omega arith in
     let buckets : c.len-3.result ≡ length table.buckets.items = omega arith in
     let head = c.in_ok-write_head.ensures.bytes ∙ ap (λ (l : List ℕ). c.pad.new.out.items ++ l) (ap₂ head_bytes many buckets) in
-    on_ok_weaker c.write_keys.result
-    (λ last. record {
-      rows = written.rows;
-      are = subst (λ (ns : List Named). AreRowsOf ns c.args.keys_at c.args.contents written.rows) c.deref-4.ensures.value written.are;
-      written = record {
-        words = words;
-        counted = c.in_ok-words.ensures.len ∙ ap (λ (ns : List Named). (length ns + 15) / 16) c.deref.ensures.value;
-        bits = subst (λ (ns : List Named). HaveBits words ns) c.deref.ensures.value c.in_ok-words.ensures.bits;
-        bytes =
-            table_appended words table.buckets.items (records_of written.rows) (keys_bytes table.items.items) c.pad.new.out.items c.write_head.new.out.items c.write_words.new.out.items c.write_numbers.new.out.items c.write_records.new.out.items c.write_keys.new.out.items
-            head
-            (appended_of words_bytes _ words c.write_head.new.out.items c.write_words.new.out.items c.deref-2.ensures.value c.in_ok-write_words.ensures.bytes)
-            (appended_of words_bytes _ table.buckets.items c.write_words.new.out.items c.write_numbers.new.out.items c.deref-3.ensures.value c.in_ok-write_numbers.ensures.bytes)
-            written.bytes
-            (appended_of keys_bytes _ table.items.items c.write_records.new.out.items c.write_keys.new.out.items c.deref-5.ensures.value last)
-            ∙ ap (λ (l : List ℕ). l ++ (table_bytes words table.buckets.items (records_of written.rows) ++ keys_bytes table.items.items)) pad;
-      };
-    })
-    c.write_keys.ensures.bytes
+    record {
+      bytes = on_ok_weaker c.write_keys.result
+          (λ last. record {
+            rows = written.rows;
+            are = subst (λ (ns : List Named). AreRowsOf ns c.args.keys_at c.args.contents written.rows) c.deref-4.ensures.value written.are;
+            written = record {
+              words = words;
+              counted = c.in_ok-words.ensures.len ∙ ap (λ (ns : List Named). (length ns + 15) / 16) c.deref.ensures.value;
+              bits = subst (λ (ns : List Named). HaveBits words ns) c.deref.ensures.value c.in_ok-words.ensures.bits;
+              bytes =
+                  table_appended words table.buckets.items (records_of written.rows) (keys_bytes table.items.items) c.pad.new.out.items c.write_head.new.out.items c.write_words.new.out.items c.write_numbers.new.out.items c.write_records.new.out.items c.write_keys.new.out.items
+                  head
+                  (appended_of words_bytes _ words c.write_head.new.out.items c.write_words.new.out.items c.deref-2.ensures.value c.in_ok-write_words.ensures.bytes)
+                  (appended_of words_bytes _ table.buckets.items c.write_words.new.out.items c.write_numbers.new.out.items c.deref-3.ensures.value c.in_ok-write_numbers.ensures.bytes)
+                  written.bytes
+                  (appended_of keys_bytes _ table.items.items c.write_records.new.out.items c.write_keys.new.out.items c.deref-5.ensures.value last)
+                  ∙ ap (λ (l : List ℕ). l ++ (table_bytes words table.buckets.items (records_of written.rows) ++ keys_bytes table.items.items)) pad;
+            };
+          })
+          c.write_keys.ensures.bytes;
+    }

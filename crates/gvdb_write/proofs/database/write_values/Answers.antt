@@ -24,9 +24,9 @@ loop-value-preserved c =
     value_appended values i c.args.out.now.items c.loop-value.out.items c.pad.new.out.items c.extend_from_slice.new.self.items here c.loop-value.invariant pad
     (c.in_ok-extend_from_slice.ensures.items ∙ ap (λ (b : List ℕ). c.pad.new.out.items ++ b) (sym is))
 
-pub returns-clause-bytes : goal.returns-clause-bytes
-returns-clause-bytes c =
+pub returns : goal.returns
+returns c =
     let values = bytes_of_each c.args.values.now in
     let n = length-map c.args.values.now (λ (v : Bor (List ℕ)). v.now) in
     let end = c.loop-value-test.false in
-    all_taken (λ (vs : List (List ℕ)). with_values c.args.out.now.items vs) values c.loop-value.value-index c.loop-value.out.items (omega (arith, n, end)) c.loop-value.invariant
+    record { bytes = all_taken (λ (vs : List (List ℕ)). with_values c.args.out.now.items vs) values c.loop-value.value-index c.loop-value.out.items (omega (arith, n, end)) c.loop-value.invariant }

@@ -13,6 +13,6 @@ loop-word-preserved c =
     piece_appended (number_bytes 4) c.args.words.now c.loop-word.word-index 0 c.args.out.now.items c.loop-word.out.items c.push_u32.new.out.items
     c.loop-word-test.true c.loop-word.invariant c.in_ok-push_u32.ensures
 
-pub returns-clause-bytes : goal.returns-clause-bytes
-returns-clause-bytes c =
-    all_taken (λ (ws : List ℕ). c.args.out.now.items ++ words_bytes ws) c.args.words.now c.loop-word.word-index c.loop-word.out.items c.loop-word-test.false c.loop-word.invariant
+pub returns : goal.returns
+returns c =
+    record { bytes = all_taken (λ (ws : List ℕ). c.args.out.now.items ++ words_bytes ws) c.args.words.now c.loop-word.word-index c.loop-word.out.items c.loop-word-test.false c.loop-word.invariant }

@@ -11,7 +11,7 @@ use Rattle.gvdb_write.proofs.salvaged.salvage.Goals.{in-Some+in_ok-salvage_locks
 pub returns-clause-salvaged : goal.returns-clause-salvaged
 returns-clause-salvaged c =
     let file = c.args.file.now in
-    let root = c.in_ok-root.ensures.root in
+    let root = c.in-Ok.ensures.root in
     let map = c.in_ok-map.map in
     let values : HasLowestValues (root_of file) map = subst (λ (t : Table). HasLowestValues t map) root c.in_ok-map.ensures.values in
     elim c.match-lowest_locks.branch [
