@@ -4,14 +4,10 @@ use Rattle.std.proofs.Common.{◌∙◌, ap, sym}
 use Rattle.std.specs.List.{AllByRecursion}
 use Rattle.dconf_model.specs.Bytes.{MaybeBytes}
 use Rattle.dconf_model.specs.Layers.{Layers}
-use Rattle.dconf_model.specs.Changes.{Change, Refusal, apply}
+use Rattle.dconf_model.specs.Changes.{Change, Refusal, apply, or_as_before}
 use Rattle.dconf_model.specs.Stores.{DidDeeds, IsWholeChange}
 use Rattle.dconf_model.specs.Stores.Deed.{changed}
 use Rattle.dconf_store.specs.Seen.{HaveChanged, and_apply}
-
-abbrev layers_or : Layers → Result Layers Refusal → Layers
-layers_or l (Ok m) = m
-layers_or l (Err e) = l
 
 abbrev refusal : Refusal → Result Layers Refusal
 refusal e = Err e
@@ -24,7 +20,7 @@ stays_refused e [] = refl
 stays_refused e (c ∷ cs) = stays_refused e cs
 
 did_from : (others : List MaybeBytes) (m : Layers) (cs : List Change) (l : Layers) → fold and_apply (Ok l) cs ≡ Ok m → AllByRecursion IsWholeChange cs → DidDeeds others l (map changed cs) m
-did_from others m [] l e whole = sym (ap (layers_or l) e)
+did_from others m [] l e whole = sym (ap (or_as_before l) e)
 did_from others m (c ∷ cs) l e whole = by (λ mid e. did_from others m cs mid e whole.1) (apply l c) refl e
   where
     by : ((mid : Layers) → fold and_apply (Ok mid) cs ≡ Ok m → DidDeeds others mid (map changed cs) m) → (r : Result Layers Refusal) → apply l c ≡ r →

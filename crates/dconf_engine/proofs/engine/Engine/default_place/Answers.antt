@@ -1,5 +1,5 @@
-use Rattle.std.proofs.Common.{◌≡◌, ◌∙◌, ap, refl, rules, sym, false}
-use Rattle.dconf_model.specs.Layers.{Layers, place_of, without_user}
+use Rattle.std.proofs.Common.{◌≡◌, ◌∙◌, ap, refl, rules, false}
+use Rattle.dconf_model.specs.Layers.{Layers, place_of}
 use Rattle.dconf_path.specs.Paths.{key_text}
 use Rattle.dconf_engine.proofs.engine.Engine.default_place.Goals as goal
 

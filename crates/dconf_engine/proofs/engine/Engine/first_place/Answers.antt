@@ -1,4 +1,4 @@
-use Rattle.std.proofs.Common.{◌≡◌, ◌∙◌, drop, eq-eqb, false, length, map, nat_eq, List, Some, None, ap, rules, sym, ℕ}
+use Rattle.std.proofs.Common.{◌≡◌, ◌∙◌, drop, eq-eqb, false, length, map, nat_eq, List, Some, None, ap, rules, sym}
 use Rattle.std.specs.FinMap.{get}
 use Rattle.dconf_model.specs.Layers.{Layers, first_from}
 use Rattle.dconf_model.proofs.PathMaps.{no_truth}

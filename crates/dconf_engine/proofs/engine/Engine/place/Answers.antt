@@ -1,4 +1,4 @@
-use Rattle.std.proofs.Common.{◌≡◌, ◌<◌, ◌∙◌, ℕ, ap, drop, rules, sym, List}
+use Rattle.std.proofs.Common.{◌≡◌, ◌<◌, ◌∙◌, ℕ, ap, drop, rules, List}
 use Rattle.dconf_model.specs.Layers.{first_from, greatest_from, level, locks_path}
 use Rattle.dconf_model.specs.Settings.{Settings}
 use Rattle.dconf_path.specs.Paths.{key_text}
