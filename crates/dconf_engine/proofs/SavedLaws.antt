@@ -11,14 +11,7 @@ use Rattle.std.specs.FinMap.Entries.{is_sorted, below_all}
 use Rattle.std.proofs.lemmas.Bool.{and_parts}
 use Rattle.dconf_model.specs.Settings.{Settings, no_settings}
 use Rattle.dconf_model.specs.Changes.{Values, saved, with_first_layer}
-use Rattle.std.proofs.Common.{◌≤◌, length, slice_get, map, Result, Ok, Err, Vec}
-use Rattle.std.specs.Prelude.{IfOk}
-use Rattle.std.specs.declared.alloc.Global.{Global}
-use Rattle.dconf_model.specs.Bytes.{longest_file}
-use Rattle.dconf_model.specs.Databases.{IsDatabaseOf}
-use Rattle.dconf_model.specs.Opening.{IsDatabase, root_of}
-use Rattle.dconf_model.specs.Plans.{HoldsValues, HoldsLocks, HasLength}
-use Rattle.dconf_model.specs.Sound.{IsSound}
+use Rattle.std.proofs.Common.{slice_get, map}
 use Rattle.dconf_layers.specs.declared.layer.Layer.{Layer}
 use Rattle.dconf_layers.specs.LayerRows.{layer_rows, paths_of}
 use Rattle.dconf_layers.specs.LayerSettings.{settings_of}
@@ -159,12 +152,3 @@ saved_first c (x ∷ items) item e =
     saved_values : Option Layer → Settings
     saved_values (Some i) = record { values = with_changes c (settings_of i).values; locks = empty }
     saved_values None = no_settings
-
--- ---- the file
-
--- bytes that hold settings are their database
-pub whole : {E : Type 0} (s : Settings) (r : Result (Vec ℕ Global) E) → IfOk r (λ file. IsDatabase file.items) → IfOk r (λ file. IsSound (root_of file.items)) →
-    IfOk r (λ file. HoldsValues (root_of file.items) s) → IfOk r (λ file. HoldsLocks (root_of file.items) s) → IfOk r (λ file. HasLength s (length file.items)) →
-    IfOk r (λ file. length file.items ≤ longest_file) → IfOk r (λ file. IsDatabaseOf s file.items)
-whole s (Ok file) opens sound values locks size fits = record { opens = opens; sound = sound; values = values; locks = locks; size = size; fits = fits }
-whole s (Err e) opens sound values locks size fits = tt

@@ -12,7 +12,7 @@ ghost use Rattle.dconf_engine.specs.Unsaved.{with_changes};
 use crate::changes::Changes;
 use crate::engine::Engine;
 use dconf_layers::Layer;
-use gvdb_write::{Map, MapBuilder, WriteFault, write};
+use gvdb_write::{MapBuilder, WriteFault};
 use std::alloc::{AllocError, Global};
 
 impl<'a> Engine<'a> {
@@ -25,8 +25,7 @@ impl<'a> Engine<'a> {
         ensures fault { IfErr result (IsRefusal (saved self.now.layers)) }
     {
         let changes = self.changes.try_copy()?;
-        let map = user_map(self.alloc, &self.layers, changes)?;
-        write(self.alloc, &map)
+        user_values(self.alloc, &self.layers, changes)?.write()
     }
 
     /// As [`Engine::save`], of an engine that is not needed any longer, with the same errors. It copies the paths and values of
@@ -41,21 +40,24 @@ impl<'a> Engine<'a> {
             changes,
             ..
         } = self;
-        let map = user_map(alloc, &layers, changes)?;
-        write(alloc, &map)
+        user_values(alloc, &layers, changes)?.write()
     }
 }
 
 /// The user's values, without locks: those of the first layer, with changes.
-fn user_map(alloc: Global, layers: &[Layer<'_>], changes: Changes) -> Result<Map, AllocError>
+fn user_values(
+    alloc: Global,
+    layers: &[Layer<'_>],
+    changes: Changes,
+) -> Result<MapBuilder, AllocError>
     ensures { IfOk result (λ user. user ≡ saved (with_first_layer (with_changes changes) (map settings_of layers.now))) }
 {
     let Some(first) = layers.first() else {
-        return Ok(Map::new(alloc));
+        return Ok(MapBuilder::new(alloc));
     };
     let mut values = unchanged(alloc, *first, &changes)?;
     changes.move_sets(&mut values)?;
-    values.build()
+    Ok(values)
 }
 
 /// The values of a layer at paths that were not changed.
