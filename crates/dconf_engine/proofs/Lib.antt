@@ -1,7 +1,6 @@
 pub mod Opened
 pub mod FirstLayer
 pub mod TextMapLaws
-pub mod InsertedTexts
 pub mod UnsavedLaws
 pub mod WritingLaws
 pub mod SavedLaws

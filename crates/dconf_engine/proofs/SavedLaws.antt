@@ -8,10 +8,13 @@ use Rattle.std.specs.Ordering.{nat_cmp, is_lt}
 use Rattle.std.specs.FinMap as fin
 use Rattle.std.specs.FinMap.{get, contains_key, entries, empty, find}
 use Rattle.std.specs.FinMap.Entries.{is_sorted, below_all}
-use Rattle.std.proofs.lemmas.Bool.{and_parts}
+use Rattle.std.proofs.lemmas.Bool.{and_parts, eqb-true}
 use Rattle.dconf_model.specs.Settings.{Settings, no_settings}
-use Rattle.dconf_model.specs.Changes.{Values, saved, with_first_layer}
-use Rattle.std.proofs.Common.{slice_get, map}
+use Rattle.dconf_model.specs.Changes.{Values, saved, with_all, with_first_layer}
+use Rattle.dconf_model.specs.Layers.{Layers}
+use Rattle.dconf_model.specs.Sources.{Assigned}
+use Rattle.dconf_model.specs.Values.{stored}
+use Rattle.std.proofs.Common.{length, map, nat_eq, slice_get}
 use Rattle.dconf_layers.specs.declared.layer.Layer.{Layer}
 use Rattle.dconf_layers.specs.LayerRows.{layer_rows, paths_of}
 use Rattle.dconf_layers.specs.LayerSettings.{settings_of}
@@ -20,7 +23,8 @@ use Rattle.dconf_model.proofs.ParentLaws.{by_bool}
 use Rattle.dconf_model.proofs.PathMaps.{get_inserted, eq_turned}
 use Rattle.dconf_model.proofs.SameBytes.{same_path}
 use Rattle.dconf_engine.specs.Unsaved.{Unsaved, with_changes}
-use Rattle.dconf_engine.specs.Saved.{set_if, unless_changed, with_unchanged, with_sets}
+use Rattle.dconf_engine.specs.EngineLayers.{layers_of}
+use Rattle.dconf_engine.specs.Saved.{set_if, unless_changed, with_rows, with_unchanged, with_sets}
 use Rattle.gvdb_write.proofs.KeysRise.{from_true}
 use Rattle.gvdb_write.proofs.Read.{same_path as tie}
 use Rattle.gvdb_write.proofs.HeldEntries.{less_is_other}
@@ -152,3 +156,23 @@ saved_first c (x ∷ items) item e =
     saved_values : Option Layer → Settings
     saved_values (Some i) = record { values = with_changes c (settings_of i).values; locks = empty }
     saved_values None = no_settings
+
+-- ---- rows
+
+rows_added : (rows : List Assigned) (v : Values) → with_rows rows (record { values = v; locks = empty }) ≡ record { values = with_all rows v; locks = empty }
+rows_added [] v = refl
+rows_added (row ∷ rows) v = rows_added rows (fin.insert v row.path (stored row.value))
+
+-- rows that are added to what is saved of a first layer are saved with it
+pub saved_loaded : (c : Unsaved) (items : List Layer) (writable : Bool) (l : Layers) (rows : List Assigned) → layers_of c items writable ≡ l → nat_eq (length items) 0 ≡ false →
+    with_rows rows (saved (with_first_layer (with_changes c) (map settings_of items))) ≡ saved (with_first_layer (with_all rows) l.layers)
+saved_loaded c [] writable l rows is some = absurd cc
+saved_loaded c (x ∷ items) writable l rows is some =
+    rows_added rows (with_changes c (settings_of x).values) ∙ ap (λ (l : Layers). saved (with_first_layer (with_all rows) l.layers)) is
+
+pub none_loaded : (c : Unsaved) (items : List Layer) (writable : Bool) (l : Layers) (rows : List Assigned) → layers_of c items writable ≡ l → nat_eq (length items) 0 ≡ true →
+    no_settings ≡ saved (with_first_layer (with_all rows) l.layers)
+none_loaded c [] writable l rows is none = ap (λ (l : Layers). saved (with_first_layer (with_all rows) l.layers)) is
+none_loaded c (x ∷ items) writable l rows is none =
+    let zero : suc (length items) ≡ 0 = eqb-true (suc (length items)) 0 none in
+    absurd (omega (arith, zero))

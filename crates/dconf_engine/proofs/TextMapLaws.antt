@@ -1,5 +1,5 @@
 -- What a map of texts keeps at their bytes: look-ups, changes, the order of its entries, and that each is at the path of a key.
-use Rattle.std.proofs.Common.{ℕ, ◌≡◌, T, Bool, true, false, cond, List, [], ◌∷◌, ◌++◌, length, slice_index_or, ◌<◌, Bor, Option, Some, None, option_map, is_some, IsTrue, refl, sym, ◌∙◌, ap, subst, ◌&&◌}
+use Rattle.std.proofs.Common.{ℕ, ◌≡◌, T, Bool, true, false, cond, List, [], ◌∷◌, length, slice_index_or, ◌<◌, Bor, Option, Some, None, option_map, is_some, IsTrue, refl, sym, ◌∙◌, ap, subst, ◌&&◌}
 use Rattle.std.specs.BTreeMap.{BTreeMap, is_at, get_by_text, UpdatesBy, IsOrdered}
 use Rattle.std.specs.Map.{lookup, keys_of}
 use Rattle.std.specs.Str.{bytes_eq}
@@ -18,8 +18,8 @@ use Rattle.std.specs.FinMap.Entries.{is_sorted, below_all}
 use Rattle.std.proofs.lemmas.Cmp.{nat_list_cmp_total}
 use Rattle.std.proofs.lemmas.Map.Text.{btree_map_updates_text}
 use Rattle.std.proofs.lemmas.Bool.{true≢false}
-use Rattle.std.proofs.lemmas.List.{get_or-map, length-map, map-append}
-use Rattle.std.proofs.lemmas.List.Elements.{All-contains_itself, All-nil, All-rest, All-head, All-push}
+use Rattle.std.proofs.lemmas.List.{get_or-map, length-map}
+use Rattle.std.proofs.lemmas.List.Elements.{All-contains_itself, All-nil, All-rest, All-head}
 use Rattle.std.proofs.lemmas.Map.Views.{list_any-from_Contains}
 use Rattle.std.specs.Map.Iter.{TakesFirst, deref_pair}
 use Rattle.dconf_model.specs.Paths.{is_key_path}
@@ -32,7 +32,7 @@ use Rattle.dconf_engine.specs.TextMaps.{entries_by, at_texts, IsAtKeys, AreAtKey
 
 -- ---- look-ups
 
-pub read_if : {V X : Type 0} (read : V → X) (b : Bool) (v : V) (o : Option V) → cond b (Some (read v)) (option_map read o) ≡ option_map read (cond b (Some v) o)
+read_if : {V X : Type 0} (read : V → X) (b : Bool) (v : V) (o : Option V) → cond b (Some (read v)) (option_map read o) ≡ option_map read (cond b (Some v) o)
 read_if read true v o = refl
 read_if read false v o = refl
 
@@ -143,15 +143,3 @@ pub first_at_key : {V X : Type 0} (read : V → X) (before after : List (String 
     before ≡ (k, v) ∷ after → AreAtKeyPaths (entries_by read before) → IsTrue (is_key_path (string_bytes k))
 first_at_key {V} {X} read before after k v is kept =
     All-head (λ (e : List ℕ × X). IsTrue (is_key_path e.0)) (string_bytes k, read v) (entries_by read after) (subst (λ (es : List (String Global × V)). AreAtKeyPaths (entries_by read es)) is kept)
-
--- ---- a list of texts and what is kept at them, which grows
-
-pub entries_pushed : {V X : Type 0} (read : V → X) (es more : List (String Global × V)) (k : String Global) (v : V) → more ≡ es ++ (k, v) ∷ [] →
-    entries_by read more ≡ entries_by read es ++ (string_bytes k, read v) ∷ []
-entries_pushed {V} {X} read es more k v is = ap (entries_by read) is ∙ map-append {B = List ℕ × X} (λ (e : String Global × V). (string_bytes e.0, read e.1)) es ((k, v) ∷ [])
-
-pub pushed_at_keys : {V X : Type 0} (read : V → X) (es more : List (String Global × V)) (k : String Global) (v : V) → more ≡ es ++ (k, v) ∷ [] →
-    IsTrue (is_key_path (string_bytes k)) → AreAtKeyPaths (entries_by read es) → AreAtKeyPaths (entries_by read more)
-pushed_at_keys {V} {X} read es more k v is at kept =
-    subst (λ (es : List (List ℕ × X)). AreAtKeyPaths es) (sym (entries_pushed read es more k v is))
-    (All-push (λ (e : List ℕ × X). IsTrue (is_key_path e.0)) (entries_by read es) (string_bytes k, read v) kept at)

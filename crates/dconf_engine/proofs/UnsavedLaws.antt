@@ -1,5 +1,5 @@
 -- Values with changes: what is at a path, and what more changes do.
-use Rattle.std.proofs.Common.{ℕ, ◌≡◌, Bool, true, false, cond, List, [], ◌∷◌, Option, Some, None, map, refl, sym, ◌∙◌, ap}
+use Rattle.std.proofs.Common.{ℕ, ◌≡◌, Bool, true, false, cond, List, [], ◌∷◌, Option, Some, None, refl, sym, ◌∙◌, ap}
 use Rattle.std.specs.Str.{bytes_eq}
 use Rattle.std.specs.Option.{unwrap_or}
 use Rattle.std.specs.Cmp.Lexicographic.{slice_cmp}
@@ -12,8 +12,7 @@ use Rattle.dconf_model.specs.Changes.{Values, with_all}
 use Rattle.dconf_model.specs.Sources.{Assigned}
 use Rattle.dconf_model.proofs.ParentLaws.{by_bool}
 use Rattle.dconf_model.proofs.PathMaps.{get_inserted, get_removed, get_retained, eq_turned}
-use Rattle.dconf_engine.specs.TextMaps.{with_entries}
-use Rattle.dconf_engine.specs.Unsaved.{Unsaved, with_change, with_each, with_changes, row_edit}
+use Rattle.dconf_engine.specs.Unsaved.{Unsaved, with_change, with_each, with_changes, and_rows}
 use Rattle.dconf_model.proofs.DatabaseLaws.{at_paths}
 
 -- ---- what is at a path
@@ -60,7 +59,7 @@ pub reset_more : (c : Unsaved) (base : Values) (p : List ℕ) → with_changes (
 reset_more c base p = changed_more c base p None
 
 -- rows are set
-pub rows_more : (rows : List Assigned) (c : Unsaved) (base : Values) → with_changes (with_entries (map row_edit rows) c) base ≡ with_all rows (with_changes c base)
+pub rows_more : (rows : List Assigned) (c : Unsaved) (base : Values) → with_changes (and_rows rows c) base ≡ with_all rows (with_changes c base)
 rows_more [] c base = refl
 rows_more (row ∷ rows) c base =
     rows_more rows (insert c row.path (Some (stored row.value))) base ∙ ap (with_all rows) (set_more c base row.path (stored row.value))

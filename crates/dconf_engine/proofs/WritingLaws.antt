@@ -1,5 +1,5 @@
 -- Changes of the first layer: what they give where they are accepted, and by the changes beside it.
-use Rattle.std.proofs.Common.{ℕ, suc, arith, ◌≡◌, ◌<◌, ◌+◌, Bool, true, false, cond, not, List, [], ◌∷◌, ◌++◌, drop, length, slice_index_or, Option, Some, None, Result, Ok, Err, map, option_map, refl, sym, ◌∙◌, ap, IfSome, ◌&&◌}
+use Rattle.std.proofs.Common.{ℕ, ◌≡◌, ◌+◌, Bool, true, false, cond, List, [], ◌∷◌, Option, Some, None, Result, Ok, Err, map, option_map, refl, sym, ◌∙◌, ap, IfSome, ◌&&◌}
 use Rattle.std.specs.FinMap.{insert, remove}
 use Rattle.gv_model.specs.Tree.{Tree}
 use Rattle.dconf_model.specs.Layers.{Layers, is_locked}
@@ -14,19 +14,11 @@ use Rattle.dconf_layers.specs.declared.layer.Layer.{Layer}
 use Rattle.dconf_engine.specs.EngineLayers.{layers_of}
 use Rattle.dconf_layers.specs.LayerSettings.{settings_of}
 use Rattle.dconf_engine.specs.ChangeFaults.{refusal_of, Refuses, path_refusal, rows_refusal}
-use Rattle.dconf_engine.proofs.TextMapLaws.{entries_pushed}
 use Rattle.std.specs.List.{position_from}
-use Rattle.std.specs.String.{string_bytes}
-use Rattle.std.specs.declared.alloc.Global.{Global}
-use Rattle.std.specs.declared.string.String.{String}
-use Rattle.std.proofs.Math.Seq.{drop-cons}
-use Rattle.std.proofs.lemmas.List.{append_assoc}
 use Rattle.dconf_path.specs.declared.path.KeyPath.{KeyPath}
 use Rattle.dconf_path.specs.Paths.{key_text}
-use Rattle.dconf_engine.specs.Loads.{assigned_of, rows_of, not_locked}
-use Rattle.dconf_engine.specs.TextMaps.{entries_by}
-use Rattle.dconf_engine.specs.Unsaved.{Unsaved, edit_bytes, row_edit, with_changes}
-use Rattle.dconf_engine.specs.declared.changes.Edit.{Edit}
+use Rattle.dconf_engine.specs.Loads.{rows_of, not_locked}
+use Rattle.dconf_engine.specs.Unsaved.{Unsaved, with_changes}
 
 -- ---- the first layer's values
 
@@ -139,27 +131,3 @@ load_too_large_as l rows force fault e h = go (refusal_of fault) h
 pub first_locked_at : (l : Layers) (n : ℕ) (rows : List (KeyPath × Tree)) → position_from (λ (row : KeyPath × Tree). is_locked l (key_text row.0)) n rows ≡ first_locked l n (paths_of (rows_of rows))
 first_locked_at l n [] = refl
 first_locked_at l n (row ∷ rows) = ap (λ o. cond (is_locked l (key_text row.0)) (Some n) o) (first_locked_at l (n + 1) rows)
-
--- ---- the rows one by one
-
--- the first that is left is locked, or is set
-pub row_left : (l : Layers) (rows : List (KeyPath × Tree)) (i : ℕ) (row : KeyPath × Tree) → i < length rows → row ≡ slice_index_or rows i row →
-    not_locked l (rows_of (drop i rows)) ≡ cond (is_locked l (key_text row.0)) (not_locked l (rows_of (drop (i + 1) rows))) (assigned_of row ∷ not_locked l (rows_of (drop (i + 1) rows)))
-row_left l rows i row lt is =
-    let next : suc i ≡ i + 1 = omega arith in
-    ap (λ (rs : List (KeyPath × Tree)). not_locked l (rows_of rs)) (drop-cons rows i row lt ∙ ap (λ (r : KeyPath × Tree). r ∷ drop (suc i) rows) (sym is) ∙ ap (λ (n : ℕ). row ∷ drop n rows) next) ∙ either (is_locked l (key_text row.0))
-  where
-    either : (b : Bool) → cond (not b) (assigned_of row ∷ not_locked l (rows_of (drop (i + 1) rows))) (not_locked l (rows_of (drop (i + 1) rows)))
-        ≡ cond b (not_locked l (rows_of (drop (i + 1) rows))) (assigned_of row ∷ not_locked l (rows_of (drop (i + 1) rows)))
-    either true = refl
-    either false = refl
-
--- with what the first does, the others are left
-pub row_made : (es more : List (String Global × Edit)) (k : String Global) (e : Edit) (row : Assigned) (left rest all : List Assigned) →
-    more ≡ es ++ (k, e) ∷ [] → (string_bytes k, edit_bytes e) ≡ row_edit row → left ≡ row ∷ rest →
-    entries_by edit_bytes es ++ map row_edit left ≡ map row_edit all → entries_by edit_bytes more ++ map row_edit rest ≡ map row_edit all
-row_made es more k e row left rest all pushed made is before =
-    ap (λ es. es ++ map row_edit rest) (entries_pushed edit_bytes es more k e pushed)
-    ∙ append_assoc (entries_by edit_bytes es) ((string_bytes k, edit_bytes e) ∷ []) (map row_edit rest)
-    ∙ ap (λ x. entries_by edit_bytes es ++ x ∷ map row_edit rest) made
-    ∙ ap (λ rows. entries_by edit_bytes es ++ map row_edit rows) (sym is) ∙ before

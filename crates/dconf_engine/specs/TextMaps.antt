@@ -1,11 +1,11 @@
 -- What a map of texts keeps at their bytes, as it is read.
-use Rattle.std.specs.Prelude.{ℕ, List, fold, map, IsTrue}
+use Rattle.std.specs.Prelude.{ℕ, List, map, IsTrue}
 use Rattle.std.specs.List.{All}
 use Rattle.std.specs.BTreeMap.{BTreeMap}
 use Rattle.std.specs.declared.string.String.{String}
 use Rattle.std.specs.declared.alloc.Global.{Global}
 use Rattle.std.specs.String.{string_bytes}
-use Rattle.std.specs.FinMap.{from_entries, contains_key, insert}
+use Rattle.std.specs.FinMap.{from_entries, contains_key}
 use Rattle.dconf_model.specs.Paths.{is_key_path}
 use Rattle.dconf_model.specs.Settings.{AtPaths}
 
@@ -14,10 +14,6 @@ entries_by {V} {X} read es = map {B = List ℕ × X} (λ e. (string_bytes e.0, r
 
 abbrev pub at_texts : {V X : Type 0} → (V → X) → BTreeMap (String Global) V → AtPaths X
 at_texts read m = from_entries (entries_by read m.entries)
-
--- with these, each in the place of what was kept at its path
-abbrev pub with_entries : {X : Type 0} → List (List ℕ × X) → AtPaths X → AtPaths X
-with_entries es m = fold (λ m e. insert m e.0 e.1) m es
 
 -- each path that something is kept at is the path of a key
 abbrev pub IsAtKeys : {X : Type 0} → AtPaths X → Type 0

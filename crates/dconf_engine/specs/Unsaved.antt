@@ -38,9 +38,9 @@ with_changes changes values = with_each (entries changes) values
 
 -- ---- more changes
 
--- what a row does at its path
-abbrev pub row_edit : Assigned → List ℕ × Option (List ℕ)
-row_edit row = (row.path, Some (stored row.value))
+-- with these rows set
+abbrev pub and_rows : List Assigned → Unsaved → Unsaved
+and_rows rows changes = fold (λ c row. insert c row.path (Some (stored row.value))) changes rows
 
 -- with these paths reset
 abbrev pub and_resets : List (List ℕ) → Unsaved → Unsaved

@@ -6,7 +6,7 @@ ghost use Rattle.dconf_model.specs.Paths.{is_key_path};
 ghost use Rattle.dconf_path.specs.Paths.{key_text};
 ghost use Rattle.dconf_engine.specs.Unsaved.{edit_bytes};
 ghost use Rattle.dconf_engine.specs.Saved.{set_if, with_sets};
-ghost use Rattle.dconf_engine.specs.TextMaps.{entries_by, with_entries, AreAtKeyPaths};
+ghost use Rattle.dconf_engine.specs.TextMaps.{entries_by, AreAtKeyPaths};
 
 use dconf_path::KeyPath;
 use gvdb_write::MapBuilder;
@@ -132,19 +132,6 @@ impl Changes {
         let path = String::from_str(self.alloc, path.as_str())?;
         self.edits.insert(path, edit)?;
         Ok(())
-    }
-
-    /// The same changes, and what rows did: of those of one path the last counts.
-    ///
-    /// An error comes where a growth is refused. It sorts the rows, and copies no path and no bytes.
-    pub(crate) fn with_rows(self, rows: Vec<(String, Edit)>) -> Result<Changes, AllocError>
-        requires { AreAtKeyPaths (entries_by edit_bytes rows.items) }
-        ensures { IfOk result (λ changes. changes ≡ with_entries (entries_by edit_bytes rows.items) self) }
-    {
-        let Changes { alloc, mut edits } = self;
-        let mut newer = rows.into_iter().collect(alloc)?;
-        edits.append(&mut newer)?;
-        Ok(Changes { alloc, edits })
     }
 
     /// The same changes once more. An error comes where a growth is refused. It copies each path and its bytes.

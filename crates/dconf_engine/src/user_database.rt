@@ -1,17 +1,23 @@
 //! The user's database.
-ghost use Rattle.std.specs.Prelude.{◌≡◌, IfOk, IfErr, map};
-ghost use Rattle.dconf_model.specs.Changes.{saved, with_first_layer};
+ghost use Rattle.std.specs.Prelude.{◌≡◌, true, false, IfOk, IfErr, IfSome, OnOk, map};
+ghost use Rattle.dconf_model.specs.Changes.{Change.load_values, Refusal.too_large, all_storable, apply, saved, with_first_layer};
 ghost use Rattle.dconf_model.specs.Databases.{IsDatabaseOf, IsTooBig};
 ghost use Rattle.gvdb_write.specs.Limits.{IsRefusal};
 ghost use Rattle.dconf_model.specs.Settings.{no_settings};
 ghost use Rattle.dconf_layers.specs.LayerRows.{layer_rows};
 ghost use Rattle.dconf_layers.specs.LayerSettings.{settings_of};
-ghost use Rattle.dconf_engine.specs.Saved.{with_unchanged};
+ghost use Rattle.dconf_engine.specs.ChangeFaults.{Refuses, refusal_of};
+ghost use Rattle.dconf_engine.specs.Loads.{IsLoaded, not_locked, rows_of};
+ghost use Rattle.dconf_engine.specs.Saved.{with_rows, with_unchanged};
 ghost use Rattle.dconf_engine.specs.Unsaved.{with_changes};
 
+use crate::change_fault::ChangeFault;
 use crate::changes::Changes;
 use crate::engine::Engine;
+use crate::stored_bytes::stored_bytes;
 use dconf_layers::Layer;
+use dconf_path::KeyPath;
+use gv_tree::Tree;
 use gvdb_write::{MapBuilder, WriteFault};
 use std::alloc::{AllocError, Global};
 
@@ -41,6 +47,47 @@ impl<'a> Engine<'a> {
             ..
         } = self;
         user_values(alloc, &layers, changes)?.write()
+    }
+
+    /// The user's values, without locks, once these rows are loaded: what [`Engine::load`] and then [`Engine::save`] write,
+    /// with the refusals of `load`.
+    ///
+    /// It copies each path and value, and writes each row's bytes once. The rows need no place among the changes.
+    pub fn loaded_values(
+        &self,
+        rows: &[(KeyPath<'_>, Tree)],
+        force: bool,
+    ) -> Result<MapBuilder, ChangeFault>
+        ensures ok { IfOk result (IsLoaded self.now (rows_of rows.now) force) }
+        ensures fault { IfErr result (Refuses (apply self.now (load_values (rows_of rows.now) force))) }
+    {
+        self.check_rows(rows, force)?;
+        let mut values = user_values(self.alloc, &self.layers, self.changes.try_copy()?)?;
+        self.add_rows(rows, &mut values)?;
+        if self.layers.is_empty() {
+            return Ok(MapBuilder::new(self.alloc));
+        }
+        Ok(values)
+    }
+
+    /// Adds the rows whose keys are not locked.
+    fn add_rows(
+        &self,
+        rows: &[(KeyPath<'_>, Tree)],
+        values: &mut MapBuilder,
+    ) -> Result<(), ChangeFault>
+        ensures ok { OnOk result (values.new ≡ with_rows (not_locked self.now (rows_of rows.now)) values.old) }
+        ensures storable { OnOk result (all_storable (not_locked self.now (rows_of rows.now)) ≡ true) }
+        ensures fault { IfErr result (λ e. IfSome (refusal_of e) (λ r. (r ≡ too_large) × (all_storable (not_locked self.now (rows_of rows.now)) ≡ false))) }
+    {
+        for (path, value) in rows {
+            if !self.is_locked(*path) {
+                let bytes = stored_bytes(self.alloc, value)?;
+                let path = String::from_str(self.alloc, path.as_str())?;
+                values.insert_text(path, bytes)?;
+            }
+        }
+        Ok(())
     }
 }
 

@@ -1,15 +1,14 @@
 //! Changes of the first layer.
-ghost use Rattle.std.specs.Prelude.{◌≡◌, true, false, Ok, Err, Some, None, OnOk, OnErr, IfOk, IfErr, IfSome, map};
+ghost use Rattle.std.specs.Prelude.{◌≡◌, true, false, Ok, Err, Some, None, OnOk, OnErr, IfOk, IfErr, IfSome};
 ghost use Rattle.gv_tree.specs.Wholes.{IsWhole};
 ghost use Rattle.dconf_path.specs.Paths.{key_text, directory_text};
 ghost use Rattle.dconf_model.specs.Changes.{apply, Change.set_value, Change.reset_value, Change.load_values, Change.reset_below_directory, first_locked, paths_of, all_storable, Refusal.too_large};
 ghost use Rattle.dconf_engine.specs.ChangeFaults.{refusal_of, Refuses, path_refusal, rows_refusal};
 ghost use Rattle.dconf_engine.specs.Loads.{rows_of, not_locked};
-ghost use Rattle.dconf_engine.specs.TextMaps.{entries_by, AreAtKeyPaths};
-ghost use Rattle.dconf_engine.specs.Unsaved.{edit_bytes, row_edit};
+ghost use Rattle.dconf_engine.specs.Unsaved.{and_rows};
 
 use crate::change_fault::ChangeFault;
-use crate::changes::Edit;
+use crate::changes::Changes;
 use crate::engine::Engine;
 use crate::stored_bytes::stored_bytes;
 use dconf_path::KeyPath;
@@ -72,14 +71,18 @@ impl<'a> Engine<'a> {
         ensures err { OnErr result (self.new ≡ self.old) }
     {
         self.check_rows(rows, force)?;
-        let edits = self.edits_of(rows)?;
-        let changes = self.changes.try_copy()?;
-        self.changes = changes.with_rows(edits)?;
+        let mut changes = self.changes.try_copy()?;
+        self.set_rows(&mut changes, rows)?;
+        self.changes = changes;
         Ok(())
     }
 
     /// Refuses rows that may not be loaded, whatever their values.
-    fn check_rows(&self, rows: &[(KeyPath<'_>, Tree)], force: bool) -> Result<(), ChangeFault>
+    pub(crate) fn check_rows(
+        &self,
+        rows: &[(KeyPath<'_>, Tree)],
+        force: bool,
+    ) -> Result<(), ChangeFault>
         ensures ok { OnOk result (rows_refusal self.now (rows_of rows.now) force ≡ None) }
         ensures fault { IfErr result (λ e. rows_refusal self.now (rows_of rows.now) force ≡ refusal_of e) }
     {
@@ -99,21 +102,21 @@ impl<'a> Engine<'a> {
         rows.iter().position(|(path, _)| self.is_locked(*path))
     }
 
-    /// What the rows do whose keys are not locked.
-    fn edits_of(&self, rows: &[(KeyPath<'_>, Tree)]) -> Result<Vec<(String, Edit)>, ChangeFault>
-        ensures edits { IfOk result (λ edits. entries_by edit_bytes edits.items ≡ map row_edit (not_locked self.now (rows_of rows.now))) }
-        ensures paths { IfOk result (λ edits. AreAtKeyPaths (entries_by edit_bytes edits.items)) }
+    /// Sets the rows whose keys are not locked.
+    fn set_rows(
+        &self,
+        changes: &mut Changes,
+        rows: &[(KeyPath<'_>, Tree)],
+    ) -> Result<(), ChangeFault>
+        ensures ok { OnOk result (changes.new ≡ and_rows (not_locked self.now (rows_of rows.now)) changes.old) }
         ensures storable { OnOk result (all_storable (not_locked self.now (rows_of rows.now)) ≡ true) }
         ensures fault { IfErr result (λ e. IfSome (refusal_of e) (λ r. (r ≡ too_large) × (all_storable (not_locked self.now (rows_of rows.now)) ≡ false))) }
     {
-        let mut edits = Vec::with_capacity(self.alloc, rows.len())?;
         for (path, value) in rows {
             if !self.is_locked(*path) {
-                let bytes = stored_bytes(self.alloc, value)?;
-                let path = String::from_str(self.alloc, path.as_str())?;
-                edits.push((path, Edit::Set(bytes)))?;
+                changes.set(*path, stored_bytes(self.alloc, value)?)?;
             }
         }
-        Ok(edits)
+        Ok(())
     }
 }
