@@ -81,16 +81,6 @@ no_array t b w e is_width is_begin some never =
 
 -- ---- maybes
 
-pub just_sized : (t : Ty) (n size : ℕ) → Some size ≡ fixed_size t → size ≡ n → children_at n ((t, Some (0, n)) ∷ []) ≡ children_at n (just_span t n (fixed_size t))
-just_sized t n size e h =
-    let same : (n == size) ≡ true = eq-eqb n size (sym h) in
-    ap (λ c. children_at n (cond c ((t, Some (0, n)) ∷ []) [])) (sym same) ∙ ap (λ o. children_at n (just_span t n o)) e
-
-pub just_unsized : (t : Ty) (n : ℕ) → None ≡ fixed_size t → 0 < n → children_at n ((t, Some (0, n - 1)) ∷ []) ≡ children_at n (just_span t n (fixed_size t))
-just_unsized t n e h =
-    let some : (n == 0) ≡ false = ne_eqb n 0 (λ z. omega arith) in
-    ap (λ c. children_at n (cond c [] ((t, Some (0, n - 1)) ∷ []))) (sym some) ∙ ap (λ o. children_at n (just_span t n o)) e
-
 pub nothing : (t : Ty) (n : ℕ) (o : Option ℕ) → o ≡ fixed_size t → ((size : ℕ) → o ≡ Some size → size ≡ n → ⊥) → (o ≡ None → 0 < n → ⊥)
     → [] ≡ children_at n (just_span t n (fixed_size t))
 nothing t n None e h g =
@@ -136,28 +126,6 @@ tuple_unplaced t xs b w m is_list h =
     go false e =
         sym (no_body (length b) (offset_width (length b)) 0 0 b (members t))
         ∙ ap (λ o. children_at (length b) (ordered o (member_spans (offset_width (length b)) b 0 (Some 0) (members t)))) e
-
-pub body_same : (t : Ty) (b : List ℕ) (size : ℕ) → fixed_size t ≡ Some size → size ≡ length b → Some (length b) ≡ placed_body t b
-body_same t b size e h =
-    let same : (length b == size) ≡ true = eq-eqb (length b) size (sym h) in rw (e, same) refl
-
-pub body_other : (t : Ty) (b : List ℕ) (size : ℕ) → fixed_size t ≡ Some size → (size ≡ length b → ⊥) → None ≡ placed_body t b
-body_other t b size e h =
-    let different : (length b == size) ≡ false = ne_eqb (length b) size (λ z. h (sym z)) in rw (e, different) refl
-
-pub body_open : (t : Ty) (b : List ℕ) (taken : ℕ) → fixed_size t ≡ None → taken ≡ offset_width (length b) * offset_count (members t) → taken ≤ length b
-    → Some (length b - taken) ≡ placed_body t b
-body_open t b taken e is_taken h =
-    let room : nat_le (offset_width (length b) * offset_count (members t)) (length b) ≡ true = le-leb (offset_width (length b) * offset_count (members t)) (length b) (omega (arith, h, is_taken)) in
-    ap (λ x. Some (length b - x)) is_taken ∙ rw (e, room) refl
-
-pub body_wanting : (t : Ty) (b : List ℕ) (taken : ℕ) → fixed_size t ≡ None → taken ≡ offset_width (length b) * offset_count (members t) → (taken ≤ length b → ⊥)
-    → None ≡ placed_body t b
-body_wanting t b taken e is_taken h = go (nat_le (offset_width (length b) * offset_count (members t)) (length b)) refl
-  where
-    go : (c : Bool) → nat_le (offset_width (length b) * offset_count (members t)) (length b) ≡ c → None ≡ placed_body t b
-    go true f = let room : offset_width (length b) * offset_count (members t) ≤ length b = grind (arith, f) in absurd (h (omega (arith, room, is_taken)))
-    go false f = rw (e, f) refl
 
 pub body_within : (t : Ty) (b : List ℕ) (m : ℕ) → Some m ≡ placed_body t b → m ≤ length b
 body_within t b m h = within (is_other_size (fixed_size t) (length b)) (fixed_size t) h

@@ -97,10 +97,6 @@ turned t u rest a place w b c size o e f g h =
     let placed : o ≡ end_of_next u place = h ∙ ap₂ (λ (y : ℕ) (z : Option ℕ). option_and_then (λ p. option_map (λ s. round_up y p + s) z) place) e f in
     subst (λ (y : ℕ). IsWalk t rest y o) (sym aligned) (subst (IsWalk t rest (max a (alignment u))) (sym placed) (step t u rest a place w))
 
-pub member_deeper : (t u : Ty) (rest : List Ty) (a : ℕ) (place : Option ℕ) → IsWalk t (u ∷ rest) a place → nesting u < nesting t
-unfolding greatest_nesting
-member_deeper t u rest a place w = omega (arith, w.deeper)
-
 -- where the code finds the next member's layout, no place goes past the numbers of 64 bits
 pub member_fits : (t u : Ty) (rest : List Ty) (a : ℕ) (place : Option ℕ) → IsWalk t (u ∷ rest) a place → length (spelling t) ≤ 67108864
     → (b : ℕ) (size : Option ℕ) → b ≡ alignment u → size ≡ fixed_size u → IfSome place (λ p. IfSome size (λ s. p + s + b < 2 ^ 64))
