@@ -16,14 +16,7 @@ use Rattle.gv_types.proofs.ClassLaws.{basic_class}
 
 cut_letter : (m : TypeMark) (s : Seen) (b : BasicType) → basic_in (class_of_mark m) ≡ Some b → mark_before m s ≡ type (basic (basic_of b)) s
 cut_letter (letter k) s b e = ap (λ (t : Ty). type t s) (basic_class (basic k) b (ap classes.Basic (same_Some _ _ (sym e))))
-cut_letter of_variant s b e = absurd cc
-cut_letter of_array s b e = absurd cc
-cut_letter of_maybe s b e = absurd cc
-cut_letter open_tuple s b e = absurd cc
-cut_letter close_tuple s b e = absurd cc
-cut_letter open_entry s b e = absurd cc
-cut_letter close_entry s b e = absurd cc
-cut_letter other s b e = absurd cc
+cut_letter _ s b e = absurd cc
 
 -- where the first letter is a basic type's, the members go on behind it
 pub letter_seen : (w : List ℕ) (c : ℕ) (cs : List ℕ) (b : BasicType) → w ≡ c ∷ cs → basic_in (class_of_mark (mark c)) ≡ Some b → seen w ≡ type (basic (basic_of b)) (seen cs)
@@ -40,68 +33,32 @@ later_types w c cs b is e h = later (seen cs) (basic (basic_of b)) (ap are_types
 
 no_array : (s : Seen) → begins_with_basic (types_in (array_before s)) ≡ false
 no_array (type t s) = refl
-no_array nothing = refl
-no_array (tuple_end s) = refl
-no_array (entry_end s) = refl
-no_array wrong = refl
+no_array _ = refl
 
 no_maybe : (s : Seen) → begins_with_basic (types_in (maybe_before s)) ≡ false
 no_maybe (type t s) = refl
-no_maybe nothing = refl
-no_maybe (tuple_end s) = refl
-no_maybe (entry_end s) = refl
-no_maybe wrong = refl
+no_maybe _ = refl
 
 no_entry : (s : Seen) → begins_with_basic (types_in (entry_before s)) ≡ false
 no_entry (type (basic k) (type t (entry_end s))) = refl
-no_entry (type (basic k) (type t nothing)) = refl
-no_entry (type (basic k) (type t (tuple_end s))) = refl
-no_entry (type (basic k) (type t wrong)) = refl
-no_entry (type (basic k) (type t (type u s))) = refl
-no_entry (type (basic k) nothing) = refl
-no_entry (type (basic k) (tuple_end s)) = refl
-no_entry (type (basic k) (entry_end s)) = refl
-no_entry (type (basic k) wrong) = refl
-no_entry (type variant s) = refl
-no_entry (type (array u) s) = refl
-no_entry (type (maybe u) s) = refl
-no_entry (type (tuple us) s) = refl
-no_entry (type (entry k u) s) = refl
-no_entry nothing = refl
-no_entry (tuple_end s) = refl
-no_entry (entry_end s) = refl
-no_entry wrong = refl
+no_entry _ = refl
 
 no_member : (t : Ty) (s : Seen) → begins_with_basic (types_in (member_before t s)) ≡ false
 no_member t (type (tuple ts) s) = refl
-no_member t (type (basic k) s) = refl
-no_member t (type variant s) = refl
-no_member t (type (array u) s) = refl
-no_member t (type (maybe u) s) = refl
-no_member t (type (entry k u) s) = refl
-no_member t nothing = refl
-no_member t (tuple_end s) = refl
-no_member t (entry_end s) = refl
-no_member t wrong = refl
+no_member t _ = refl
 
 no_tuple : (s : Seen) → begins_with_basic (types_in (tuple_type_before s)) ≡ false
 unfolding tuple_type_before
-no_tuple (tuple_end s) = refl
 no_tuple (type t s) = no_member t (tuple_type_before s)
-no_tuple nothing = refl
-no_tuple (entry_end s) = refl
-no_tuple wrong = refl
+no_tuple _ = refl
 
 no_basic : (m : TypeMark) (s : Seen) → basic_in (class_of_mark m) ≡ None → begins_with_basic (types_in (mark_before m s)) ≡ false
 no_basic (letter k) s h = absurd cc
-no_basic of_variant s h = refl
 no_basic of_array s h = no_array s
 no_basic of_maybe s h = no_maybe s
 no_basic open_tuple s h = no_tuple s
-no_basic close_tuple s h = refl
 no_basic open_entry s h = no_entry s
-no_basic close_entry s h = refl
-no_basic other s h = refl
+no_basic _ s h = refl
 
 pub other_seen : (w : List ℕ) (c : ℕ) (cs : List ℕ) → w ≡ c ∷ cs → basic_in (class_of_mark (mark c)) ≡ None → begins_with_basic (types_in (seen w)) ≡ false
 unfolding seen

@@ -29,10 +29,7 @@ pub record IsTupleBefore (s r : Seen) : Type 0 where
 
 member_begins : (t : Ty) (r : Seen) → begins_type (member_before t r) ≡ true → begins_type r ≡ true
 member_begins t (type u r) h = refl
-member_begins t nothing h = h
-member_begins t (tuple_end r) h = h
-member_begins t (entry_end r) h = h
-member_begins t wrong h = h
+member_begins t _ h = h
 
 one_more : (t : Ty) (s r : Seen) → IsTupleBefore s r → IsTupleBefore (type t s) (member_before t r)
 one_more t s r h = record { ends = h.ends; is = ap (member_before t) h.is }
@@ -41,9 +38,7 @@ tuple_before : (s : Seen) → begins_type (tuple_type_before s) ≡ true → IsT
 unfolding tuple_type_before
 tuple_before (tuple_end s) h = record { ends = refl; is = refl }
 tuple_before (type t s) h = one_more t s (tuple_type_before s) (tuple_before s (member_begins t (tuple_type_before s) h))
-tuple_before nothing h = absurd (false≢true h)
-tuple_before (entry_end s) h = absurd (false≢true h)
-tuple_before wrong h = absurd (false≢true h)
+tuple_before _ h = absurd (false≢true h)
 
 first_nests : (t : Ty) (ts : Types) → (nesting t ≤ greatest_nesting (member t ts)) × (greatest_nesting ts ≤ greatest_nesting (member t ts))
 unfolding nesting
@@ -104,17 +99,11 @@ pub record IsMarked (m : TypeMark) (s r : Seen) : Type 0 where
 
 array_is : (s : Seen) → begins_type (array_before s) ≡ true → IsMarked of_array s (array_before s)
 array_is (type t s) h = record { class = refl; is = tt }
-array_is nothing h = absurd (false≢true h)
-array_is (tuple_end s) h = absurd (false≢true h)
-array_is (entry_end s) h = absurd (false≢true h)
-array_is wrong h = absurd (false≢true h)
+array_is _ h = absurd (false≢true h)
 
 maybe_is : (s : Seen) → begins_type (maybe_before s) ≡ true → IsMarked of_maybe s (maybe_before s)
 maybe_is (type t s) h = record { class = refl; is = tt }
-maybe_is nothing h = absurd (false≢true h)
-maybe_is (tuple_end s) h = absurd (false≢true h)
-maybe_is (entry_end s) h = absurd (false≢true h)
-maybe_is wrong h = absurd (false≢true h)
+maybe_is _ h = absurd (false≢true h)
 
 entry_is : (s : Seen) → begins_type (entry_before s) ≡ true → IsMarked open_entry s (entry_before s)
 entry_is (type (basic k) (type t (entry_end s))) h = record { class = refl; is = record { key = k; value = t; rest = s; inside = refl; is = refl } }
@@ -133,9 +122,7 @@ marked of_array s h = array_is s h
 marked of_maybe s h = maybe_is s h
 marked open_tuple s h = tuple_is s h
 marked open_entry s h = entry_is s h
-marked close_tuple s h = absurd (false≢true h)
-marked close_entry s h = absurd (false≢true h)
-marked other s h = absurd (false≢true h)
+marked _ s h = absurd (false≢true h)
 
 -- ---- the first byte of a text
 
@@ -185,17 +172,11 @@ variant_first_type w f e = one_letter w variant f (first_type_is w classes.Varia
 
 begun : (s : Seen) → begins_type s ≡ true → s ≡ type (first_type s) (after s)
 begun (type t s) h = refl
-begun nothing h = absurd (false≢true h)
-begun (tuple_end s) h = absurd (false≢true h)
-begun (entry_end s) h = absurd (false≢true h)
-begun wrong h = absurd (false≢true h)
+begun _ h = absurd (false≢true h)
 
 spelled : (s : Seen) (w : List ℕ) → begins_type s ≡ true → Shows s w → (r : List ℕ) × (w ≡ spelling (first_type s) ++ r)
 spelled (type t s) w h is = (is.0, is.1)
-spelled nothing w h is = absurd (false≢true h)
-spelled (tuple_end s) w h is = absurd (false≢true h)
-spelled (entry_end s) w h is = absurd (false≢true h)
-spelled wrong w h is = absurd (false≢true h)
+spelled _ w h is = absurd (false≢true h)
 
 pub first_type_prefix : (w : List ℕ) → HasFirstType w → type_prefix [] w ≡ Some (first_type (seen w))
 first_type_prefix w f =

@@ -29,14 +29,10 @@ IsFirst (Some classes.Entry) b = b ≡ 123
 
 first_of_mark : (m : TypeMark) (b : ℕ) → IsByteOf m b → IsFirst (class_of_mark m) b
 first_of_mark (letter k) b e = e ∙ ap letter_of (sym (basic_of-basic_type k))
-first_of_mark of_variant b e = e
-first_of_mark of_array b e = e
-first_of_mark of_maybe b e = e
-first_of_mark open_tuple b e = e
 first_of_mark close_tuple b e = tt
-first_of_mark open_entry b e = e
 first_of_mark close_entry b e = tt
 first_of_mark other b e = tt
+first_of_mark _ b e = e
 
 pub first_of_class : (b : ℕ) (c : Option Class) → class_of_mark (mark b) ≡ c → IsFirst c b
 first_of_class b c e = subst (λ (d : Option Class). IsFirst d b) e (first_of_mark (mark b) b (byte_of_mark b))

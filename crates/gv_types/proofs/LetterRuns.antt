@@ -21,10 +21,6 @@ pub record IsSingle (m : TypeMark) : Type 0 where
 pub single_class : (m : TypeMark) → is_single_mark m ≡ true → IsSingle m
 single_class (letter k) e = record { class = classes.Basic (basic_type k); is = refl; one = inl (basic_type k, refl) }
 single_class of_variant e = record { class = classes.Variant; is = refl; one = inr refl }
-single_class of_array e = absurd (false≢true e)
-single_class of_maybe e = absurd (false≢true e)
-single_class open_tuple e = absurd (false≢true e)
-single_class open_entry e = absurd (false≢true e)
 single_class _ e = absurd (false≢true e)
 
 -- ---- what follows them

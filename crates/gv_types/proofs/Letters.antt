@@ -15,11 +15,7 @@ pub record StartsWithClass (w : List ℕ) (t : Ty) : Type 0 where
 pub starts_with_class : (t : Ty) → StartsWithClass (spelling t) t
 unfolding spelling mark
 starts_with_class (basic k) = record { some = omega arith; class = ap class_of_mark (mark_letter k) }
-starts_with_class variant = record { some = omega arith; class = refl }
-starts_with_class (array t) = record { some = omega arith; class = refl }
-starts_with_class (maybe t) = record { some = omega arith; class = refl }
-starts_with_class (tuple ts) = record { some = omega arith; class = refl }
-starts_with_class (entry k t) = record { some = omega arith; class = refl }
+starts_with_class _ = record { some = omega arith; class = refl }
 
 pub first_class : (w : List ℕ) → is_type w ≡ true → StartsWithClass w (type_at w)
 first_class w h = subst (λ (v : List ℕ). StartsWithClass v (type_at w)) (spelling-type_at w h).0 (starts_with_class (type_at w))

@@ -79,14 +79,8 @@ one_read room text rest others before singles after m r e = record {
 -- each of them is a level
 singles_within : (t : Ty) → suc (single_tuples t) ≤ nesting t
 unfolding single_tuples nesting greatest_nesting
-singles_within (basic k) = omega arith
-singles_within variant = omega arith
-singles_within (array t) = omega arith
-singles_within (maybe t) = omega arith
-singles_within (tuple end) = omega arith
 singles_within (tuple (member t end)) = omega (arith, singles_within t)
-singles_within (tuple (member t (member u ts))) = omega arith
-singles_within (entry k t) = omega arith
+singles_within _ = omega arith
 
 pub singles_fit : (room : ℕ) (text rest : List ℕ) (singles : ℕ) → ReadsType room text rest singles → suc singles ≤ room
 singles_fit room text rest singles r = omega (arith, r.counted, singles_within r.begins.type, r.begins.within)

@@ -38,35 +38,26 @@ unfolding nesting
 element_nesting t None e h g = absurd cc
 element_nesting (array t) (Some x) e h g = omega (arith, ap nesting (same_Some (ty x) t h), ap (λ (y : TypeStr). nesting (ty y)) (same_Some x e g))
 element_nesting (maybe t) (Some x) e h g = omega (arith, ap nesting (same_Some (ty x) t h), ap (λ (y : TypeStr). nesting (ty y)) (same_Some x e g))
-element_nesting (basic k) (Some x) e h g = absurd cc
-element_nesting variant (Some x) e h g = absurd cc
-element_nesting (tuple t) (Some x) e h g = absurd cc
-element_nesting (entry k t) (Some x) e h g = absurd cc
+element_nesting _ (Some x) e h g = absurd cc
 
 -- a tuple and an entry nest one more than their deepest member
 pub members_nesting : (t : Ty) (c : Class) → c ≡ class_of t → ((c ≡ classes.Tuple) ⊎ (c ≡ classes.Entry)) → nesting t ≡ greatest_nesting (members t) + 1
 unfolding nesting
 members_nesting (tuple ts) c e h = omega arith
 members_nesting (entry k t) c e h = omega (arith, nesting-positive t)
-members_nesting (basic k) c e (inl h) = absurd cc
 members_nesting (basic k) c e (inr h) = absurd cc
-members_nesting variant c e (inl h) = absurd cc
 members_nesting variant c e (inr h) = absurd cc
-members_nesting (array t) c e (inl h) = absurd cc
 members_nesting (array t) c e (inr h) = absurd cc
-members_nesting (maybe t) c e (inl h) = absurd cc
 members_nesting (maybe t) c e (inr h) = absurd cc
+members_nesting _ c e (inl h) = absurd cc
 
 -- a basic type and a variant's have one level
 pub one_level : (t : Ty) (c : Class) → c ≡ class_of t → (((k : BasicType) × (c ≡ classes.Basic k)) ⊎ (c ≡ classes.Variant)) → 1 ≡ nesting t
 unfolding nesting
 one_level (basic k) c e h = refl
 one_level variant c e h = refl
-one_level (array t) c e (inl h) = let is : c ≡ classes.Basic h.0 = h.1 in absurd cc
 one_level (array t) c e (inr h) = absurd cc
-one_level (maybe t) c e (inl h) = let is : c ≡ classes.Basic h.0 = h.1 in absurd cc
 one_level (maybe t) c e (inr h) = absurd cc
-one_level (tuple ts) c e (inl h) = let is : c ≡ classes.Basic h.0 = h.1 in absurd cc
 one_level (tuple ts) c e (inr h) = absurd cc
-one_level (entry k t) c e (inl h) = let is : c ≡ classes.Basic h.0 = h.1 in absurd cc
 one_level (entry k t) c e (inr h) = absurd cc
+one_level _ c e (inl h) = let is : c ≡ classes.Basic h.0 = h.1 in absurd cc

@@ -27,10 +27,7 @@ element_text : (t u : Ty) → element_of t ≡ Some u → (spelling u ≡ drop 1
 unfolding spelling nesting
 element_text (array v) u e = let same : v ≡ u = same_Some v u e in (ap spelling (sym same), omega (arith, ap nesting same))
 element_text (maybe v) u e = let same : v ≡ u = same_Some v u e in (ap spelling (sym same), omega (arith, ap nesting same))
-element_text (basic k) u e = absurd (none-some u e)
-element_text variant u e = absurd (none-some u e)
-element_text (tuple ts) u e = absurd (none-some u e)
-element_text (entry k t) u e = absurd (none-some u e)
+element_text _ u e = absurd (none-some u e)
 
 pub text_of_element : (w : List ℕ) (u : Ty) → is_type w ≡ true → element_of (type_at w) ≡ Some u → IsTextOfType u (drop 1 w)
 text_of_element w u h e =
@@ -46,14 +43,11 @@ pub record HasElement (t : Ty) : Type 0 where
 holds_element : (t : Ty) → (class_of t ≡ classes.Array) ⊎ (class_of t ≡ classes.Maybe) → HasElement t
 holds_element (array t) h = record { element = t; is = refl }
 holds_element (maybe t) h = record { element = t; is = refl }
-holds_element (basic k) (inl e) = absurd cc
 holds_element (basic k) (inr e) = absurd cc
-holds_element variant (inl e) = absurd cc
 holds_element variant (inr e) = absurd cc
-holds_element (tuple ts) (inl e) = absurd cc
 holds_element (tuple ts) (inr e) = absurd cc
-holds_element (entry k t) (inl e) = absurd cc
 holds_element (entry k t) (inr e) = absurd cc
+holds_element _ (inl e) = absurd cc
 
 class_same : (c d : Class) → c ≡ d → (c ≡ classes.Array) ⊎ (c ≡ classes.Maybe) → (d ≡ classes.Array) ⊎ (d ≡ classes.Maybe)
 class_same c d e h = subst (λ (x : Class). (x ≡ classes.Array) ⊎ (x ≡ classes.Maybe)) e h
@@ -77,11 +71,7 @@ spelled_key k t = record { key = basic k; is = refl; some = omega arith; spelled
 
 key_of_entry : (t : Ty) → class_of t ≡ classes.Entry → HasKey (spelling t) t
 key_of_entry (entry k t) e = spelled_key k t
-key_of_entry (basic k) e = absurd cc
-key_of_entry variant e = absurd cc
-key_of_entry (array t) e = absurd cc
-key_of_entry (maybe t) e = absurd cc
-key_of_entry (tuple ts) e = absurd cc
+key_of_entry _ e = absurd cc
 
 pub has_key : (w : List ℕ) → is_type w ≡ true → class_of (type_at w) ≡ classes.Entry → HasKey w (type_at w)
 has_key w h e = subst (λ (v : List ℕ). HasKey v (type_at w)) (spelling-type_at w h).0 (key_of_entry (type_at w) e)
@@ -129,14 +119,11 @@ entry_members k t = record {
 members_of : (t : Ty) → AreBracketed (class_of t) → HasMembers (spelling t) t
 members_of (tuple ts) h = tuple_members ts
 members_of (entry k t) h = entry_members k t
-members_of (basic k) (inl e) = absurd cc
 members_of (basic k) (inr e) = absurd cc
-members_of variant (inl e) = absurd cc
 members_of variant (inr e) = absurd cc
-members_of (array t) (inl e) = absurd cc
 members_of (array t) (inr e) = absurd cc
-members_of (maybe t) (inl e) = absurd cc
 members_of (maybe t) (inr e) = absurd cc
+members_of _ (inl e) = absurd cc
 
 pub has_members : (w : List ℕ) → is_type w ≡ true → AreBracketed (class_of (type_at w)) → HasMembers w (type_at w)
 has_members w h b = subst (λ (v : List ℕ). HasMembers v (type_at w)) (spelling-type_at w h).0 (members_of (type_at w) b)
@@ -186,13 +173,7 @@ member_text n (tuple (member t end)) v w h few m within e =
       alone = record { spells = is.checked; few = omega (arith, few, ap single_tuples is.type) };
       inherits = λ none. ap fixed_size is.type ∙ member_inherits t none;
     }
-member_text n (basic k) v w h few m within e = absurd (omega arith)
-member_text n variant v w h few m within e = absurd (omega arith)
-member_text n (array t) v w h few m within e = absurd (omega arith)
-member_text n (maybe t) v w h few m within e = absurd (omega arith)
-member_text n (tuple end) v w h few m within e = absurd (omega arith)
-member_text n (tuple (member t (member u ts))) v w h few m within e = absurd (omega arith)
-member_text n (entry k t) v w h few m within e = absurd (omega arith)
+member_text n _ v w h few m within e = absurd (omega arith)
 
 pub text_of_member : (n : ℕ) (w : List ℕ) → is_type w ≡ true → n ≤ single_tuples (type_at w) → HasMembers w (type_at w) → 0 < n → IsTextOfMember n (type_at w) (slice_range w 1 (length w - 1))
 text_of_member n w h few m some = member_text n (type_at w) w (slice_range w 1 (length w - 1)) some few m (spelling-type_at w h).1 refl
@@ -202,10 +183,7 @@ no_members : (t : Ty) → (class_of t ≡ classes.Tuple → ⊥) → (class_of t
 unfolding type_list
 no_members (tuple ts) h g = absurd (h refl)
 no_members (entry k t) h g = absurd (g refl)
-no_members (basic k) h g = refl
-no_members variant h g = refl
-no_members (array t) h g = refl
-no_members (maybe t) h g = refl
+no_members _ h g = refl
 
 pub has_no_members : (c : Class) (t : Ty) → c ≡ class_of t → (c ≡ classes.Tuple → ⊥) → (c ≡ classes.Entry → ⊥) → type_list (members t) ≡ []
 has_no_members c t e h g = no_members t (λ b. h (e ∙ b)) (λ b. g (e ∙ b))

@@ -57,9 +57,7 @@ shown_is_ascii : (s : Seen) (w : List ℕ) → Shows s w → are_types s ≡ tru
 shown_is_ascii nothing w h e = subst IsAscii (sym h) IsAscii-nil
 shown_is_ascii (type t s) w h e =
     subst IsAscii (sym h.1) (IsAscii-append (spelling t) h.0 (spelling_is_ascii t) (shown_is_ascii s h.0 h.2 (and_parts (is_within_limits t (spelling t)) (are_types s) e).1))
-shown_is_ascii (tuple_end s) w h e = absurd (false≢true e)
-shown_is_ascii (entry_end s) w h e = absurd (false≢true e)
-shown_is_ascii wrong w h e = absurd (false≢true e)
+shown_is_ascii _ w h e = absurd (false≢true e)
 
 pub types_are_ascii : (w : List ℕ) → are_types (seen w) ≡ true → IsAscii w
 types_are_ascii w e = shown_is_ascii (seen w) w (seen_shows w) e
@@ -69,9 +67,7 @@ stop_is_end : (s : Seen) (w rest : List ℕ) (halt : Halt) → Shows s w → are
 stop_is_end nothing w rest halt h e stop = h
 stop_is_end (type t s) w rest halt h e stop =
     absurd (no_type_where_stopped 128 w rest halt t h.0 stop h.1 (limits_of t (spelling t) (and_parts (is_within_limits t (spelling t)) (are_types s) e).0).0)
-stop_is_end (tuple_end s) w rest halt h e stop = absurd (false≢true e)
-stop_is_end (entry_end s) w rest halt h e stop = absurd (false≢true e)
-stop_is_end wrong w rest halt h e stop = absurd (false≢true e)
+stop_is_end _ w rest halt h e stop = absurd (false≢true e)
 
 stops_at_end : (w rest : List ℕ) (halt : Halt) → are_types (seen w) ≡ true → HaltsAt 128 w rest halt → w ≡ []
 stops_at_end w rest halt e stop = stop_is_end (seen w) w rest halt (seen_shows w) e stop
@@ -87,9 +83,7 @@ no_types_left w rest halt e stop = in_no_text w (stops_at_end w rest halt e stop
 no_types_shown : (s : Seen) (w : List ℕ) → Shows s w → are_types s ≡ true → types_in s ≡ [] → w ≡ []
 no_types_shown nothing w h e none = h
 no_types_shown (type t s) w h e none = absurd (nil_no_cons (sym none))
-no_types_shown (tuple_end s) w h e none = absurd (false≢true e)
-no_types_shown (entry_end s) w h e none = absurd (false≢true e)
-no_types_shown wrong w h e none = absurd (false≢true e)
+no_types_shown _ w h e none = absurd (false≢true e)
 
 pub no_types_in_empty : (w : List ℕ) (empty : Bool) → are_types (seen w) ≡ true → empty ≡ eqb (length w) 0 → IsTrue empty ↔ (types_in (seen w) ≡ [])
 no_types_in_empty w empty e is = (
