@@ -161,16 +161,12 @@ module _ (es : List QueuedEdit) where
 
   pub own_by : (k : ℕ) (step : QueueStep) (answer : QueueAnswer) → is_refused (marked es step answer) k ≡ true → (is_refused es k ≡ true) ⊎ IsOwnFault k step es answer
   own_by k (Ask at) Locked r = unmade_own at k (slice_get es at) refl r
-  own_by k (Ask at) Yes r = inl r
-  own_by k (Ask at) (Fault i) r = inl r
-  own_by k (Ask at) Later r = inl r
   own_by k Write (Fault at) r = for_own at k (goes es at) r
-  own_by k Write Yes r = inl r
-  own_by k Write Locked r = inl r
-  own_by k Write Later r = inl r
   own_by k (Take at) answer r = inl r
   own_by k (Pass at) answer r = inl r
   own_by k (Done end) answer r = inl r
+  own_by k Write _ r = inl r
+  own_by k (Ask at) _ r = inl r
 
   -- ---- which edits are left out
 
@@ -200,16 +196,12 @@ module _ (es : List QueuedEdit) where
 
   pub reset_by : (k : ℕ) (step : QueueStep) (answer : QueueAnswer) → is_left_out (marked es step answer) k ≡ true → (is_left_out es k ≡ true) ⊎ IsLockedReset k step es answer
   reset_by k (Ask at) Locked r = unmade_reset at k (slice_get es at) refl r
-  reset_by k (Ask at) Yes r = inl r
-  reset_by k (Ask at) (Fault i) r = inl r
-  reset_by k (Ask at) Later r = inl r
   reset_by k Write (Fault at) r = inl (for_leaves at k (goes es at) r)
-  reset_by k Write Yes r = inl r
-  reset_by k Write Locked r = inl r
-  reset_by k Write Later r = inl r
   reset_by k (Take at) answer r = inl r
   reset_by k (Pass at) answer r = inl r
   reset_by k (Done end) answer r = inl r
+  reset_by k Write _ r = inl r
+  reset_by k (Ask at) _ r = inl r
 
 -- ---- what is asked stays
 
@@ -244,13 +236,9 @@ module _ (es : List QueuedEdit) where
 
   pub marked_asked : (step : QueueStep) (answer : QueueAnswer) → Same (marked es step answer)
   marked_asked (Ask at) Locked = unmade_asked at (slice_get es at) refl
-  marked_asked (Ask at) Yes = refl
-  marked_asked (Ask at) (Fault i) = refl
-  marked_asked (Ask at) Later = refl
   marked_asked Write (Fault at) = for_asked at (goes es at)
-  marked_asked Write Yes = refl
-  marked_asked Write Locked = refl
-  marked_asked Write Later = refl
   marked_asked (Take at) answer = refl
   marked_asked (Pass at) answer = refl
   marked_asked (Done end) answer = refl
+  marked_asked Write _ = refl
+  marked_asked (Ask at) _ = refl

@@ -62,15 +62,12 @@ module _ (s : Looked) (r : Refresh) where
 
   next_kept : (step : LookStep) (said : Bool) (next : LookStep) → s.step ≡ step → s.said ≡ said → LookGoes r step said next → Kept next
   next_kept (Stat at) true next e y g = subst Kept (sym g) (inl e, y)
-  next_kept (Stat at) false next e y g = subst Kept (sym g) tt
   next_kept (Read at) true next e y g = ⊎_elim (λ (c : next ≡ Compare at). subst Kept (sym c) tt) (λ (c : next ≡ Open at). subst Kept (sym c) tt) (read_on_is r at next g)
-  next_kept (Read at) false next e y g = subst Kept (sym g) tt
   next_kept (Compare at) true next e y g = subst Kept (sym g) (inr e, y)
-  next_kept (Compare at) false next e y g = subst Kept (sym g) tt
   next_kept (Keep at) said next e y g = kept_next at r.is_newer next g
   next_kept (Open at) true next e y g = kept_next at true next g
-  next_kept (Open at) false next e y g = subst Kept (sym g) tt
   next_kept (Done end) said next e y g = subst Kept (sym g) tt
+  next_kept _ false next e y g = subst Kept (sym g) tt
 
 kept_well : (before : Option Looked) (taken : List Looked) (r u : Refresh) → RanLook taken r u → IsKeptWell before (look_step r) → AreKeptWell before taken
 kept_well before [] r u h k = tt
@@ -92,13 +89,12 @@ not_asked r (Stat at) true next g e = let bad : Keep at ≡ Stat 0 = sym g ∙ e
 not_asked r (Stat at) false next g e = let bad : Read at ≡ Stat 0 = sym g ∙ e in cc
 not_asked r (Read at) true next g e =
     ⊎_elim (λ (c : next ≡ Compare at). (let bad : Compare at ≡ Stat 0 = sym c ∙ e in cc)) (λ (c : next ≡ Open at). (let bad : Open at ≡ Stat 0 = sym c ∙ e in cc)) (read_on_is r at next g)
-not_asked r (Read at) false next g e = let bad : Done Failed ≡ Stat 0 = sym g ∙ e in cc
 not_asked r (Compare at) true next g e = let bad : Keep at ≡ Stat 0 = sym g ∙ e in cc
 not_asked r (Compare at) false next g e = let bad : Open at ≡ Stat 0 = sym g ∙ e in cc
 not_asked r (Keep at) said next g e = stat_next r at r.is_newer next g e
 not_asked r (Open at) true next g e = stat_next r at true next g e
-not_asked r (Open at) false next g e = let bad : Done Failed ≡ Stat 0 = sym g ∙ e in cc
 not_asked r (Done end) said next g e = let bad : Done end ≡ Stat 0 = sym g ∙ e in cc
+not_asked r _ false next g e = let bad : Done Failed ≡ Stat 0 = sym g ∙ e in cc
 
 never_asked : (taken : List Looked) (r u : Refresh) → RanLook taken r u → (look_step r ≡ Stat 0 → ⊥) → (said : Bool) → HasLooked (Stat 0) said taken → ⊥
 never_asked [] r u h n said x = x
@@ -301,22 +297,17 @@ same_by r (Stat at) true next g e = let bad : Keep at ≡ Done Same = sym g ∙ 
 same_by r (Stat at) false next g e = let bad : Read at ≡ Done Same = sym g ∙ e in cc
 same_by r (Read at) true next g e =
     ⊎_elim (λ (c : next ≡ Compare at). (let bad : Compare at ≡ Done Same = sym c ∙ e in cc)) (λ (c : next ≡ Open at). (let bad : Open at ≡ Done Same = sym c ∙ e in cc)) (read_on_is r at next g)
-same_by r (Read at) false next g e = let bad : Done Failed ≡ Done Same = sym g ∙ e in cc
 same_by r (Compare at) true next g e = let bad : Keep at ≡ Done Same = sym g ∙ e in cc
 same_by r (Compare at) false next g e = let bad : Open at ≡ Done Same = sym g ∙ e in cc
 same_by r (Keep at) said next g e = inr (end_same r.is_newer (last_end r at r.is_newer next Same g e), λ x. x)
 same_by r (Open at) true next g e = let bad : true ≡ false = end_same true (last_end r at true next Same g e) in cc
-same_by r (Open at) false next g e = let bad : Done Failed ≡ Done Same = sym g ∙ e in cc
 same_by r (Done end) said next g e = inl (sym g ∙ e)
+same_by r _ false next g e = let bad : Done Failed ≡ Done Same = sym g ∙ e in cc
 
 newer_false : (step : LookStep) (said before : Bool) → newer_after step said before ≡ false → (before ≡ false) × ¬ IsOpening step said
 newer_false (Open at) true before e = let bad : true ≡ false = e in cc
 newer_false (Open at) false before e = (e, λ x. x)
-newer_false (Stat at) said before e = (e, λ x. x)
-newer_false (Read at) said before e = (e, λ x. x)
-newer_false (Compare at) said before e = (e, λ x. x)
-newer_false (Keep at) said before e = (e, λ x. x)
-newer_false (Done end) said before e = (e, λ x. x)
+newer_false _ said before e = (e, λ x. x)
 
 abbrev NewerBy : Refresh → LookStep → Bool → Type 0
 NewerBy r step said = (step ≡ Done Newer) ⊎ ((r.is_newer ≡ true) ⊎ IsOpening step said)
@@ -326,35 +317,29 @@ newer_by r (Stat at) true next g e = let bad : Keep at ≡ Done Newer = sym g �
 newer_by r (Stat at) false next g e = let bad : Read at ≡ Done Newer = sym g ∙ e in cc
 newer_by r (Read at) true next g e =
     ⊎_elim (λ (c : next ≡ Compare at). (let bad : Compare at ≡ Done Newer = sym c ∙ e in cc)) (λ (c : next ≡ Open at). (let bad : Open at ≡ Done Newer = sym c ∙ e in cc)) (read_on_is r at next g)
-newer_by r (Read at) false next g e = let bad : Done Failed ≡ Done Newer = sym g ∙ e in cc
 newer_by r (Compare at) true next g e = let bad : Keep at ≡ Done Newer = sym g ∙ e in cc
 newer_by r (Compare at) false next g e = let bad : Open at ≡ Done Newer = sym g ∙ e in cc
 newer_by r (Keep at) said next g e = inr (inl (end_newer r.is_newer (last_end r at r.is_newer next Newer g e)))
 newer_by r (Open at) true next g e = inr (inr tt)
-newer_by r (Open at) false next g e = let bad : Done Failed ≡ Done Newer = sym g ∙ e in cc
 newer_by r (Done end) said next g e = inl (sym g ∙ e)
+newer_by r _ false next g e = let bad : Done Failed ≡ Done Newer = sym g ∙ e in cc
 
 newer_true : (step : LookStep) (said before : Bool) → newer_after step said before ≡ true → (before ≡ true) ⊎ IsOpening step said
 newer_true (Open at) true before e = inr tt
 newer_true (Open at) false before e = inl e
-newer_true (Stat at) said before e = inl e
-newer_true (Read at) said before e = inl e
-newer_true (Compare at) said before e = inl e
-newer_true (Keep at) said before e = inl e
-newer_true (Done end) said before e = inl e
+newer_true _ said before e = inl e
 
 failed_by : (r : Refresh) (step : LookStep) (said : Bool) (next : LookStep) → LookGoes r step said next → next ≡ Done Failed → (step ≡ Done Failed) ⊎ IsRefusal step said
 failed_by r (Stat at) true next g e = let bad : Keep at ≡ Done Failed = sym g ∙ e in cc
 failed_by r (Stat at) false next g e = let bad : Read at ≡ Done Failed = sym g ∙ e in cc
 failed_by r (Read at) true next g e =
     ⊎_elim (λ (c : next ≡ Compare at). (let bad : Compare at ≡ Done Failed = sym c ∙ e in cc)) (λ (c : next ≡ Open at). (let bad : Open at ≡ Done Failed = sym c ∙ e in cc)) (read_on_is r at next g)
-failed_by r (Read at) false next g e = inr tt
 failed_by r (Compare at) true next g e = let bad : Keep at ≡ Done Failed = sym g ∙ e in cc
 failed_by r (Compare at) false next g e = let bad : Open at ≡ Done Failed = sym g ∙ e in cc
 failed_by r (Keep at) said next g e = absurd (end_failed r.is_newer (last_end r at r.is_newer next Failed g e))
 failed_by r (Open at) true next g e = absurd (end_failed true (last_end r at true next Failed g e))
-failed_by r (Open at) false next g e = inr tt
 failed_by r (Done end) said next g e = inl (sym g ∙ e)
+failed_by r _ false next g e = inr tt
 
 is_opening : (s : Looked) (step : LookStep) → s.step ≡ step → IsOpening s.step s.said → IsOpening step s.said
 is_opening s step e o = subst (λ x. IsOpening x s.said) e o

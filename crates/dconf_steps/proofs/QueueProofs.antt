@@ -1,7 +1,6 @@
 -- What holds of the changes that wait after any answers.
 use Rattle.std.proofs.Common.{ℕ, suc, ◌+◌, ◌*◌, ◌-◌, ◌<◌, ◌≤◌, ◌≡◌, ◌⊎◌, Bool, true, false, ◌&&◌, ◌||◌, cond, List, [], ◌∷◌, ◌++◌, length, map, Some, None, refl, sym, ◌∙◌, ap, subst, arith, ⊎_elim, inl, inr, ltb}
-use Rattle.std.proofs.lemmas.Bool.{ltb-true, ltb-false}
-use Rattle.std.proofs.lemmas.Bool.{cases_Bool, or_parts}
+use Rattle.std.proofs.lemmas.Bool.{ltb-true, ltb-false, cases_Bool, or_parts}
 use Rattle.dconf_steps.specs.declared.queue.QueuedEdit.{QueuedEdit}
 use Rattle.dconf_steps.specs.declared.queue.Queue.{Queue}
 use Rattle.dconf_steps.specs.declared.queue.QueueStage.{QueueStage}
@@ -218,13 +217,9 @@ module _ (q next : Queue) (es then_are : List QueuedEdit) where
   unwritten_by : (held : List ℕ) (step : QueueStep) (answer : QueueAnswer) (more : List TakenStep) → (step ≡ Write → answer ≡ Yes → ⊥) → ((l : List ℕ) → written_of more l ≡ None)
       → written_by step answer (written_of more) held ≡ None
   unwritten_by held (Take at) answer more n r = r (held ++ at ∷ [])
-  unwritten_by held (Pass at) answer more n r = r held
-  unwritten_by held (Ask at) answer more n r = r held
-  unwritten_by held (Done end) answer more n r = r held
   unwritten_by held Write Yes more n r = absurd (n refl refl)
-  unwritten_by held Write Locked more n r = r []
-  unwritten_by held Write (Fault at) more n r = r []
-  unwritten_by held Write Later more n r = r []
+  unwritten_by held Write _ more n r = r []
+  unwritten_by held _ answer more n r = r held
 
 unwritten : (taken : List TakenStep) (q u : Queue) (es after : List QueuedEdit) → RanQueue taken q es u after → queue_step u after ≡ Done Waiting → (held : List ℕ) → written_of taken held ≡ None
 unwritten [] q u es after h w held = refl

@@ -40,9 +40,8 @@ had (s ∷ more) w u h e =
 -- ---- that it is over
 
 done_or_not : (step : WaitStep) → IsWaitDone step ⊎ ¬ IsWaitDone step
-done_or_not Try = inr (λ x. x)
-done_or_not Pause = inr (λ x. x)
 done_or_not (Done end) = inl tt
+done_or_not _ = inr (λ x. x)
 
 stays : (taken : List Waited) (w u : LockWait) → RanWait taken w u → IsWaitDone (wait_step w) → (u ≡ w) × (tries_in taken ≡ 0)
 stays [] w u h d = (h, refl)

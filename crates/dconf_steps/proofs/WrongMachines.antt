@@ -46,9 +46,8 @@ abbrev asked : QueueStep → QueueAnswer → TakenStep
 asked step answer = record { step = step; edits = two; answer = answer }
 
 abbrev first_of : Option (List ℕ) → ℕ
-first_of None = 9
-first_of (Some []) = 9
 first_of (Some (x ∷ more)) = x
+first_of _ = 9
 
 -- the second is refused for the first one's fault
 pub anothers_fault : (u : Queue) → IsGoodQueue (asked queue.Write (Fault 0) ∷ []) u two (edit 0 true false ∷ edit 1 true true ∷ []) → ⊥
