@@ -23,13 +23,6 @@ events_of_push cs c = events_onto-push [] cs c
 pub events_of-take : (cs : List Call) (i : ℕ) (c : Call) → i < length cs → get_or cs i c ≡ c → events_of (take (i + 1) cs) ≡ event_of c ∷ events_of (take i cs)
 events_of-take cs i c lt is = ap events_of (take_more cs i c lt) ∙ ap (λ (x : Call). events_of (take i cs ++ x ∷ [])) is ∙ events_of_push (take i cs) c
 
-events_onto-length : (es : List Event) (cs : List Call) → length (events_onto es cs) ≡ length es + length cs
-events_onto-length es [] = omega arith
-events_onto-length es (c ∷ cs) = events_onto-length (event_of c ∷ es) cs ∙ omega arith
-
-pub length-events_of : (cs : List Call) → length (events_of cs) ≡ length cs
-length-events_of cs = events_onto-length [] cs ∙ omega arith
-
 -- the last of some calls is the newest event
 pub newest : (cs : List Call) (c k : Call) → 0 < length cs → c ≡ get_or cs (length cs - 1) c → c ≡ k → events_of cs ≡ event_of k ∷ events_of (take (length cs - 1) cs)
 newest cs c k lt is same =

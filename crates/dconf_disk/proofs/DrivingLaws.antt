@@ -1,7 +1,6 @@
 -- A turn that is driven on a folder: what each step does, and what is so after it.
-use Rattle.std.proofs.Common.{ℕ, ◌+◌, ◌<◌, ◌≤◌, ◌≡◌, ◌≢◌, ◌⊎◌, Bool, true, false, Result, OnOk, OnErr, List, ◌∷◌, length, take, drop, Some, None, refl, sym, ◌∙◌, ap, subst, arith, inl, inr, ⊎_elim}
+use Rattle.std.proofs.Common.{ℕ, ◌+◌, ◌<◌, ◌≤◌, ◌≡◌, ◌≢◌, ◌⊎◌, true, false, Result, OnOk, OnErr, List, ◌∷◌, length, take, drop, Some, None, refl, sym, ◌∙◌, ap, subst, arith, inl, inr, ⊎_elim}
 use Rattle.std.proofs.lemmas.List.{take_all}
-use Rattle.std.proofs.lemmas.Bool.{true_from_ne_false}
 use Rattle.dconf_model.specs.Folders.{Event}
 use Rattle.dconf_model.specs.Folders.Event.{create, append, sync, touch, rename, remove, sync_folder}
 use Rattle.dconf_model.specs.Replacing.{new_name, MaybeReplaced, Replaced}
@@ -13,18 +12,16 @@ use Rattle.dconf_turn.specs.declared.step.Step.TheVariants.{Lock, Read, Make, Cr
 use Rattle.dconf_turn.specs.declared.step.Answer.{Answer}
 use Rattle.dconf_turn.specs.declared.step.Answer.TheVariants.{Yes, No}
 use Rattle.dconf_turn.specs.Jobs.{IsFree, IsLockApart, IsOwn}
-use Rattle.dconf_turn.specs.Sayings.{IsMade, Says}
-use Rattle.dconf_turn.specs.Sayings.{IsWhole as IsWholeFile}
+use Rattle.dconf_turn.specs.Sayings.{IsMade, Says, IsWhole as IsWholeFile}
 use Rattle.dconf_turn.specs.Steps.{place, step_of, GoesOn, Follows, IsSaid, IsDone, KnowsAfter}
 use Rattle.dconf_turn.specs.Progress.{Stands}
-use Rattle.dconf_turn.proofs.HistoryLaws.{done_is}
+use Rattle.dconf_turn.proofs.HistoryLaws.{done_is, end_at}
 use Rattle.dconf_turn.specs.Hosts.{DidStep, IsLockMade, IsNoted}
 use Rattle.dconf_turn.proofs.ApartLaws.{nothing_yet}
 use Rattle.dconf_turn.proofs.SayingLaws.{kept, kept_whole, whole_of}
-use Rattle.dconf_turn.proofs.HistoryLaws.{end_at}
 use Rattle.dconf_disk.specs.declared.fault.FolderFault.{FolderFault}
 use Rattle.dconf_disk.specs.Staging.{staged_onto, settled_onto}
-use Rattle.dconf_disk.specs.Driving.{IsAble, IsWhole, IsOneMore, IsCounted, IsStraight, IsRefused, IsIdle, CountsSo, job_of, result_of}
+use Rattle.dconf_disk.specs.Driving.{IsWhole, IsOneMore, IsCounted, IsStraight, IsRefused, IsIdle, CountsSo, job_of, result_of}
 
 -- ---- what is said, in the words of dconf_model
 
@@ -68,64 +65,40 @@ module _ (t : Turn) (es now : List Event) (name bytes : List ℕ) (outcome : Out
 
 pub ok_of : (X : Type 0) (outcome : Outcome) (r : Result (Unit {0}) FolderFault) → r ≡ result_of outcome → (outcome ≡ Made → X) → OnOk r X
 ok_of X Made r is x = subst (λ q. OnOk q X) (sym is) (x refl)
-ok_of X (Kept f) r is x = subst (λ q. OnOk q X) (sym is) tt
-ok_of X (Either f) r is x = subst (λ q. OnOk q X) (sym is) tt
-ok_of X (Unsettled f) r is x = subst (λ q. OnOk q X) (sym is) tt
+ok_of X _ r is x = subst (λ q. OnOk q X) (sym is) tt
 
 pub err_of : (X : Type 0) (outcome : Outcome) (r : Result (Unit {0}) FolderFault) → r ≡ result_of outcome → X → OnErr r X
 err_of X Made r is x = subst (λ q. OnErr q X) (sym is) tt
-err_of X (Kept f) r is x = subst (λ q. OnErr q X) (sym is) x
-err_of X (Either f) r is x = subst (λ q. OnErr q X) (sym is) x
-err_of X (Unsettled f) r is x = subst (λ q. OnErr q X) (sym is) x
+err_of X _ r is x = subst (λ q. OnErr q X) (sym is) x
 
 pub is_done : (step : Step) → IsDone step → (outcome : Outcome) × (step ≡ Done outcome)
 is_done (Done x) d = (x, refl)
-is_done Lock d = absurd d
-is_done Read d = absurd d
-is_done Make d = absurd d
-is_done (Create m) d = absurd d
-is_done (Append at) d = absurd d
-is_done (Sync b) d = absurd d
-is_done SetAside d = absurd d
-is_done Exchange d = absurd d
-is_done Rename d = absurd d
-is_done SyncFolder d = absurd d
-is_done Remove d = absurd d
-is_done Note d = absurd d
-is_done Unlock d = absurd d
+is_done _ d = absurd d
 
 -- ---- what a step may do
 
 -- some folder is what any answer admits
 pub can : (step : Step) (answer : Answer) (name bytes : List ℕ) (es : List Event) → IsWhole step answer (length bytes) → (now : List Event) × DidStep step answer (job_of name bytes) es now
 can Lock (Yes n) name bytes es w = (es, inl refl)
-can Lock (No f) name bytes es w = (es, inl refl)
-can Read (Yes n) name bytes es w = (es, refl)
 can Read (No f) name bytes es w = (es, refl)
 can Make (Yes n) name bytes es w = (es, (refl, w))
 can Make (No f) name bytes es w = (es, refl)
 can (Create m) (Yes n) name bytes es w = (create (new_name name) ∷ es, refl)
-can (Create m) (No f) name bytes es w = (es, inl refl)
 can (Append at) (Yes n) name bytes es w = (append (new_name name) (take n (drop at bytes)) ∷ es, refl)
 can (Append at) (No f) name bytes es w = (touch (new_name name) ∷ es, inl refl)
 can (Sync b) (Yes n) name bytes es w = (sync (new_name name) ∷ es, refl)
 can (Sync b) (No f) name bytes es w = (touch (new_name name) ∷ es, refl)
 can SetAside (Yes n) name bytes es w = absurd w
-can SetAside (No f) name bytes es w = (es, inl refl)
 can Exchange (Yes n) name bytes es w = absurd w
-can Exchange (No f) name bytes es w = (es, inl refl)
 can Rename (Yes n) name bytes es w = (rename (new_name name) name ∷ es, refl)
-can Rename (No f) name bytes es w = (es, inl refl)
 can SyncFolder (Yes n) name bytes es w = (sync_folder ∷ es, refl)
 can SyncFolder (No f) name bytes es w = (es, refl)
 can Remove (Yes n) name bytes es w = (remove (new_name name) ∷ es, refl)
-can Remove (No f) name bytes es w = (es, inl refl)
 can Note (Yes n) name bytes es w = (es, inl refl)
-can Note (No f) name bytes es w = (es, inl refl)
-can Unlock (Yes n) name bytes es w = (es, refl)
 can Unlock (No f) name bytes es w = (es, refl)
-can (Done o) (Yes n) name bytes es w = (es, refl)
 can (Done o) (No f) name bytes es w = (es, refl)
+can _ (Yes n) name bytes es w = (es, refl)
+can _ (No f) name bytes es w = (es, inl refl)
 
 -- without a lock's file nothing is done to it
 not_locked : (es now : List Event) → (now ≡ es) ⊎ IsLockMade None es now → now ≡ es
@@ -137,33 +110,9 @@ not_noted es now d = ⊎_elim (λ (e : now ≡ es). e) (λ (l : IsNoted None es 
 -- nothing is set aside
 pub keeps_on : (step : Step) (answer : Answer) (size : ℕ) (t u : Turn) → IsWhole step answer size → KnowsAfter step answer t u → t.keeps ≡ false → u.keeps ≡ false
 keeps_on Read (Yes n) size t u w k h = (k.absent w).1
+keeps_on _ (Yes n) size t u w k h = k.1 ∙ h
 keeps_on Read (No f) size t u w k h = k.1 ∙ h
-keeps_on Lock (Yes n) size t u w k h = k.1 ∙ h
-keeps_on Lock (No f) size t u w k h = k.1 ∙ h
-keeps_on Make (Yes n) size t u w k h = k.1 ∙ h
-keeps_on Make (No f) size t u w k h = k.1 ∙ h
-keeps_on (Create m) (Yes n) size t u w k h = k.1 ∙ h
-keeps_on (Create m) (No f) size t u w k h = k.1 ∙ h
-keeps_on (Append at) (Yes n) size t u w k h = k.1 ∙ h
-keeps_on (Append at) (No f) size t u w k h = k.1 ∙ h
-keeps_on (Sync b) (Yes n) size t u w k h = k.1 ∙ h
-keeps_on (Sync b) (No f) size t u w k h = k.1 ∙ h
-keeps_on SetAside (Yes n) size t u w k h = k.1 ∙ h
-keeps_on SetAside (No f) size t u w k h = k.1 ∙ h
-keeps_on Exchange (Yes n) size t u w k h = k.1 ∙ h
-keeps_on Exchange (No f) size t u w k h = k.1 ∙ h
-keeps_on Rename (Yes n) size t u w k h = k.1 ∙ h
-keeps_on Rename (No f) size t u w k h = k.1 ∙ h
-keeps_on SyncFolder (Yes n) size t u w k h = k.1 ∙ h
-keeps_on SyncFolder (No f) size t u w k h = k.1 ∙ h
-keeps_on Remove (Yes n) size t u w k h = k.1 ∙ h
-keeps_on Remove (No f) size t u w k h = k.1 ∙ h
-keeps_on Note (Yes n) size t u w k h = k.1 ∙ h
-keeps_on Note (No f) size t u w k h = k.1 ∙ h
-keeps_on Unlock (Yes n) size t u w k h = k.1 ∙ h
-keeps_on Unlock (No f) size t u w k h = k.1 ∙ h
-keeps_on (Done x) (Yes n) size t u w k h = k.1 ∙ h
-keeps_on (Done x) (No f) size t u w k h = k.1 ∙ h
+keeps_on _ (No f) size t u w k h = k.1 ∙ h
 
 -- ---- the next step
 
@@ -175,68 +124,28 @@ module _ (es now : List Event) (name bytes : List ℕ) (o : Outcome) where
   S next = IsStraight next o es now name bytes
 
   late : (next : Step) → 10 ≤ place next → ¬ (o ≡ Made) → S next
-  late Lock p n = absurd (omega arith)
-  late Read p n = absurd (omega arith)
-  late Make p n = absurd (omega arith)
-  late (Create m) p n = absurd (omega arith)
-  late (Append at) p n = absurd (omega arith)
-  late (Sync b) p n = absurd (omega arith)
-  late SetAside p n = absurd (omega arith)
-  late Exchange p n = absurd (omega arith)
-  late Rename p n = absurd (omega arith)
-  late SyncFolder p n = absurd (omega arith)
   late Remove p n = n
   late Note p n = λ h. absurd (n h)
   late Unlock p n = λ h. absurd (n h)
   late (Done x) p n = λ h. absurd (n h)
+  late _ p n = absurd (omega arith)
 
   last : (next : Step) → 10 < place next → (o ≡ Made → now ≡ settled_onto (staged_onto es (new_name name) bytes) (new_name name) name) → S next
-  last Lock p n = absurd (omega arith)
-  last Read p n = absurd (omega arith)
-  last Make p n = absurd (omega arith)
-  last (Create m) p n = absurd (omega arith)
-  last (Append at) p n = absurd (omega arith)
-  last (Sync b) p n = absurd (omega arith)
-  last SetAside p n = absurd (omega arith)
-  last Exchange p n = absurd (omega arith)
-  last Rename p n = absurd (omega arith)
-  last SyncFolder p n = absurd (omega arith)
-  last Remove p n = absurd (omega arith)
   last Note p n = n
   last Unlock p n = n
   last (Done x) p n = n
+  last _ p n = absurd (omega arith)
 
   third : (next : Step) → place next ≡ 3 → now ≡ es → S next
   third Lock p n = n
   third Read p n = n
   third Make p n = n
   third (Create m) p n = n
-  third (Append at) p n = absurd (omega arith)
-  third (Sync b) p n = absurd (omega arith)
-  third SetAside p n = absurd (omega arith)
-  third Exchange p n = absurd (omega arith)
-  third Rename p n = absurd (omega arith)
-  third SyncFolder p n = absurd (omega arith)
-  third Remove p n = absurd (omega arith)
-  third Note p n = absurd (omega arith)
-  third Unlock p n = absurd (omega arith)
-  third (Done x) p n = absurd (omega arith)
+  third _ p n = absurd (omega arith)
 
   fifth : (next : Step) → place next ≡ 5 → now ≡ append (new_name name) bytes ∷ create (new_name name) ∷ es → S next
-  fifth Lock p n = absurd (omega arith)
-  fifth Read p n = absurd (omega arith)
-  fifth Make p n = absurd (omega arith)
-  fifth (Create m) p n = absurd (omega arith)
-  fifth (Append at) p n = absurd (omega arith)
   fifth (Sync b) p n = n
-  fifth SetAside p n = absurd (omega arith)
-  fifth Exchange p n = absurd (omega arith)
-  fifth Rename p n = absurd (omega arith)
-  fifth SyncFolder p n = absurd (omega arith)
-  fifth Remove p n = absurd (omega arith)
-  fifth Note p n = absurd (omega arith)
-  fifth Unlock p n = absurd (omega arith)
-  fifth (Done x) p n = absurd (omega arith)
+  fifth _ p n = absurd (omega arith)
 
 none_such : (k : ℕ) → (k < 6) ⊎ ((k ≡ 8) ⊎ (k ≡ 9)) → ¬ (k < 6) → ¬ (k ≡ 8) → ¬ (k ≡ 9) → ⊥
 none_such k p a b c = ⊎_elim a (λ r. ⊎_elim b c r) p
@@ -246,52 +155,26 @@ module _ (before now : ℕ) (o : Outcome) where
   C next = CountsSo next o before now
 
   late_counts : (next : Step) → 10 ≤ place next → ¬ (o ≡ Made) → IsOneMore before now → C next
-  late_counts Lock p n h = absurd (omega arith)
-  late_counts Read p n h = absurd (omega arith)
-  late_counts Make p n h = absurd (omega arith)
-  late_counts (Create m) p n h = absurd (omega arith)
-  late_counts (Append at) p n h = absurd (omega arith)
-  late_counts (Sync b) p n h = absurd (omega arith)
-  late_counts SetAside p n h = absurd (omega arith)
-  late_counts Exchange p n h = absurd (omega arith)
-  late_counts Rename p n h = absurd (omega arith)
-  late_counts SyncFolder p n h = absurd (omega arith)
   late_counts Remove p n h = (n, h)
   late_counts Note p n h = (λ m. absurd (n m), λ x. h)
   late_counts Unlock p n h = (λ m. absurd (n m), λ x. h)
   late_counts (Done x) p n h = (λ m. absurd (n m), λ y. h)
+  late_counts _ p n h = absurd (omega arith)
 
   last_counts : (next : Step) → 10 < place next → (o ≡ Made → now ≡ before) × (¬ (o ≡ Made) → IsOneMore before now) → C next
-  last_counts Lock p h = absurd (omega arith)
-  last_counts Read p h = absurd (omega arith)
-  last_counts Make p h = absurd (omega arith)
-  last_counts (Create m) p h = absurd (omega arith)
-  last_counts (Append at) p h = absurd (omega arith)
-  last_counts (Sync b) p h = absurd (omega arith)
-  last_counts SetAside p h = absurd (omega arith)
-  last_counts Exchange p h = absurd (omega arith)
-  last_counts Rename p h = absurd (omega arith)
-  last_counts SyncFolder p h = absurd (omega arith)
-  last_counts Remove p h = absurd (omega arith)
   last_counts Note p h = h
   last_counts Unlock p h = h
   last_counts (Done x) p h = h
+  last_counts _ p h = absurd (omega arith)
 
   early_counts : (next : Step) → (place next < 6) ⊎ ((place next ≡ 8) ⊎ (place next ≡ 9)) → now ≡ before → C next
-  early_counts Lock p h = h
-  early_counts Read p h = h
-  early_counts Make p h = h
-  early_counts (Create m) p h = h
-  early_counts (Append at) p h = h
-  early_counts (Sync b) p h = h
   early_counts SetAside p h = absurd (none_such (place SetAside) p (λ q. omega arith) (λ q. omega arith) (λ q. omega arith))
   early_counts Exchange p h = absurd (none_such (place Exchange) p (λ q. omega arith) (λ q. omega arith) (λ q. omega arith))
-  early_counts Rename p h = h
-  early_counts SyncFolder p h = h
   early_counts Remove p h = absurd (none_such (place Remove) p (λ q. omega arith) (λ q. omega arith) (λ q. omega arith))
   early_counts Note p h = absurd (none_such (place Note) p (λ q. omega arith) (λ q. omega arith) (λ q. omega arith))
   early_counts Unlock p h = absurd (none_such (place Unlock) p (λ q. omega arith) (λ q. omega arith) (λ q. omega arith))
   early_counts (Done x) p h = absurd (none_such (place (Done x)) p (λ q. omega arith) (λ q. omega arith) (λ q. omega arith))
+  early_counts _ p h = h
 
 made_kept : (o : Outcome) (f : ℕ) → o ≡ Kept f → ¬ (o ≡ Made)
 made_kept o f e m = let bad : Kept f ≡ Made = sym e ∙ m in cc
@@ -315,11 +198,8 @@ module _ (t : Turn) (keeps : t.keeps ≡ false) (next : Step) (o p : Outcome) (o
 
   pub straight_on : (step : Step) (answer : Answer) → On step answer
   straight_on Lock (Yes n) l g f s w d h = is Read g (not_locked es now d ∙ h)
-  straight_on Lock (No k) l g f s w d h = absurd w
   straight_on Read (Yes n) l g f s w d h = is Make g (d ∙ h)
-  straight_on Read (No k) l g f s w d h = absurd w
   straight_on Make (Yes n) l g f s w d h = third old now name bytes p next g (d.0 ∙ h)
-  straight_on Make (No k) l g f s w d h = absurd w
   straight_on (Create m) (Yes n) l g f s w d h = is (Append 0) g (refl, d ∙ ap (λ x. create (new_name name) ∷ x) h)
   straight_on (Create m) (No k) l g f s w d h = late old now name bytes p next g (made_kept p k s)
   straight_on (Append at) (Yes n) l g f s w d h =
@@ -334,14 +214,11 @@ module _ (t : Turn) (keeps : t.keeps ≡ false) (next : Step) (o p : Outcome) (o
   straight_on Rename (No k) l g f s w d h = late old now name bytes p next g (made_either p k s)
   straight_on SyncFolder (Yes n) l g f s w d h = is Note g (λ m. d ∙ ap (λ x. sync_folder ∷ x) h)
   straight_on SyncFolder (No k) l g f s w d h = is Note g (λ m. absurd (made_unsettled p k s m))
-  straight_on Remove (Yes n) l g f s w d h = late old now name bytes p next g (not_made p o s h)
-  straight_on Remove (No k) l g f s w d h = late old now name bytes p next g (not_made p o s h)
   straight_on Note (Yes n) l g f s w d h = last old now name bytes p next (omega (arith, f)) (λ m. not_noted es now d ∙ h (sym s ∙ m))
-  straight_on Note (No k) l g f s w d h = absurd w
   straight_on Unlock (Yes n) l g f s w d h = last old now name bytes p next (omega (arith, f)) (λ m. d ∙ h (sym s ∙ m))
-  straight_on Unlock (No k) l g f s w d h = absurd w
   straight_on (Done x) (Yes n) l g f s w d h = is (Done x) f (λ m. d ∙ h (sym s ∙ m))
-  straight_on (Done x) (No k) l g f s w d h = absurd w
+  straight_on Remove _ l g f s w d h = late old now name bytes p next g (not_made p o s h)
+  straight_on _ (No k) l g f s w d h = absurd w
 
 module _ (t : Turn) (keeps : t.keeps ≡ false) (next : Step) (o p : Outcome) (before mid now : ℕ) (bytes : List ℕ) where
   abbrev CountsOn : Step → Answer → Type 0
@@ -362,11 +239,8 @@ module _ (t : Turn) (keeps : t.keeps ≡ false) (next : Step) (o p : Outcome) (b
 
   pub counts_on : (step : Step) (answer : Answer) → CountsOn step answer
   counts_on Lock (Yes n) l g f s w c h = early 1 (ap place g) (inl (omega arith)) (c ∙ h)
-  counts_on Lock (No k) l g f s w c h = absurd w
   counts_on Read (Yes n) l g f s w c h = early 2 (ap place g) (inl (omega arith)) (c ∙ h)
-  counts_on Read (No k) l g f s w c h = absurd w
   counts_on Make (Yes n) l g f s w c h = early 3 g (inl (omega arith)) (c ∙ h)
-  counts_on Make (No k) l g f s w c h = absurd w
   counts_on (Create m) (Yes n) l g f s w c h = early 4 (ap place g) (inl (omega arith)) (c ∙ h)
   counts_on (Create m) (No k) l g f s w c h = late_now g (made_kept p k s) (one_more h c)
   counts_on (Append at) (Yes n) l g f s w c h = early 5 (g.whole (w ∙ sym (l at refl))) (inl (omega arith)) (c ∙ h)
@@ -379,14 +253,11 @@ module _ (t : Turn) (keeps : t.keeps ≡ false) (next : Step) (o p : Outcome) (b
   counts_on Rename (No k) l g f s w c h = late_now g (made_either p k s) (one_more h c)
   counts_on SyncFolder (Yes n) l g f s w c h = subst (λ x. CountsSo x p before now) (sym g) (λ m. c ∙ h, λ no_made. absurd (no_made s))
   counts_on SyncFolder (No k) l g f s w c h = subst (λ x. CountsSo x p before now) (sym g) (λ m. absurd (made_unsettled p k s m), λ n. one_more h c)
-  counts_on Remove (Yes n) l g f s w c h = late_now g (not_made p o s h.0) (subst (λ x. IsOneMore before x) (sym c) h.1)
-  counts_on Remove (No k) l g f s w c h = late_now g (not_made p o s h.0) (subst (λ x. IsOneMore before x) (sym c) h.1)
   counts_on Note (Yes n) l g f s w c h = last_counts before now p next (omega (arith, f)) (kept_count s c h)
-  counts_on Note (No k) l g f s w c h = absurd w
   counts_on Unlock (Yes n) l g f s w c h = last_counts before now p next (omega (arith, f)) (kept_count s c h)
-  counts_on Unlock (No k) l g f s w c h = absurd w
   counts_on (Done x) (Yes n) l g f s w c h = subst (λ y. CountsSo y p before now) (sym f) (kept_count s c h)
-  counts_on (Done x) (No k) l g f s w c h = absurd w
+  counts_on Remove _ l g f s w c h = late_now g (not_made p o s h.0) (subst (λ x. IsOneMore before x) (sym c) h.1)
+  counts_on _ (No k) l g f s w c h = absurd w
 
 -- ---- without the turn to replace files
 
@@ -395,53 +266,23 @@ not_idle t outcome over made idle =
     let end : IsIdle (Done outcome) t.outcome = subst (λ s. IsIdle s t.outcome) over idle in
     end (done_is t t.state outcome over ∙ made)
 
-pub able_if : (holds : Bool) (step : Step) (o : Outcome) → (holds ≡ false → IsIdle step o) → IsAble holds step
-able_if holds Lock o h = tt
-able_if holds Read o h = tt
-able_if holds Make o h = tt
-able_if holds (Create m) o h = tt
-able_if holds (Append at) o h = true_from_ne_false holds h
-able_if holds (Sync b) o h = true_from_ne_false holds h
-able_if holds SetAside o h = tt
-able_if holds Exchange o h = tt
-able_if holds Rename o h = tt
-able_if holds SyncFolder o h = tt
-able_if holds Remove o h = tt
-able_if holds Note o h = tt
-able_if holds Unlock o h = tt
-able_if holds (Done x) o h = tt
-
 late_idle : (o : Outcome) (next : Step) → 10 ≤ place next → ¬ (o ≡ Made) → IsIdle next o
 late_idle o Lock p n = tt
 late_idle o Read p n = tt
 late_idle o Make p n = tt
 late_idle o (Create m) p n = tt
-late_idle o (Append at) p n = absurd (omega arith)
-late_idle o (Sync b) p n = absurd (omega arith)
-late_idle o SetAside p n = absurd (omega arith)
-late_idle o Exchange p n = absurd (omega arith)
-late_idle o Rename p n = absurd (omega arith)
-late_idle o SyncFolder p n = absurd (omega arith)
 late_idle o Remove p n = n
 late_idle o Note p n = n
 late_idle o Unlock p n = n
 late_idle o (Done x) p n = n
+late_idle o _ p n = absurd (omega arith)
 
 third_idle : (o : Outcome) (next : Step) → place next ≡ 3 → IsIdle next o
 third_idle o Lock p = tt
 third_idle o Read p = tt
 third_idle o Make p = tt
 third_idle o (Create m) p = tt
-third_idle o (Append at) p = absurd (omega arith)
-third_idle o (Sync b) p = absurd (omega arith)
-third_idle o SetAside p = absurd (omega arith)
-third_idle o Exchange p = absurd (omega arith)
-third_idle o Rename p = absurd (omega arith)
-third_idle o SyncFolder p = absurd (omega arith)
-third_idle o Remove p = absurd (omega arith)
-third_idle o Note p = absurd (omega arith)
-third_idle o Unlock p = absurd (omega arith)
-third_idle o (Done x) p = absurd (omega arith)
+third_idle o _ p = absurd (omega arith)
 
 module _ (t : Turn) (next : Step) (o p : Outcome) (size : ℕ) where
   abbrev IdleOn : Step → Answer → Type 0
@@ -452,11 +293,8 @@ module _ (t : Turn) (next : Step) (o p : Outcome) (size : ℕ) where
 
   pub idle_on : (step : Step) (answer : Answer) → IdleOn step answer
   idle_on Lock (Yes n) g f s w r h = idle_is Read g tt
-  idle_on Lock (No k) g f s w r h = absurd w
   idle_on Read (Yes n) g f s w r h = idle_is Make g tt
-  idle_on Read (No k) g f s w r h = absurd w
   idle_on Make (Yes n) g f s w r h = third_idle p next g
-  idle_on Make (No k) g f s w r h = absurd w
   idle_on (Create m) (Yes n) g f s w r h = absurd r
   idle_on (Create m) (No k) g f s w r h = late_idle p next g (made_kept p k s)
   idle_on (Append at) answer g f s w r h = absurd h
@@ -465,11 +303,8 @@ module _ (t : Turn) (next : Step) (o p : Outcome) (size : ℕ) where
   idle_on Exchange answer g f s w r h = absurd h
   idle_on Rename answer g f s w r h = absurd h
   idle_on SyncFolder answer g f s w r h = absurd h
-  idle_on Remove (Yes n) g f s w r h = late_idle p next g (not_made p o s h)
-  idle_on Remove (No k) g f s w r h = late_idle p next g (not_made p o s h)
   idle_on Note (Yes n) g f s w r h = late_idle p next (omega (arith, f)) (not_made p o s h)
-  idle_on Note (No k) g f s w r h = absurd w
   idle_on Unlock (Yes n) g f s w r h = late_idle p next (omega (arith, f)) (not_made p o s h)
-  idle_on Unlock (No k) g f s w r h = absurd w
   idle_on (Done x) (Yes n) g f s w r h = idle_is (Done x) f (not_made p o s h)
-  idle_on (Done x) (No k) g f s w r h = absurd w
+  idle_on Remove _ g f s w r h = late_idle p next g (not_made p o s h)
+  idle_on _ (No k) g f s w r h = absurd w

@@ -57,9 +57,6 @@ stood_for_none (sync_folder ∷ es) name e = sym (no_file es name e)
 
 -- ---- one name more
 
-pub none_yet : (all : List Event) → AreMadeAgain [] all []
-none_yet all = record { synced = λ file. refl; named = λ name e. let bad : false ≡ true = e in cc; others = λ name e. refl }
-
 by_name : (other name : List ℕ) (P : Type 0) → (other ≡ name → P) → (bytes_eq other name ≡ false → P) → P
 by_name other name P same differ = by_bool (bytes_eq other name) P (λ e. same (same_path other name e)) differ
 

@@ -16,21 +16,6 @@ pub enum FolderFault {
     Memory,
 }
 
-impl FolderFault {
-    ghost use Rattle.dconf_disk.specs.FolderFaults.{folder_fault_text};
-
-    /// The name by which it is printed.
-    fn name(self) -> &'static str
-        ensures { result.now ≡ folder_fault_text self }
-    {
-        match self {
-            FolderFault::Device => "Device",
-            FolderFault::TooBig => "TooBig",
-            FolderFault::Memory => "Memory",
-        }
-    }
-}
-
 impl fmt::Display for FolderFault {
     ghost use Rattle.std.specs.Prelude.{Some};
     ghost use Rattle.dconf_disk.specs.FolderFaults.{folder_fault_text};
@@ -38,7 +23,11 @@ impl fmt::Display for FolderFault {
     ghost output = { λ fault. Some (folder_fault_text fault) };
 
     fn fmt<W: fmt::Write>(&self, f: &mut fmt::Formatter<W>) -> fmt::Result {
-        f.write_str(self.name())
+        f.write_str(match self {
+            FolderFault::Device => "Device",
+            FolderFault::TooBig => "TooBig",
+            FolderFault::Memory => "Memory",
+        })
     }
 }
 

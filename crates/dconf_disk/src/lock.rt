@@ -58,21 +58,6 @@ pub enum LockFault {
     Memory,
 }
 
-impl LockFault {
-    ghost use Rattle.dconf_disk.specs.LockFaults.{lock_fault_text};
-
-    /// The name by which it is printed.
-    fn name(&self) -> &'static str
-        ensures { result.now ≡ lock_fault_text self.now }
-    {
-        match self {
-            LockFault::Busy => "Busy",
-            LockFault::Device(_) => "Device",
-            LockFault::Memory => "Memory",
-        }
-    }
-}
-
 impl fmt::Display for LockFault {
     ghost use Rattle.std.specs.Prelude.{Some};
     ghost use Rattle.dconf_disk.specs.LockFaults.{lock_fault_text};
@@ -80,7 +65,11 @@ impl fmt::Display for LockFault {
     ghost output = { λ fault. Some (lock_fault_text fault) };
 
     fn fmt<W: fmt::Write>(&self, f: &mut fmt::Formatter<W>) -> fmt::Result {
-        f.write_str(self.name())
+        f.write_str(match self {
+            LockFault::Busy => "Busy",
+            LockFault::Device(_) => "Device",
+            LockFault::Memory => "Memory",
+        })
     }
 }
 
