@@ -14,18 +14,7 @@ use Rattle.gv_layout.specs.AlignedLetters.{letter_alignment, is_aligned_letter}
 
 of_letter : (k : Basic) → letter_alignment (letter k) ≡ or_one (basic_size k)
 of_letter boolean = refl
-of_letter byte = refl
-of_letter int16 = refl
-of_letter uint16 = refl
-of_letter int32 = refl
-of_letter uint32 = refl
-of_letter int64 = refl
-of_letter uint64 = refl
-of_letter handle = refl
-of_letter double = refl
-of_letter string = refl
-of_letter path = refl
-of_letter signature = refl
+of_letter _ = refl
 
 not_one : (n : ℕ) → 2 ≤ n → nat_le n 1 ≡ false
 not_one n h = grind (arith, nat_tests)
@@ -82,8 +71,6 @@ greater_power a b h g = elim (either a b) [
 ]
 
 basic_power : (k : Basic) → IsPower (or_one (basic_size k))
-basic_power boolean = inl (inl refl)
-basic_power byte = inl (inl refl)
 basic_power int16 = inl (inr refl)
 basic_power uint16 = inl (inr refl)
 basic_power int32 = inr (inl refl)
@@ -92,9 +79,7 @@ basic_power int64 = inr (inr refl)
 basic_power uint64 = inr (inr refl)
 basic_power handle = inr (inl refl)
 basic_power double = inr (inr refl)
-basic_power string = inl (inl refl)
-basic_power path = inl (inl refl)
-basic_power signature = inl (inl refl)
+basic_power _ = inl (inl refl)
 
 mutual
   unfolding alignment greatest_alignment

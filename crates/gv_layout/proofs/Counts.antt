@@ -18,10 +18,7 @@ pub members_short_of : (t : Ty) → length (type_list (members t)) ≤ length (s
 unfolding type_list spelling spellings
 members_short_of (tuple ts) = omega (arith, members_short ts, length-append (spellings ts) (41 ∷ []))
 members_short_of (entry k t) = omega (arith, length-append (spelling t) (125 ∷ []))
-members_short_of (basic k) = omega arith
-members_short_of variant = omega arith
-members_short_of (array t) = omega arith
-members_short_of (maybe t) = omega arith
+members_short_of _ = omega arith
 
 pub members_few : (w : List ℕ) → IsTrue (is_type w) → length (type_list (members (type_at w))) < 2 ^ 64
 members_few w h =

@@ -1,5 +1,5 @@
 -- What a container is cut into, by what the code finds out of it.
-use Rattle.std.proofs.Common.{◌≡◌, ◌⊎◌, inl, inr, ℕ, ◌-◌, ◌*◌, ◌/◌, ◌%◌, ◌<◌, ◌≤◌, Bool, true, false, cond, ◌==◌, nat_le, ◌&&◌, List, [], ◌∷◌, length, drop, Option, Some, None, refl, sym, ap, ap₂, ◌∙◌, arith, eq-eqb, ne_eqb, eqb-true, le-leb}
+use Rattle.std.proofs.Common.{◌≡◌, ◌⊎◌, inl, inr, ℕ, ◌-◌, ◌*◌, ◌/◌, ◌%◌, ◌<◌, ◌≤◌, Bool, true, false, cond, ◌==◌, nat_le, ◌&&◌, List, [], ◌∷◌, length, drop, Option, Some, None, refl, sym, ap, ap₂, ◌∙◌, arith, eq-eqb, ne_eqb, eqb-true}
 use Rattle.std.specs.Prelude.{option_map, slice_range}
 use Rattle.std.proofs.lemmas.Option.{none-some, same_Some}
 use Rattle.std.proofs.lemmas.List.{take_rest}
@@ -24,7 +24,6 @@ use Rattle.gv_types.proofs.ClassLaws.{basic_class, variant_class}
 use Rattle.gv_model.proofs.EmptyLaws.{elements-nil, fixed_size_pos, just-nil}
 use Rattle.gv_model.proofs.PlacedParts.{ordered-nil}
 use Rattle.gv_model.proofs.InOrder.{just_stay}
-use Rattle.gv_layout.specs.Bodies.{placed_body}
 use Rattle.gv_layout.proofs.InOrder.{as_many, fixed_stay}
 use Rattle.gv_layout.proofs.MemberLaws.{walked, unplaced, empty_stay, no_body}
 
@@ -152,20 +151,14 @@ no_children t b k e (inr x) other = absurd (other (variant_class t (sym x ∙ e)
 pub array_class : {X : Type 0} (f : X → Ty) (t : Ty) (k : Class) (o : Option X) (x : X) → k ≡ class_of t → k ≡ classes.Array → option_map f o ≡ element_of t → o ≡ Some x → t ≡ array (f x)
 array_class f t k None x e c m h = absurd (none-some x h)
 array_class f (array u) k (Some y) x e c m h = ap array (same_Some u (f y) (sym m) ∙ ap f (same_Some y x h))
-array_class f (basic j) k (Some y) x e c m h = absurd (none-some (f y) (sym m))
-array_class f variant k (Some y) x e c m h = absurd (none-some (f y) (sym m))
 array_class f (maybe u) k (Some y) x e c m h = absurd cc
-array_class f (tuple ts) k (Some y) x e c m h = absurd (none-some (f y) (sym m))
-array_class f (entry j u) k (Some y) x e c m h = absurd (none-some (f y) (sym m))
+array_class f _ k (Some y) x e c m h = absurd (none-some (f y) (sym m))
 
 pub maybe_class : {X : Type 0} (f : X → Ty) (t : Ty) (k : Class) (o : Option X) (x : X) → k ≡ class_of t → k ≡ classes.Maybe → option_map f o ≡ element_of t → o ≡ Some x → t ≡ maybe (f x)
 maybe_class f t k None x e c m h = absurd (none-some x h)
 maybe_class f (maybe u) k (Some y) x e c m h = ap maybe (same_Some u (f y) (sym m) ∙ ap f (same_Some y x h))
-maybe_class f (basic j) k (Some y) x e c m h = absurd (none-some (f y) (sym m))
-maybe_class f variant k (Some y) x e c m h = absurd (none-some (f y) (sym m))
 maybe_class f (array u) k (Some y) x e c m h = absurd cc
-maybe_class f (tuple ts) k (Some y) x e c m h = absurd (none-some (f y) (sym m))
-maybe_class f (entry j u) k (Some y) x e c m h = absurd (none-some (f y) (sym m))
+maybe_class f _ k (Some y) x e c m h = absurd (none-some (f y) (sym m))
 
 pub cut_elements : (t u : Ty) (b : List ℕ) → t ≡ array u → None ≡ fixed_size u
     → children_at (length b) (ordered (Some (elements_end b None)) (element_spans u b None)) ≡ cut t b
@@ -186,14 +179,11 @@ pub cut_members : (t : Ty) (b : List ℕ) (k : Class) → k ≡ class_of t → (
 unfolding cut spans
 cut_members (tuple ts) b k e h = refl
 cut_members (entry j u) b k e h = refl
-cut_members (basic j) b k e (inl h) = absurd cc
 cut_members (basic j) b k e (inr h) = absurd cc
-cut_members variant b k e (inl h) = absurd cc
 cut_members variant b k e (inr h) = absurd cc
-cut_members (array u) b k e (inl h) = absurd cc
 cut_members (array u) b k e (inr h) = absurd cc
-cut_members (maybe u) b k e (inl h) = absurd cc
 cut_members (maybe u) b k e (inr h) = absurd cc
+cut_members _ b k e (inl h) = absurd cc
 
 pub one_of_variant : (t : Ty) (b : List ℕ) (k : Class) → k ≡ class_of t → k ≡ classes.Variant → 1 ≡ length (cut t b)
 unfolding cut spans

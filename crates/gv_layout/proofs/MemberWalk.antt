@@ -23,21 +23,14 @@ pub record IsWalk (t : Ty) (rest : List Ty) (a : ℕ) (place : Option ℕ) : Typ
 
 members_nest : (t : Ty) → greatest_nesting (members t) < nesting t
 unfolding nesting greatest_nesting
-members_nest (basic k) = omega arith
-members_nest variant = omega arith
-members_nest (array t) = omega arith
-members_nest (maybe t) = omega arith
-members_nest (tuple ts) = omega arith
 members_nest (entry k t) = omega (arith, nesting-positive t)
+members_nest _ = omega arith
 
 members_text : (t : Ty) → length (spellings (members t)) ≤ length (spelling t)
 unfolding spelling spellings
-members_text (basic k) = omega arith
-members_text variant = omega arith
-members_text (array t) = omega arith
-members_text (maybe t) = omega arith
 members_text (tuple ts) = omega (arith, length-append (spellings ts) (41 ∷ []))
 members_text (entry k t) = omega (arith, length-append (spelling t) (125 ∷ []), length-append (spelling t) [])
+members_text _ = omega arith
 
 start_of_members : (t : Ty) → IsWalk t (type_list (members t)) 1 (Some 0)
 start_of_members t =

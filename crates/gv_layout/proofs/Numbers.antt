@@ -50,34 +50,26 @@ four a b c d = omega arith
 
 pub one_byte : (b : List ℕ) (x : ℕ) → 1 ≤ length b → length b < 2 → x ≡ get_or b 0 0 → x ≡ number_in b
 unfolding number_in
-one_byte [] x h g e = absurd (omega arith)
 one_byte (x0 ∷ []) x h g e = omega (arith, e)
-one_byte (x0 ∷ x1 ∷ b) x h g e = absurd (omega arith)
+one_byte _ x h g e = absurd (omega arith)
 
 pub two_bytes : (b : List ℕ) (x y : ℕ) → 2 ≤ length b → length b < 3 → x ≡ get_or b 0 0 → y ≡ get_or b 1 0 → x + 256 * y ≡ number_in b
 unfolding number_in
-two_bytes [] x y h g e f = absurd (omega arith)
-two_bytes (x0 ∷ []) x y h g e f = absurd (omega arith)
 two_bytes (x0 ∷ x1 ∷ []) x y h g e f = omega (arith, e, f)
-two_bytes (x0 ∷ x1 ∷ x2 ∷ b) x y h g e f = absurd (omega arith)
+two_bytes _ x y h g e f = absurd (omega arith)
 
 pub four_bytes : (b : List ℕ) (x y z w : ℕ) → 4 ≤ length b → length b < 5
     → x ≡ get_or b 0 0 → y ≡ get_or b 1 0 → z ≡ get_or b 2 0 → w ≡ get_or b 3 0 → x + 256 * y + 65536 * (z + 256 * w) ≡ number_in b
 unfolding number_in
-four_bytes [] x y z w h g e f i j = absurd (omega arith)
-four_bytes (x0 ∷ []) x y z w h g e f i j = absurd (omega arith)
-four_bytes (x0 ∷ x1 ∷ []) x y z w h g e f i j = absurd (omega arith)
-four_bytes (x0 ∷ x1 ∷ x2 ∷ []) x y z w h g e f i j = absurd (omega arith)
 four_bytes (x0 ∷ x1 ∷ x2 ∷ x3 ∷ []) x y z w h g e f i j = rw (e, f, i, j) (four x0 x1 x2 x3)
-four_bytes (x0 ∷ x1 ∷ x2 ∷ x3 ∷ x4 ∷ b) x y z w h g e f i j = absurd (omega arith)
+four_bytes _ x y z w h g e f i j = absurd (omega arith)
 
 -- ---- the number in one byte, and the truth value
 
 pub byte_number : (b : List ℕ) → length b ≡ 1 → number_in b ≡ get_or b 0 0
 unfolding number_in
-byte_number [] h = absurd (omega arith)
 byte_number (c ∷ []) h = omega arith
-byte_number (c ∷ d ∷ b) h = absurd (omega arith)
+byte_number _ h = absurd (omega arith)
 
 pub truth_number : (b : List ℕ) → length b ≡ 1 → truth_bits (not (get_or b 0 0 == 0)) ≡ truth (number_in b)
 truth_number b h = go (get_or b 0 0 == 0) ∙ ap truth (sym (byte_number b h))

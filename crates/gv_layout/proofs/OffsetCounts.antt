@@ -30,9 +30,8 @@ count_next is_open t ts = ap (λ n. cond is_open 1 0 + n) (count_first t ts)
 
 count_all : (ts : Types) → 0 + count_after false ts ≡ offset_count ts
 unfolding offset_count
-count_all end = omega arith
-count_all (member t end) = omega arith
 count_all (member t (member u ts)) = let same : 0 + (0 + offset_count (member t (member u ts))) ≡ offset_count (member t (member u ts)) = omega arith in same
+count_all _ = omega arith
 
 -- ---- the walk that counts them
 

@@ -13,18 +13,7 @@ use Rattle.gv_layout.specs.OpenLetters.{is_open_letter}
 
 open_basic : (k : Basic) → is_open_letter (letter k) ≡ is_none (basic_size k)
 open_basic boolean = refl
-open_basic byte = refl
-open_basic int16 = refl
-open_basic uint16 = refl
-open_basic int32 = refl
-open_basic uint32 = refl
-open_basic int64 = refl
-open_basic uint64 = refl
-open_basic handle = refl
-open_basic double = refl
-open_basic string = refl
-open_basic path = refl
-open_basic signature = refl
+open_basic _ = refl
 
 -- a letter behind, which is none of those
 closed : (xs : List ℕ) (c : ℕ) → is_open_letter c ≡ false → list_any is_open_letter (xs ++ c ∷ []) ≡ list_any is_open_letter xs
@@ -50,14 +39,12 @@ mutual
 
   pub open_type : (t : Ty) → list_any is_open_letter (spelling t) ≡ is_none (fixed_size t)
   open_type (basic k) = or-false (is_open_letter (letter k)) ∙ open_basic k
-  open_type variant = refl
-  open_type (array t) = refl
-  open_type (maybe t) = refl
   open_type (tuple ts) = closed (spellings ts) 41 refl ∙ (open_types ts 0 ∙ sym (none_padded (greatest_alignment ts) (fixed_end ts 0)))
   open_type (entry k t) =
       let inside = closed (spelling t) 125 refl ∙ open_type t in
       let sizes = none_padded (max (or_one (basic_size k)) (alignment t)) (option_and_then (λ p. option_map (λ s. round_up (alignment t) p + s) (fixed_size t)) (basic_size k)) in
       ap (λ b. b || list_any is_open_letter (spelling t ++ 125 ∷ [])) (open_basic k) ∙ (ap (λ b. is_none (basic_size k) || b) inside ∙ sym (sizes ∙ both (basic_size k) (fixed_size t) (alignment t)))
+  open_type _ = refl
 
   open_types : (ts : Types) (p : ℕ) → list_any is_open_letter (spellings ts) ≡ is_none (fixed_end ts p)
   open_types end p = refl

@@ -88,14 +88,11 @@ of_entry k t =
 pub of_members : (t : Ty) (c : Class) → c ≡ class_of t → (c ≡ classes.Tuple) ⊎ (c ≡ classes.Entry) → IsOfMembers t
 of_members (tuple ts) c e h = of_tuple ts
 of_members (entry k t) c e h = of_entry k t
-of_members (basic k) c e (inl h) = absurd cc
 of_members (basic k) c e (inr h) = absurd cc
-of_members variant c e (inl h) = absurd cc
 of_members variant c e (inr h) = absurd cc
-of_members (array t) c e (inl h) = absurd cc
 of_members (array t) c e (inr h) = absurd cc
-of_members (maybe t) c e (inl h) = absurd cc
 of_members (maybe t) c e (inr h) = absurd cc
+of_members _ c e (inl h) = absurd cc
 
 -- ---- how large sizes get: each byte of a type's text stands for at most 16 bytes
 

@@ -1,8 +1,7 @@
 //! Alignments and sizes of types (GVariant Specification, "Alignment", "Fixed Size", "Framing Offsets").
 ghost use Rattle.std.specs.Prelude.{◌≡◌, ◌<◌, ◌≤◌, ◌+◌, ◌^◌, None, IfSome, length, drop, option_and_then, option_map};
 ghost use Rattle.std.specs.List.{list_any};
-ghost use Rattle.gv_model.specs.Ty.{members};
-ghost use Rattle.gv_model.specs.Layout.{basic_size, or_one, alignment, greatest_alignment, fixed_size, fixed_end, padded, round_up, offset_width};
+ghost use Rattle.gv_model.specs.Layout.{basic_size, or_one, alignment, fixed_size, padded, round_up, offset_width};
 ghost use Rattle.gv_model.specs.Encode.{least_width};
 ghost use Rattle.gv_model.specs.Limits.{limit};
 ghost use Rattle.gv_model.specs.TypeText.{seen};

@@ -4,7 +4,7 @@ ghost use Rattle.gv_model.specs.Ty.{Ty.variant};
 ghost use Rattle.gv_model.specs.Layout.{alignment, fixed_size, round_up};
 ghost use Rattle.gv_model.specs.Decode.{cut};
 ghost use Rattle.gv_types.specs.TypeStr.{ty};
-ghost use Rattle.gv_layout.specs.Places.{clamp};
+ghost use Rattle.gv_layout.specs.Places.{child_of, clamp, walk_left};
 
 use crate::array::{ByOffsets, FixedSize};
 use crate::place::Place;
@@ -40,7 +40,6 @@ pub(crate) enum Walk<'a, 'b> {
 }
 
 impl<'a, 'b> Walk<'a, 'b> {
-    ghost use Rattle.gv_layout.specs.Places.{child_of, walk_left};
 
     /// All children of a container.
     #[inline(always)]
