@@ -1,5 +1,5 @@
 //! Why a call of a folder failed.
-ghost use Rattle.std.specs.Prelude.{◌≡◌};
+ghost use Rattle.std.specs.Prelude.{◌≡◌, Some};
 
 use std::alloc::AllocError;
 use std::error::Error;
@@ -17,7 +17,6 @@ pub enum FolderFault {
 }
 
 impl fmt::Display for FolderFault {
-    ghost use Rattle.std.specs.Prelude.{Some};
     ghost use Rattle.dconf_disk.specs.FolderFaults.{folder_fault_text};
 
     ghost output = { λ fault. Some (folder_fault_text fault) };

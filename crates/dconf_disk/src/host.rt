@@ -1,5 +1,5 @@
 //! The current folder of the host.
-ghost use Rattle.std.specs.Prelude.{◌≡◌, ◌≢◌, ◌<◌, ◌≤◌, ◌↔◌, None, Ok, Err, IfSome, IfOk, IfErr, IsOk, IsTrue, IsErrOf, IsErrAnd, ◌∷◌, OnOk, OnErr, true, false, length};
+ghost use Rattle.std.specs.Prelude.{◌≡◌, ◌≢◌, ◌<◌, ◌≤◌, ◌↔◌, None, Ok, Err, IfSome, IfOk, IfErr, IsOk, IsTrue, IsErrOf, IsErrAnd, ◌∷◌, OnOk, OnErr, true, false, length, option_map};
 ghost use Rattle.std.specs.Io.KnownBytes.{Consumes};
 ghost use Rattle.std.specs.IoError.{error_kind};
 ghost use Rattle.dconf_disk.specs.Failures.{HasCause};
@@ -61,8 +61,6 @@ pub struct StdFolder<R> {
 
 /// It shows nothing of the host.
 impl<R> fmt::Debug for StdFolder<R> {
-    ghost use Rattle.std.specs.Prelude.{None};
-
     ghost debug_output = { λ _. None };
 
     fn fmt<W: fmt::Write>(&self, f: &mut fmt::Formatter<W>) -> fmt::Result {
@@ -71,7 +69,6 @@ impl<R> fmt::Debug for StdFolder<R> {
 }
 
 impl<R: Files> StdFolder<R> {
-    ghost use Rattle.std.specs.Prelude.{option_map};
     ghost use Rattle.dconf_model.specs.Folders.{read_content};
     ghost use Rattle.dconf_model.specs.Reads.{IsOverSize};
     ghost use Rattle.dconf_disk.specs.Notes.{after_failure, can_be_done, event_noted};

@@ -1,5 +1,5 @@
 //! The lock by which the programs that replace files in a folder take turns.
-ghost use Rattle.std.specs.Prelude.{◌≡◌};
+ghost use Rattle.std.specs.Prelude.{◌≡◌, Some};
 
 use dconf_steps::{LockWait, WaitAnswer, WaitEnd, WaitStep};
 use std::alloc::{AllocError, Global};
@@ -59,7 +59,6 @@ pub enum LockFault {
 }
 
 impl fmt::Display for LockFault {
-    ghost use Rattle.std.specs.Prelude.{Some};
     ghost use Rattle.dconf_disk.specs.LockFaults.{lock_fault_text};
 
     ghost output = { λ fault. Some (lock_fault_text fault) };

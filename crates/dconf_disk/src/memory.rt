@@ -125,7 +125,6 @@ impl MemoryFolder {
 }
 
 impl Folder for MemoryFolder {
-    ghost use Rattle.dconf_disk.specs.MemoryFolders.{IsPast};
 
     ghost past = { λ m es. IsPast m es };
 

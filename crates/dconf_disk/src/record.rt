@@ -1,7 +1,7 @@
 //! A list of calls and their answers that clauses alone read.
-ghost use Rattle.std.specs.Prelude.{◌≡◌, ◌∷◌, ℕ, List, slice_index};
+ghost use Rattle.std.specs.Prelude.{◌≡◌, ◌∷◌, ℕ, List, IfOk, IsErrOf, IsTrue, option_map, slice_index, true};
 ghost use Rattle.std.specs.Borrow.{ftrue};
-ghost use Rattle.dconf_disk.specs.Notes.{Note};
+ghost use Rattle.dconf_disk.specs.Notes.{Note, events_noted, is_honest};
 
 use crate::FolderFault;
 use std::marker::{Model, PhantomData};
@@ -32,10 +32,8 @@ impl Model for Record {
 }
 
 impl Record {
-    ghost use Rattle.std.specs.Prelude.{IfOk, IsErrOf, IsTrue, option_map, true};
     ghost use Rattle.dconf_model.specs.Folders.{read_content};
     ghost use Rattle.dconf_model.specs.Reads.{IsOverSize};
-    ghost use Rattle.dconf_disk.specs.Notes.{events_noted, is_honest};
 
     /// One of a folder that held whatever it did.
     pub fn new() -> Record

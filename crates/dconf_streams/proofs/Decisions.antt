@@ -27,9 +27,7 @@ not_failed bytes e = cc
 
 pub nothing_is_any : (name : List ℕ) (gave : FileRead) (Go : List ℕ → Outcome → Type 0) (o : Outcome) → OrNoRead name gave Nothing o → OrNoRead name gave Go o
 nothing_is_any name (holds bytes) Go o h = absurd h
-nothing_is_any name no_file Go o h = h
-nothing_is_any name over_size Go o h = h
-nothing_is_any name failed Go o h = h
+nothing_is_any name _ Go o h = h
 
 -- ---- one time after another
 
@@ -150,10 +148,8 @@ module _ {F : Type 0} (ghosts : Ghosts F) (old new : F) (name : List ℕ) where
   }
 
   none_needed : (gave : FileRead) (o : Outcome) → OrNoDatabase name gave NothingIfAny o → OrNoRead name gave Nothing o
-  none_needed (holds bytes) o h = h
   none_needed no_file o h = absurd h
-  none_needed over_size o h = h
-  none_needed failed o h = h
+  none_needed _ o h = h
 
   pub decides_without : (n : ℕ) (answer : Answered) → Decides ghosts old new n (λ reads. OrNoDatabase name (reads n name) NothingIfAny) answer
       → Decides ghosts old new n (λ reads. WithFile reads n name Nothing) answer

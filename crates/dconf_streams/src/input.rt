@@ -1,6 +1,6 @@
 //! Reading the input of a command: up to its end or its first failure, and no further than shows that it is too long for a
 //! text of settings.
-ghost use Rattle.std.specs.Prelude.{◌≡◌, ◌+◌, ◌≤◌, ℕ, List, IfOk, IsErrOf, OnOk, OnErr, length, vec_items};
+ghost use Rattle.std.specs.Prelude.{◌≡◌, ◌+◌, ◌≤◌, ℕ, Some, IfOk, IsErrOf, OnOk, length, vec_items};
 ghost use Rattle.dconf_model.specs.Lines.{longest_text};
 ghost use Rattle.dconf_model.specs.Reads.{Input};
 ghost use Rattle.dconf_streams.specs.Counted.{CameToEnd, Delivered, failures_of};
@@ -23,7 +23,6 @@ pub enum InputFault {
 }
 
 impl fmt::Display for InputFault {
-    ghost use Rattle.std.specs.Prelude.{Some};
     ghost use Rattle.dconf_streams.specs.InputFaults.{input_fault_text};
 
     ghost output = { λ fault. Some (input_fault_text fault) };

@@ -1,7 +1,7 @@
 //! Why a command is refused, and the lines for err that say so.
 ghost use Rattle.std.specs.Prelude.{◌≡◌, ◌++◌, ◌∷◌, [], Err, IfOk, IfSome, codes, decimal, string_bytes};
 ghost use Rattle.dconf_model.specs.FaultTexts.{device_text};
-ghost use Rattle.dconf_streams.specs.Answers.{RefusesFor};
+ghost use Rattle.dconf_streams.specs.Answers.{RefusesFor, line_of};
 
 use std::alloc::{AllocError, AllocFailed, Global};
 use std::fmt::Display;
@@ -16,7 +16,6 @@ pub enum Refusal {
 }
 
 impl Refusal {
-    ghost use Rattle.dconf_streams.specs.Answers.{line_of};
 
     /// The line for err, with its line feed.
     pub fn line(&self) -> &str

@@ -1,5 +1,5 @@
 -- An empty body. The borrow is opened and closed at another ghost value.
-use Rattle.std.proofs.Common.{ℕ, List, [], ◌∷◌, ◌++◌, refl, MutBor}
+use Rattle.std.proofs.Common.{ℕ, List, [], ◌∷◌, ◌++◌, refl, MutBor, ◌<◌, ◌^◌, length}
 use seplogic.Ra.Ura.{Ura}
 use mir.Syntax.{named}
 use mir.Val.{Val, vunit, vptr}
@@ -18,13 +18,13 @@ use types.ByLocal.{alloc_all, pass_all, free_all, look_at, sets}
 use sound.WpLaws.{WpFn-mono}
 use denote.RattleType.{owns}
 use denote.Memory.{mem}
-use denote.Ref.{MutRef, mut_vals, mut_Tells}
+use denote.Ref.{MutRef, mut_vals, mut_Tells, Bor}
 use denote.Signature.{plain}
 use denote.Steps.{opens, closes}
 use denote.Triple.Entry.{on_entry}
 use denote.Triple.Spec.{Meets, triple_of}
 use denote.Triple.Table.{entered}
-use denote.Triple.Walked.{says, Stays, stay_ref, walk_of, AllGo, Goes-ref, Walks, ends_at, walked, walk_Meets}
+use denote.Triple.Walked.{says, Stays, stay_ref, walk_of, AllGo, Goes-ref, Walks, ends_at, walked, walk_Meets, stay_none_slice, Goes-none_slice}
 use Rattle.dconf_streams.specs.declared.trace.Trace.{Trace}
 use Rattle.dconf_streams.specs.Transfers.{transfer_of}
 use Rattle.dconf_streams.specs.contracts.trace.Trace as T
@@ -32,12 +32,9 @@ use Rattle.dconf_streams.specs.contracts.trace.Trace.note.Key.{name as #it}
 use Rattle.dconf_streams.specs.contracts.trace.Trace.note as it
 use Rattle.dconf_streams.proofs.trace.Trace.note.Statement as stated
 use Rattle.dconf_streams.proofs.trace.Trace.note.Code as code
-use denote.Ref.{Bor}
 use denote.Builtin.{u8, usize}
 use denote.Exit.{yes}
 use denote.Slice.{ShrSlice, slice_val, shr_slice_vals, shr_slice_Tells}
-use denote.Triple.Walked.{stay_none_slice, Goes-none_slice}
-use Rattle.std.proofs.Common.{◌<◌, ◌^◌, length}
 
 abbrev Arg : Type 0
 Arg = MutBor Trace × (Bor (List ℕ) × (Bor (List ℕ) × Unit {0}))
