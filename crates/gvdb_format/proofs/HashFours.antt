@@ -52,12 +52,8 @@ four_steps h w x y z a b c d wa xb yc zd =
 
 pub four_in_sum : (h : ℕ) (four : List ℕ) (a b c d : ℕ) → length four ≡ 4 → Counts (get_or four 0 0) a → Counts (get_or four 1 0) b → Counts (get_or four 2 0) c → Counts (get_or four 3 0) d
     → fold hash_step h four ≡ (h * 1185921 + a * 35937 + b * 1089 + c * 33 + d) % 4294967296
-four_in_sum h [] a b c d l wa xb yc zd = absurd (omega (arith, l))
-four_in_sum h (w ∷ []) a b c d l wa xb yc zd = absurd (omega (arith, l))
-four_in_sum h (w ∷ x ∷ []) a b c d l wa xb yc zd = absurd (omega (arith, l))
-four_in_sum h (w ∷ x ∷ y ∷ []) a b c d l wa xb yc zd = absurd (omega (arith, l))
 four_in_sum h (w ∷ x ∷ y ∷ z ∷ []) a b c d l wa xb yc zd = four_steps h w x y z a b c d wa xb yc zd
-four_in_sum h (w ∷ x ∷ y ∷ z ∷ v ∷ more) a b c d l wa xb yc zd = absurd (omega (arith, l))
+four_in_sum h _ a b c d l wa xb yc zd = absurd (omega (arith, l))
 
 -- ---- groups of four, and the rest
 

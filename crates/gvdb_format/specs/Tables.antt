@@ -1,8 +1,7 @@
 -- What a table and an item of it stand for.
 use Rattle.std.specs.Prelude.{ℕ, ◌+◌, ◌≡◌, ◌≤◌, ◌<◌, List, length, Option, Some, None, slice_range}
 use Rattle.std.specs.Borrow.{Bor}
-use Rattle.dconf_model.specs.Table.{Item, item, item_count, key, HasBytes, IsValidPointer, alignment_of, bytes_of, table_kind, table_of, Opens}
-use Rattle.dconf_model.specs.Table.{Table as Region}
+use Rattle.dconf_model.specs.Table.{Item, item, item_count, key, HasBytes, IsValidPointer, alignment_of, bytes_of, table_kind, table_of, Opens, Table as Region}
 use Rattle.gvdb_format.specs.declared.raw_table.RawTable.{RawTable}
 use Rattle.gvdb_format.specs.declared.record.ItemRecord.{ItemRecord}
 use Rattle.gvdb_format.specs.declared.item.Item.{Item as Shown}

@@ -17,25 +17,6 @@ pub enum OpenFault {
     BadTable,
 }
 
-impl OpenFault {
-    ghost use Rattle.std.specs.Prelude.{◌≡◌};
-    ghost use Rattle.dconf_model.specs.FaultTexts.{open_fault_text};
-    ghost use Rattle.gvdb_format.specs.Faults.{open_fault_of};
-
-    /// The name by which it is printed.
-    fn name(self) -> &'static str
-        ensures { result.now ≡ open_fault_text (open_fault_of self) }
-    {
-        match self {
-            OpenFault::Short => "Short",
-            OpenFault::BadSignature => "BadSignature",
-            OpenFault::BadVersion => "BadVersion",
-            OpenFault::BadRoot => "BadRoot",
-            OpenFault::BadTable => "BadTable",
-        }
-    }
-}
-
 impl fmt::Display for OpenFault {
     ghost use Rattle.std.specs.Prelude.{Some};
     ghost use Rattle.dconf_model.specs.FaultTexts.{open_fault_text};
@@ -44,7 +25,13 @@ impl fmt::Display for OpenFault {
     ghost output = { λ fault. Some (open_fault_text (open_fault_of fault)) };
 
     fn fmt<W: fmt::Write>(&self, f: &mut fmt::Formatter<W>) -> fmt::Result {
-        f.write_str(self.name())
+        f.write_str(match self {
+            OpenFault::Short => "Short",
+            OpenFault::BadSignature => "BadSignature",
+            OpenFault::BadVersion => "BadVersion",
+            OpenFault::BadRoot => "BadRoot",
+            OpenFault::BadTable => "BadTable",
+        })
     }
 }
 

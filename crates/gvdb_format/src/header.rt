@@ -1,5 +1,5 @@
 //! The fixed parts: what each file begins with, what each table begins with, and the name of the table of locks.
-ghost use Rattle.std.specs.Prelude.{◌≡◌, ◌+◌, ◌*◌, ◌/◌, ◌%◌, ◌<◌, ◌^◌};
+ghost use Rattle.std.specs.Prelude.{◌≡◌, ◌+◌, ◌*◌, ◌<◌, ◌^◌};
 
 /// What each database begins with.
 pub const SIGNATURE: &[u8] = b"GVariant";
@@ -17,7 +17,7 @@ pub const HEAD_LEN: usize = 8;
 pub const WORD_LEN: usize = 4;
 
 /// The first number of a head is so many times the bloom words' shift, and their number.
-const SHIFT_UNIT: u32 = 1 << 27;
+pub(crate) const SHIFT_UNIT: u32 = 1 << 27;
 
 /// The first number of the head of a table of so many bloom words, whose second hash is shifted so far.
 pub fn head_number(bloom_words: u32, bloom_shift: u32) -> u32
@@ -26,18 +26,4 @@ pub fn head_number(bloom_words: u32, bloom_shift: u32) -> u32
     ensures { result ≡ bloom_words + bloom_shift * 2 ^ 27 }
 {
     bloom_words + bloom_shift * SHIFT_UNIT
-}
-
-/// How many bloom words such a number tells.
-pub(crate) fn bloom_words(head: u32) -> u32
-    ensures { result ≡ head % 2 ^ 27 }
-{
-    head % SHIFT_UNIT
-}
-
-/// How far it says that their second hash is shifted.
-pub(crate) fn bloom_shift(head: u32) -> u32
-    ensures { result ≡ head / 2 ^ 27 }
-{
-    head / SHIFT_UNIT
 }

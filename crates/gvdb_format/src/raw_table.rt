@@ -1,13 +1,12 @@
 //! A table of a file: where it opens, and its items.
-ghost use Rattle.std.specs.Prelude.{◌≡◌, ◌+◌, ◌*◌, ◌<◌, ◌≤◌, ◌^◌, ◌↔◌, length, slice_range};
-ghost use Rattle.std.specs.Prelude.{IsOk, IsSome, IsTrue, IfErr, IfNone, IfOk, IfSome};
+ghost use Rattle.std.specs.Prelude.{◌≡◌, ◌+◌, ◌*◌, ◌<◌, ◌≤◌, ◌^◌, ◌↔◌, length, slice_range, IsOk, IsSome, IsTrue, IfErr, IfNone, IfOk, IfSome};
 ghost use Rattle.dconf_model.specs.Table.{HasHead, HasItems, IsValidPointer, Opens, alignment_of, bucket_count, item, item_count, items_start, table_of};
 ghost use Rattle.dconf_model.specs.Opening.{IsDatabase, IsOpenFault, root_of};
 ghost use Rattle.gvdb_format.specs.Faults.{open_fault_of};
 ghost use Rattle.gvdb_format.specs.Opened.{IsOpened};
 
 use crate::fault::OpenFault;
-use crate::header::{HEAD_LEN, HEADER_LEN, SIGNATURE, WORD_LEN, bloom_shift, bloom_words};
+use crate::header::{HEAD_LEN, HEADER_LEN, SHIFT_UNIT, SIGNATURE, WORD_LEN};
 use crate::item::Item;
 use crate::kind::Kind;
 use crate::little_endian::read_u32;
@@ -30,8 +29,7 @@ pub struct RawTable<'a> {
 }
 
 impl<'a> RawTable<'a> {
-    ghost use Rattle.gvdb_format.specs.Tables.{region, item_of, key_at, content_at};
-    ghost use Rattle.gvdb_format.specs.Tables.{IsKeyInside, IsPointer, IsShownAs, PointsToTable};
+    ghost use Rattle.gvdb_format.specs.Tables.{region, item_of, key_at, content_at, IsKeyInside, IsPointer, IsShownAs, PointsToTable};
 
     /// Opens a database: gives its root table.
     ///
@@ -136,7 +134,7 @@ impl<'a> RawTable<'a> {
         ensures table { IfSome result (λ t. region t ≡ record { file = file.entry.now; start = start; end = end }) }
     {
         let head = read_u32(file, start);
-        let bloom_words = bloom_words(head);
+        let bloom_words = head % SHIFT_UNIT;
         let buckets = read_u32(file, start + WORD_LEN);
         let first_item = start
             + HEAD_LEN
@@ -150,7 +148,7 @@ impl<'a> RawTable<'a> {
             start,
             end,
             bloom_words,
-            bloom_shift: bloom_shift(head),
+            bloom_shift: head / SHIFT_UNIT,
             buckets,
             first_item,
             items: ((end - first_item) / RECORD_LEN) as u32,

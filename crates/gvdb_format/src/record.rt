@@ -2,7 +2,7 @@
 ghost use Rattle.std.specs.Prelude.{◌≡◌, ◌+◌, ◌≤◌, ◌++◌, length, OnOk};
 ghost use Rattle.dconf_model.specs.Table.{item_at};
 ghost use Rattle.dconf_model.specs.TableBytes.{parent_number as number_of_parent, record_bytes};
-ghost use Rattle.gvdb_format.specs.ItemRecords.{parent_of};
+ghost use Rattle.gvdb_format.specs.ItemRecords.{parent_of, record_of};
 
 use crate::little_endian::{read_u8, read_u16, read_u32};
 use std::alloc::AllocError;
@@ -43,7 +43,6 @@ pub struct ItemRecord {
 }
 
 impl ItemRecord {
-    ghost use Rattle.gvdb_format.specs.ItemRecords.{record_of};
     ghost use Rattle.gvdb_format.specs.Tables.{item_of};
 
     /// The record in the 24 bytes from there on.
