@@ -188,10 +188,7 @@ fn asking_step(at: usize, edits: &[QueuedEdit]) -> QueueStep
 fn is_locked(answer: QueueAnswer) -> bool
     ensures { result ≡ is_locked answer }
 {
-    match answer {
-        QueueAnswer::Locked => true,
-        _ => false,
-    }
+    matches!(answer, QueueAnswer::Locked)
 }
 
 /// Refuses the change of an edit that has a fault of its own. That of no edit which goes would be refused in vain.

@@ -101,11 +101,14 @@ impl Refresh {
         ensures { IsLookAnswered self true result }
     {
         match self.stage {
-            LookStage::Asking => self.to(LookStage::Keeping),
+            LookStage::Asking | LookStage::Comparing => self.to(LookStage::Keeping),
             LookStage::Reading => self.to(after_reading(self.has_old)),
-            LookStage::Comparing => self.to(LookStage::Keeping),
             LookStage::Keeping => self.next_file(),
-            LookStage::Opening => self.with_another().next_file(),
+            LookStage::Opening => Refresh {
+                is_newer: true,
+                ..self
+            }
+            .next_file(),
             LookStage::Over(_) => self,
         }
     }
@@ -116,10 +119,9 @@ impl Refresh {
     {
         match self.stage {
             LookStage::Asking => self.to(LookStage::Reading),
-            LookStage::Reading => self.to(LookStage::Over(LookEnd::Failed)),
+            LookStage::Reading | LookStage::Opening => self.to(LookStage::Over(LookEnd::Failed)),
             LookStage::Comparing => self.to(LookStage::Opening),
             LookStage::Keeping => self.next_file(),
-            LookStage::Opening => self.to(LookStage::Over(LookEnd::Failed)),
             LookStage::Over(_) => self,
         }
     }
@@ -158,15 +160,6 @@ impl Refresh {
             LookEnd::Same
         };
         self.to(LookStage::Over(end))
-    }
-
-    fn with_another(self) -> Refresh
-        ensures { result ≡ record self { is_newer = true } }
-    {
-        Refresh {
-            is_newer: true,
-            ..self
-        }
     }
 
     fn to(self, stage: LookStage) -> Refresh
