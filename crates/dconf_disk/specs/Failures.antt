@@ -1,7 +1,13 @@
--- Why a call of a folder failed, and what the count of failures says of it.
-use Rattle.std.specs.Prelude.{ℕ, ◌+◌, ◌-◌, ◌^◌, ◌≡◌, ◌⊎◌, Result, Err, IsErrOf}
+-- Why a call of a folder failed, how that is printed, and what the count of failures says of it.
+use Rattle.std.specs.Prelude.{ℕ, ◌+◌, ◌-◌, ◌^◌, ◌≡◌, ◌⊎◌, List, Result, Err, IsErrOf, codes}
 use Rattle.dconf_disk.specs.declared.fault.FolderFault.{FolderFault}
-use Rattle.dconf_disk.specs.declared.fault.FolderFault.TheVariants.{Device}
+use Rattle.dconf_disk.specs.declared.fault.FolderFault.TheVariants.{Device, TooBig, Memory}
+
+-- its name
+abbrev pub folder_fault_text : FolderFault → List ℕ
+folder_fault_text Device = codes "Device"
+folder_fault_text TooBig = codes "TooBig"
+folder_fault_text Memory = codes "Memory"
 
 -- A fault of the device is one failure more, or the count is at its greatest number and stays there. Nothing else is.
 pub record HasCause {T : Type 0} (before now : ℕ) (result : Result T FolderFault) : Type 0 where

@@ -5,6 +5,5 @@ pub mod Crashes
 pub mod Notes
 pub mod SystemCalls
 pub mod StdFolders
-pub mod FolderFaults
 pub mod LockFaults
 pub mod Driving

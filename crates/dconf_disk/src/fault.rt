@@ -17,7 +17,7 @@ pub enum FolderFault {
 }
 
 impl fmt::Display for FolderFault {
-    ghost use Rattle.dconf_disk.specs.FolderFaults.{folder_fault_text};
+    ghost use Rattle.dconf_disk.specs.Failures.{folder_fault_text};
 
     ghost output = { λ fault. Some (folder_fault_text fault) };
 

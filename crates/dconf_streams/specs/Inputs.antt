@@ -1,12 +1,13 @@
--- What reading the input gives.
-use Rattle.std.specs.Prelude.{◌≡◌, ◌≤◌, ◌<◌, ◌+◌, ◌⊎◌, ◌++◌, ◌∷◌, ℕ, true, false, List, [], length, Option, Result, IfOk, IsErrOf, unwrap_or}
+-- What reading the input gives, and how a fault of it is printed.
+use Rattle.std.specs.Prelude.{◌≡◌, ◌≤◌, ◌<◌, ◌+◌, ◌⊎◌, ◌++◌, ◌∷◌, ℕ, true, false, List, [], length, Option, Result, IfOk, IsErrOf, codes, unwrap_or}
 use Rattle.std.specs.Io.KnownBytes.{IsAtEnd}
+use Rattle.dconf_model.specs.FaultTexts.{device_text}
 use Rattle.dconf_model.specs.Lines.{longest_text}
 use Rattle.dconf_model.specs.Outcomes.{read_failed}
 use Rattle.dconf_model.specs.Reads.{Input}
 use Rattle.dconf_streams.specs.declared.counted.Counted.{Counted}
 use Rattle.dconf_streams.specs.declared.input.InputFault.{InputFault}
-use Rattle.dconf_streams.specs.declared.input.InputFault.TheVariants.{Device}
+use Rattle.dconf_streams.specs.declared.input.InputFault.TheVariants.{Device, Memory}
 use Rattle.dconf_streams.specs.Transfers.{Transfer, FoundEnd}
 use Rattle.dconf_streams.specs.Counted.{Delivered, transfers_of, failures_of, inner_of}
 use Rattle.dconf_streams.specs.Streams.{one_more}
@@ -47,3 +48,7 @@ SameText given read = (read ≡ given) ⊎ ((longest_text < length given) × (lo
 pub record IsReadOf {V : Type 0} (i : Input) (items : V → List ℕ) (result : Result V InputFault) : Type 0 where
   pub text : IfOk result (λ bytes. (read_failed i ≡ false) × SameText i.bytes (items bytes))
   pub failing : IsErrOf result Device → read_failed i ≡ true
+
+abbrev pub input_fault_text : InputFault → List ℕ
+input_fault_text Device = device_text (codes "input")
+input_fault_text Memory = codes "Memory"

@@ -4,4 +4,3 @@ pub mod Counted
 pub mod Answers
 pub mod Readings
 pub mod Inputs
-pub mod InputFaults

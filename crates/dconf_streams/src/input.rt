@@ -4,7 +4,7 @@ ghost use Rattle.std.specs.Prelude.{◌≡◌, ◌+◌, ◌≤◌, ℕ, Some, If
 ghost use Rattle.dconf_model.specs.Lines.{longest_text};
 ghost use Rattle.dconf_model.specs.Reads.{Input};
 ghost use Rattle.dconf_streams.specs.Counted.{CameToEnd, Delivered, failures_of};
-ghost use Rattle.dconf_streams.specs.Inputs.{IsReadOf, ReadsText, TakesPiece, Took};
+ghost use Rattle.dconf_streams.specs.Inputs.{IsReadOf, ReadsText, TakesPiece, Took, input_fault_text};
 ghost use Rattle.dconf_streams.specs.Streams.{one_more};
 
 use crate::counted::Counted;
@@ -23,8 +23,6 @@ pub enum InputFault {
 }
 
 impl fmt::Display for InputFault {
-    ghost use Rattle.dconf_streams.specs.InputFaults.{input_fault_text};
-
     ghost output = { λ fault. Some (input_fault_text fault) };
 
     fn fmt<W: fmt::Write>(&self, f: &mut fmt::Formatter<W>) -> fmt::Result {
