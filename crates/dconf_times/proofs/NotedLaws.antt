@@ -3,14 +3,13 @@ use Rattle.std.specs.Prelude.{◌≡◌, ◌⊎◌, ◌≤◌, ◌<◌, ◌+◌,
 use Rattle.std.proofs.Common.{inl, inr, sym, ap, ◌∙◌, subst, arith}
 use Rattle.std.specs.List.{list_any, list_all, filter}
 use Rattle.std.specs.Str.{bytes_eq}
-use Rattle.std.proofs.lemmas.Bool.{and_from, and_parts, or_cases, leb-true, le-leb, ltb-true, ltb-false, eqb-true, eq-eqb}
+use Rattle.std.proofs.lemmas.Bool.{and_from, and_parts, or_cases, leb-true, le-leb, ltb-true, ltb-false, eqb-true, eq-eqb, or_left, or_right}
 use Rattle.std.proofs.lemmas.List.{length-set, length_push}
 use Rattle.std.proofs.lemmas.List.Folds.{list_any-append}
 use Rattle.std.proofs.lemmas.Option.{none-some, same_Some}
 use Rattle.dconf_model.proofs.ParentLaws.{by_bool}
 use Rattle.dconf_model.proofs.PathMaps.{no_truth}
 use Rattle.dconf_model.proofs.SameBytes.{itself, path_itself, same_path}
-use Rattle.std.proofs.lemmas.Bool.{or_left, or_right}
 use Rattle.dconf_times.specs.Noted.{AreAdded, AreNoted, IsAdded, IsKept, IsOldest, IsPut, is_among, is_as_late, is_note, is_said_by}
 use Rattle.dconf_times.specs.Times.{Note, is_known}
 
@@ -192,10 +191,6 @@ pub put_in_oldest : (most : ℕ) (n : Note) (at : ℕ) (old new : List Note) →
 put_in_oldest most n at old new put oldest full =
     let same : oldest.oldest ≡ put.other = same_Some oldest.oldest put.other (sym oldest.is_at ∙ put.was) in
     oldest_put most n at old new put full (subst (λ (x : Note). list_all (is_as_late x) old ≡ true) same oldest.all)
-
--- there is no oldest where no note may be kept
-pub none_put : (most : ℕ) (n : Note) → most ≤ 0 → IsAdded most n [] []
-none_put most n full = stays most n [] (inr (full, refl))
 
 pub pushed : (most : ℕ) (n : Note) (old : List Note) → length old < most → IsAdded most n old (old ++ n ∷ [])
 pushed most n old room = record {
