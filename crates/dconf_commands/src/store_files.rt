@@ -13,7 +13,7 @@ ghost use Rattle.dconf_commands.specs.StoreReads.{NoDatabases, NoItems, bytes_of
 use dconf_disk::Folder;
 use dconf_engine::{Engine, EngineFault, open_layers};
 use dconf_layers::Layer;
-use dconf_path::{Database, DatabaseKind, Profile, read_profile, settings_text, ProfileFault};
+use dconf_path::{Database, DatabaseKind, Profile, ProfileFault, read_profile, settings_text};
 use dconf_streams::{NamedFile, Refusal, file_if_any, refused, refused_at};
 use std::alloc::{AllocError, Global};
 

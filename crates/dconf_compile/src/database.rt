@@ -9,7 +9,7 @@ use crate::keyfiles::add_keyfiles;
 use crate::locks::add_lock_files;
 use crate::order::{Numbered, first_file, in_order};
 use crate::source::Source;
-use gvdb_write::{MapBuilder, WriteFault, Map, TooBig, write};
+use gvdb_write::{Map, MapBuilder, TooBig, WriteFault, write};
 use std::alloc::Global;
 
 /// The bytes of the database that keyfiles and lock files give, or their first fault.

@@ -125,7 +125,6 @@ impl MemoryFolder {
 }
 
 impl Folder for MemoryFolder {
-
     ghost past = { λ m es. IsPast m es };
 
     ghost honest = { λ _. true };

@@ -8,14 +8,8 @@ use Rattle.dconf_model.specs.FaultTexts.{bad_database_text}
 use Rattle.dconf_model.specs.Outcomes.{verdict_text}
 use Rattle.gv_model.specs.Tree.{Tree}
 use Rattle.gv_model.specs.Printed.{is_too_large}
-use Rattle.refused.specs.declared.Refused.{Refused as FaultOrMemory}
-use Rattle.refused.specs.declared.Refused.TheVariants as viewed
-use Rattle.gvdb_write.specs.declared.write_fault.WriteFault.{WriteFault}
-use Rattle.gvdb_write.specs.declared.write_fault.WriteFault.TheVariants as written
-use Rattle.gv_view.specs.declared.owned.ViewFault.{ViewFault}
-use Rattle.gv_view.specs.declared.owned.ViewFault.TheVariants as viewed
-use Rattle.refused.specs.declared.Refused as written
-use Rattle.refused.specs.declared.Refused.TheVariants as written_as
+use Rattle.refused.specs.declared.Refused as either
+use Rattle.refused.specs.declared.Refused.TheVariants as either_as
 use Rattle.gvdb_write.specs.declared.write_fault.TooBig as big
 use Rattle.dconf_engine.specs.declared.fault.EngineFault.{EngineFault}
 use Rattle.dconf_engine.specs.declared.fault.EngineFault.TheVariants as opened
@@ -71,13 +65,13 @@ abbrev pub fault_of_engine : EngineFault → StoreFault
 fault_of_engine (opened.BadDatabase i fault) = BadDatabase i fault
 fault_of_engine opened.Memory = Memory
 
-abbrev pub fault_of_write : written.Refused big.TooBig → StoreFault
-fault_of_write (written_as.Fault _) = TooBig
-fault_of_write written_as.Memory = Memory
+abbrev pub fault_of_write : either.Refused big.TooBig → StoreFault
+fault_of_write (either_as.Fault _) = TooBig
+fault_of_write either_as.Memory = Memory
 
-abbrev pub fault_of_view : {F : Type 0} → FaultOrMemory F → StoreFault
-fault_of_view (viewed.Fault f) = TooLarge
-fault_of_view viewed.Memory = Memory
+abbrev pub fault_of_view : {F : Type 0} → either.Refused F → StoreFault
+fault_of_view (either_as.Fault f) = TooLarge
+fault_of_view either_as.Memory = Memory
 
 abbrev pub store_fault_text : StoreFault → List ℕ
 store_fault_text (BadDatabase i fault) = bad_database_text i (verdict_text (verdict_of fault))

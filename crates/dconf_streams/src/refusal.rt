@@ -16,7 +16,6 @@ pub enum Refusal {
 }
 
 impl Refusal {
-
     /// The line for err, with its line feed.
     pub fn line(&self) -> &str
         ensures { result.now ≡ line_of self.now }

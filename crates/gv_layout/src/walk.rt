@@ -40,7 +40,6 @@ pub(crate) enum Walk<'a, 'b> {
 }
 
 impl<'a, 'b> Walk<'a, 'b> {
-
     /// All children of a container.
     #[inline(always)]
     pub(crate) fn new(of: TypeStr<'a>, bytes: &'b [u8]) -> Walk<'a, 'b>

@@ -112,11 +112,13 @@ fn are_told_apart(
     let path = KeyPath::parse("/k")?;
     let apart = differing(alloc, some, none, 1)?.len();
     let after = differing_first(alloc, none, layer)?.len();
-    Ok(apart == 1
-        && after == 1
-        && differs(alloc, some, none, path)?
-        && !differs(alloc, some, some, path)?
-        && differing(alloc, some, some.prefix(1), 1)?.is_empty())
+    Ok(
+        apart == 1
+            && after == 1
+            && differs(alloc, some, none, path)?
+            && !differs(alloc, some, some, path)?
+            && differing(alloc, some, some.prefix(1), 1)?.is_empty(),
+    )
 }
 
 /// Whether a layer lends its one value, which is seen to be in it and in what opens after it.
@@ -125,11 +127,13 @@ fn is_lent(layer: Layer<'_>, lent: LentLayers<'_, '_>) -> Result<bool, Fail> {
     let Some(entry) = after.entries().next() else {
         return Ok(false);
     };
-    Ok(entry.is_in(layer)
-        && after.table().n_items() == 2
-        && lent.read(KeyPath::parse("/k")?).and_then(View::as_i32) == Some(5)
-        && lent.place_of_bytes(b"/k").is_some()
-        && lent.place_of_bytes(b"k").is_none())
+    Ok(
+        entry.is_in(layer)
+            && after.table().n_items() == 2
+            && lent.read(KeyPath::parse("/k")?).and_then(View::as_i32) == Some(5)
+            && lent.place_of_bytes(b"/k").is_some()
+            && lent.place_of_bytes(b"k").is_none(),
+    )
 }
 
 /// Whether a value shows the same as itself, and another than a longer one.
