@@ -6,7 +6,6 @@ use Rattle.std.proofs.lemmas.Option.{none-some, same_Some, slice_get-get_or, sli
 use Rattle.dconf_model.proofs.ParentLaws.{by_bool}
 use Rattle.gvdb_alike.specs.Spans.{IsDifferingSpan}
 use Rattle.std.proofs.lemmas.List.Folds.{drop_split}
-use Rattle.std.proofs.lemmas.List.Edits.{between_more, between_none}
 use Rattle.std.proofs.Math.Seq.{take-add}
 
 -- one step further on
@@ -19,14 +18,6 @@ same_further f g at step before more = take_on f at step ∙ ap₂ ◌++◌ befo
 -- one step further back
 pub same_back : (f g : List ℕ) (at end : ℕ) → at ≤ end → drop end f ≡ drop end g → slice_range f at end ≡ slice_range g at end → drop at f ≡ drop at g
 same_back f g at end le after more = drop_split f at end le ∙ ap₂ ◌++◌ more after ∙ sym (drop_split g at end le)
-
--- one byte
-one_byte : (f : List ℕ) (at end : ℕ) → at + 1 ≡ end → at < length f → slice_range f at end ≡ get_or f at 0 ∷ []
-one_byte f at end next lt =
-    ap (λ (n : ℕ). slice_range f at n) (sym next) ∙ between_more f at at 0 (omega arith) lt ∙ ap (λ (l : List ℕ). l ++ get_or f at 0 ∷ []) (between_none f at)
-
-pub byte_differs : (f g : List ℕ) (at end : ℕ) → at + 1 ≡ end → at < length f → at < length g → slice_range f at end ≢ slice_range g at end → get_or f at 0 ≢ get_or g at 0
-byte_differs f g at end next here there ne same = ne (one_byte f at end next here ∙ ap (λ b. b ∷ []) same ∙ sym (one_byte g at end next there))
 
 -- ---- the whole span
 
