@@ -10,7 +10,7 @@ use Rattle.gv_model.specs.Ty.Ty.{basic, variant, array, maybe, tuple, entry}
 use Rattle.gv_model.specs.Ty.Types.{end, member}
 use Rattle.gv_model.specs.Ty.Basic.{boolean, byte, int16, uint16, int32, uint32, int64, uint64, handle, double, string, path, signature}
 use Rattle.gv_model.specs.Layout.{alignment, greatest_alignment, basic_size, or_one}
-use Rattle.gv_layout.specs.AlignedLetters.{letter_alignment, is_aligned_letter}
+use Rattle.gv_layout.specs.Letters.{letter_alignment, is_aligned_letter}
 
 of_letter : (k : Basic) → letter_alignment (letter k) ≡ or_one (basic_size k)
 of_letter boolean = refl

@@ -9,7 +9,7 @@ use Rattle.gv_model.specs.Ty.Ty.{basic, variant, array, maybe, tuple, entry}
 use Rattle.gv_model.specs.Ty.Types.{end, member}
 use Rattle.gv_model.specs.Ty.Basic.{boolean, byte, int16, uint16, int32, uint32, int64, uint64, handle, double, string, path, signature}
 use Rattle.gv_model.specs.Layout.{alignment, greatest_alignment, basic_size, fixed_end, fixed_size, or_one, padded, round_up}
-use Rattle.gv_layout.specs.OpenLetters.{is_open_letter}
+use Rattle.gv_layout.specs.Letters.{is_open_letter}
 
 open_basic : (k : Basic) → is_open_letter (letter k) ≡ is_none (basic_size k)
 open_basic boolean = refl

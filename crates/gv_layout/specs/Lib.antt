@@ -1,5 +1,4 @@
-pub mod AlignedLetters
+pub mod Letters
 pub mod Bodies
-pub mod OpenLetters
 pub mod Places
 pub mod TypesAt

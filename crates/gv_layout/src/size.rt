@@ -10,8 +10,7 @@ ghost use Rattle.gv_types.specs.declared.class.Class.TheVariants.{Tuple, Entry};
 ghost use Rattle.gv_types.specs.FirstTypes.{HasFirstType, first_type};
 ghost use Rattle.gv_types.specs.TypeStr.{ty};
 ghost use Rattle.gv_layout.specs.TypesAt.{IsInfoAt};
-ghost use Rattle.gv_layout.specs.OpenLetters.{is_open_letter};
-ghost use Rattle.gv_layout.specs.AlignedLetters.{letter_alignment, is_aligned_letter};
+ghost use Rattle.gv_layout.specs.Letters.{letter_alignment, is_aligned_letter, is_open_letter};
 
 use gv_types::{BasicType, Class, TypeStr};
 
