@@ -564,80 +564,41 @@ module _ (t : Turn) where
     still_cleared job old es now (ap (λ l. file_of l (new_name job.name)) d.3 ∙ named_noted es d.0 d.1 (new_name job.name) (λ e. (apart d.0 d.2).1 (sym e))) s.1,
   )
 
-  note : (answer : Answer) → IsAnswered (at_state t Noting) answer (at_state t Unlocking)
-  note (Yes n) = record {
-    stands = λ job old es now apart s d. noted_now job old es now apart s d;
-    fewer = λ job old es now s d. inr (omega arith);
-    order = omega arith;
-    on = omega arith;
-    said = refl;
-    ends = λ x. x;
-    knows = (refl, refl);
-    leaves = λ l. inl l;
-  }
-  note (No fault) = record {
-    stands = λ job old es now apart s d. noted_now job old es now apart s d;
-    fewer = λ job old es now s d. inr (omega arith);
-    order = omega arith;
-    on = omega arith;
-    said = refl;
-    ends = λ x. x;
-    knows = (refl, refl);
-    leaves = λ l. inl l;
-  }
-
   pub noted : (answer : Answer) → t.state ≡ Noting → IsAnswered t answer (at_state t Unlocking)
-  noted answer e = as_known t (at_state t Unlocking) answer Noting e (note answer)
-
-  unlock : (answer : Answer) → IsAnswered (at_state t Unlocking) answer (at_state t Over)
-  unlock (Yes n) = record {
-    stands = λ job old es now apart s d. subst (λ l. Says t.keeps t.outcome job old l × IsCleared t job old l) (sym d) s;
+  noted answer e = as_known t (at_state t Unlocking) answer Noting e (record {
+    stands = λ job old es now apart s d. noted_now job old es now apart s d;
     fewer = λ job old es now s d. inr (omega arith);
     order = omega arith;
     on = omega arith;
     said = refl;
-    ends = tt;
+    ends = λ x. x;
     knows = (refl, refl);
     leaves = λ l. inl l;
-  }
-  unlock (No fault) = record {
-    stands = λ job old es now apart s d. subst (λ l. Says t.keeps t.outcome job old l × IsCleared t job old l) (sym d) s;
-    fewer = λ job old es now s d. inr (omega arith);
-    order = omega arith;
-    on = omega arith;
-    said = refl;
-    ends = tt;
-    knows = (refl, refl);
-    leaves = λ l. inl l;
-  }
+  })
 
   pub unlocked : (answer : Answer) → t.state ≡ Unlocking → IsAnswered t answer (at_state t Over)
-  unlocked answer e = as_known t (at_state t Over) answer Unlocking e (unlock answer)
-
-  stay : (answer : Answer) → IsAnswered (at_state t Over) answer (at_state t Over)
-  stay (Yes n) = record {
+  unlocked answer e = as_known t (at_state t Over) answer Unlocking e (record {
     stands = λ job old es now apart s d. subst (λ l. Says t.keeps t.outcome job old l × IsCleared t job old l) (sym d) s;
-    fewer = λ job old es now s d. inl tt;
-    order = refl;
+    fewer = λ job old es now s d. inr (omega arith);
+    order = omega arith;
     on = omega arith;
     said = refl;
     ends = tt;
     knows = (refl, refl);
     leaves = λ l. inl l;
-  }
-  stay (No fault) = record {
-    stands = λ job old es now apart s d. subst (λ l. Says t.keeps t.outcome job old l × IsCleared t job old l) (sym d) s;
-    fewer = λ job old es now s d. inl tt;
-    order = refl;
-    on = omega arith;
-    said = refl;
-    ends = tt;
-    knows = (refl, refl);
-    leaves = λ l. inl l;
-  }
+  })
 
   pub stayed : (answer : Answer) → t.state ≡ Over → IsAnswered t answer (at_state t Over)
-  stayed answer e = as_known t (at_state t Over) answer Over e (stay answer)
+  stayed answer e = as_known t (at_state t Over) answer Over e (record {
+    stands = λ job old es now apart s d. subst (λ l. Says t.keeps t.outcome job old l × IsCleared t job old l) (sym d) s;
+    fewer = λ job old es now s d. inl tt;
+    order = refl;
+    on = omega arith;
+    said = refl;
+    ends = tt;
+    knows = (refl, refl);
+    leaves = λ l. inl l;
+  })
 
 -- a turn that is equal to one that an answer gives
 pub by_equal : (t u v : Turn) (answer : Answer) → v ≡ u → IsAnswered t answer u → IsAnswered t answer v
