@@ -35,22 +35,42 @@ module _ (t : Turn) (job : Job) (old es : List Event) (apart : IsLockApart job) 
   safe_at Creating h = where_early h.0
   safe_at Writing h = where_apart h.0.apart
   safe_at Syncing h = where_apart h.apart
+  safe_at SettingAside h = where_apart h.0.holds.apart
+  safe_at Exchanging h = where_apart h.0.holds.apart
+  safe_at Renaming h = where_apart h.0.holds.apart
   safe_at SyncingFolder h = placed_whole t.keeps job old es h.0 h.2
   safe_at Removing h = whole_of t.keeps t.outcome job old es apart h
   safe_at Noting h = whole_of t.keeps t.outcome job old es apart h.0
   safe_at Unlocking h = whole_of t.keeps t.outcome job old es apart h.0
   safe_at Over h = whole_of t.keeps t.outcome job old es apart h.0
-  safe_at _ h = where_apart h.0.holds.apart
 
 abbrev End : Turn → Job → List Event → List Event → Outcome → Type 0
 End t job old es outcome = Says t.keeps outcome job old es × IsCleared t job old es
 
-not_done : (step : Step) (outcome : Outcome) → ¬ IsDone step → step ≡ Done outcome → ⊥
-not_done step outcome ends e = ends (subst IsDone (sym e) tt)
+is_over : (t : Turn) (s : State) (outcome : Outcome) → step_at s t ≡ Done outcome → s ≡ Over
+is_over t Over outcome e = refl
+is_over t Locking outcome e = cc
+is_over t Reading outcome e = cc
+is_over t Making outcome e = cc
+is_over t Creating outcome e = cc
+is_over t Writing outcome e = cc
+is_over t Syncing outcome e = cc
+is_over t SettingAside outcome e = cc
+is_over t Exchanging outcome e = cc
+is_over t Renaming outcome e = cc
+is_over t SyncingFolder outcome e = cc
+is_over t Removing outcome e = cc
+is_over t Noting outcome e = cc
+is_over t Unlocking outcome e = cc
+
+-- what is said at the end is what the turn holds
+pub done_is : (t : Turn) (s : State) (outcome : Outcome) → step_at s t ≡ Done outcome → t.outcome ≡ outcome
+done_is t s outcome e = let over : Done t.outcome ≡ Done outcome = subst (λ x. step_at x t ≡ Done outcome) (is_over t s outcome e) e in cc
 
 pub end_at : (t : Turn) (job : Job) (old es : List Event) (s : State) (outcome : Outcome) → StandsAt s t job old es → step_at s t ≡ Done outcome → End t job old es outcome
-end_at t job old es Over outcome h e = let same : t.outcome ≡ outcome = cc in (subst (λ o. Says t.keeps o job old es) same h.0, h.1)
-end_at t job old es _ outcome h e = absurd (not_done _ outcome (λ x. x) e)
+end_at t job old es s outcome h e =
+    let k : End t job old es t.outcome = subst (λ x. StandsAt x t job old es) (is_over t s outcome e) h in
+    subst (λ o. End t job old es o) (done_is t s outcome e) k
 
 -- ---- after any steps
 
@@ -74,9 +94,20 @@ read_asked n bits keeps r k =
 
 asked_by : (step : Step) (answer : Answer) (t u : Turn) → KnowsAfter step answer t u → IsTrue u.keeps → IsTrue t.keeps ⊎ IsAsked step answer
 asked_by Read (Yes n) t u k h = inr (read_asked n u.bits u.keeps k h)
-asked_by _ (Yes n) t u k h = inl (sym k.1 ∙ h)
 asked_by Read (No f) t u k h = inl (sym k.1 ∙ h)
-asked_by _ (No f) t u k h = inl (sym k.1 ∙ h)
+asked_by Lock answer t u k h = inl (sym k.1 ∙ h)
+asked_by Make answer t u k h = inl (sym k.1 ∙ h)
+asked_by (Create m) answer t u k h = inl (sym k.1 ∙ h)
+asked_by (Append at) answer t u k h = inl (sym k.1 ∙ h)
+asked_by (Sync b) answer t u k h = inl (sym k.1 ∙ h)
+asked_by SetAside answer t u k h = inl (sym k.1 ∙ h)
+asked_by Exchange answer t u k h = inl (sym k.1 ∙ h)
+asked_by Rename answer t u k h = inl (sym k.1 ∙ h)
+asked_by SyncFolder answer t u k h = inl (sym k.1 ∙ h)
+asked_by Remove answer t u k h = inl (sym k.1 ∙ h)
+asked_by Note answer t u k h = inl (sym k.1 ∙ h)
+asked_by Unlock answer t u k h = inl (sym k.1 ∙ h)
+asked_by (Done o) answer t u k h = inl (sym k.1 ∙ h)
 
 came : (taken : List Taken) (t u : Turn) (job : Job) (old es now : List Event) → IsLockApart job → Stands t job old es → RanSteps taken t u job es now → Came taken t u job old now
 came [] t u job old es now apart k h = record {
@@ -107,11 +138,6 @@ came (s ∷ more) t u job old es now apart k h =
           (λ later. inr (inr later)) (rest.keeps l);
     }
 
--- what is said at the end is what the turn holds
-pub done_is : (t : Turn) (s : State) (outcome : Outcome) → step_at s t ≡ Done outcome → t.outcome ≡ outcome
-done_is t Over outcome e = cc
-done_is t _ outcome e = cc
-
 -- ---- what was asked
 
 kept_0_is_not_made : Kept 0 ≡ Made → ⊥
@@ -119,17 +145,30 @@ kept_0_is_not_made e = cc
 
 -- made is said from the folder's sync on
 made_by : (step : Step) (answer : Answer) (before said : Outcome) → IsSaid step answer before said → said ≡ Made → (before ≡ Made) ⊎ ((place step ≡ 9) × IsYes answer)
+made_by Lock (Yes n) before said s m = inl (sym s ∙ m)
+made_by Lock (No f) before said s m = let bad : Kept f ≡ Made = sym s ∙ m in cc
+made_by Read (Yes n) before said s m = inl (sym s ∙ m)
+made_by Read (No f) before said s m = let bad : Kept f ≡ Made = sym s ∙ m in cc
+made_by Make (Yes n) before said s m = inl (sym s ∙ m)
+made_by Make (No f) before said s m = let bad : Kept f ≡ Made = sym s ∙ m in cc
+made_by (Create x) (Yes n) before said s m = inl (sym s ∙ m)
+made_by (Create x) (No f) before said s m = let bad : Kept f ≡ Made = sym s ∙ m in cc
 made_by (Append at) (Yes n) before said s m = ⊎_elim (λ (same : said ≡ before). inl (sym same ∙ m)) (λ (k : said ≡ Kept 0). (let bad : Kept 0 ≡ Made = sym k ∙ m in cc)) s
+made_by (Append at) (No f) before said s m = let bad : Kept f ≡ Made = sym s ∙ m in cc
+made_by (Sync b) (Yes n) before said s m = inl (sym s ∙ m)
+made_by (Sync b) (No f) before said s m = let bad : Kept f ≡ Made = sym s ∙ m in cc
+made_by SetAside (Yes n) before said s m = inl (sym s ∙ m)
+made_by SetAside (No f) before said s m = let bad : Kept f ≡ Made = sym s ∙ m in cc
+made_by Exchange (Yes n) before said s m = inl (sym s ∙ m)
 made_by Exchange (No f) before said s m = let bad : Either f ≡ Made = sym s ∙ m in cc
+made_by Rename (Yes n) before said s m = inl (sym s ∙ m)
 made_by Rename (No f) before said s m = let bad : Either f ≡ Made = sym s ∙ m in cc
 made_by SyncFolder (Yes n) before said s m = inr (refl, tt)
 made_by SyncFolder (No f) before said s m = let bad : Unsettled f ≡ Made = sym s ∙ m in cc
-made_by Remove (No f) before said s m = inl (sym s ∙ m)
-made_by Note (No f) before said s m = inl (sym s ∙ m)
-made_by Unlock (No f) before said s m = inl (sym s ∙ m)
-made_by (Done o) (No f) before said s m = inl (sym s ∙ m)
-made_by _ (No f) before said s m = let bad : Kept f ≡ Made = sym s ∙ m in cc
-made_by _ (Yes n) before said s m = inl (sym s ∙ m)
+made_by Remove answer before said s m = inl (sym s ∙ m)
+made_by Note answer before said s m = inl (sym s ∙ m)
+made_by Unlock answer before said s m = inl (sym s ∙ m)
+made_by (Done o) answer before said s m = inl (sym s ∙ m)
 
 folder_asked : (taken : List Taken) (t u : Turn) (job : Job) (es now : List Event) → RanSteps taken t u job es now → u.outcome ≡ Made → (t.outcome ≡ Made) ⊎ HasDone 9 taken
 folder_asked [] t u job es now h m = inl (ap (λ x. x.outcome) (sym h.0) ∙ m)
@@ -184,7 +223,16 @@ rises Remove next f lt = omega arith
 rises Note next f lt = omega arith
 rises Unlock next f lt = omega arith
 rises (Done o) next f lt = (let e : place next ≡ 13 = ap place f in omega arith)
-rises _ next f lt = absurd (omega arith)
+rises Lock next f lt = absurd (omega arith)
+rises Read next f lt = absurd (omega arith)
+rises Make next f lt = absurd (omega arith)
+rises (Create m) next f lt = absurd (omega arith)
+rises (Append at) next f lt = absurd (omega arith)
+rises (Sync b) next f lt = absurd (omega arith)
+rises SetAside next f lt = absurd (omega arith)
+rises Exchange next f lt = absurd (omega arith)
+rises Rename next f lt = absurd (omega arith)
+rises SyncFolder next f lt = absurd (omega arith)
 
 too_late : (taken : List Taken) (t u : Turn) (job : Job) (es now : List Event) → RanSteps taken t u job es now → 9 < place (step_of t) → HasDone 9 taken → ⊥
 too_late [] t u job es now h lt d = d
@@ -266,20 +314,28 @@ stays_on t size Rename (Yes n) next before said l g s c = inr (inl (let e : plac
 stays_on t size Rename (No f) next before said l g s c = inl tt
 stays_on t size SyncFolder (Yes n) next before said l g s c = inr (inr s)
 stays_on t size SyncFolder (No f) next before said l g s c = inl tt
-stays_on t size Remove (Yes n) next before said l g s c = inr (inr (⊎_elim (λ (lt : place Remove < 10). absurd (omega arith)) (λ (m : before ≡ Made). s ∙ m) c))
-stays_on t size Remove (No f) next before said l g s c = inr (inr (⊎_elim (λ (lt : place Remove < 10). absurd (omega arith)) (λ (m : before ≡ Made). s ∙ m) c))
-stays_on t size Note (Yes n) next before said l g s c = inr (inr (⊎_elim (λ (lt : place Note < 10). absurd (omega arith)) (λ (m : before ≡ Made). s ∙ m) c))
-stays_on t size Note (No f) next before said l g s c = inr (inr (⊎_elim (λ (lt : place Note < 10). absurd (omega arith)) (λ (m : before ≡ Made). s ∙ m) c))
-stays_on t size Unlock (Yes n) next before said l g s c = inr (inr (⊎_elim (λ (lt : place Unlock < 10). absurd (omega arith)) (λ (m : before ≡ Made). s ∙ m) c))
-stays_on t size Unlock (No f) next before said l g s c = inr (inr (⊎_elim (λ (lt : place Unlock < 10). absurd (omega arith)) (λ (m : before ≡ Made). s ∙ m) c))
-stays_on t size (Done o) (Yes n) next before said l g s c = inr (inr (⊎_elim (λ (lt : place (Done o) < 10). absurd (omega arith)) (λ (m : before ≡ Made). s ∙ m) c))
-stays_on t size (Done o) (No f) next before said l g s c = inr (inr (⊎_elim (λ (lt : place (Done o) < 10). absurd (omega arith)) (λ (m : before ≡ Made). s ∙ m) c))
+stays_on t size Remove answer next before said l g s c = inr (inr (⊎_elim (λ (lt : place Remove < 10). absurd (omega arith)) (λ (m : before ≡ Made). s ∙ m) c))
+stays_on t size Note answer next before said l g s c = inr (inr (⊎_elim (λ (lt : place Note < 10). absurd (omega arith)) (λ (m : before ≡ Made). s ∙ m) c))
+stays_on t size Unlock answer next before said l g s c = inr (inr (⊎_elim (λ (lt : place Unlock < 10). absurd (omega arith)) (λ (m : before ≡ Made). s ∙ m) c))
+stays_on t size (Done o) answer next before said l g s c = inr (inr (⊎_elim (λ (lt : place (Done o) < 10). absurd (omega arith)) (λ (m : before ≡ Made). s ∙ m) c))
 
 -- a byte that is to be written is one of the bytes
 pub len_at : (t : Turn) (job : Job) (old es : List Event) (s : State) → StandsAt s t job old es → (at : ℕ) → step_at s t ≡ Append at
     → (t.len ≡ length job.bytes) × (at ≤ length job.bytes)
 len_at t job old es Writing h at e = let same : t.at ≡ at = cc in let size : t.len ≡ length job.bytes = h.1 in let le : t.at ≤ t.len = h.2 in (size, omega arith)
-len_at t job old es _ h at e = cc
+len_at t job old es Locking h at e = cc
+len_at t job old es Reading h at e = cc
+len_at t job old es Making h at e = cc
+len_at t job old es Creating h at e = cc
+len_at t job old es Syncing h at e = cc
+len_at t job old es SettingAside h at e = cc
+len_at t job old es Exchanging h at e = cc
+len_at t job old es Renaming h at e = cc
+len_at t job old es SyncingFolder h at e = cc
+len_at t job old es Removing h at e = cc
+len_at t job old es Noting h at e = cc
+len_at t job old es Unlocking h at e = cc
+len_at t job old es Over h at e = cc
 
 persists : (taken : List Taken) (t u : Turn) (job : Job) (old es now : List Event) → IsLockApart job → Stands t job old es → RanSteps taken t u job es now → IsOnCourse (step_of t) t.outcome
     → HasFault (length job.bytes) taken ⊎ IsOnCourse (step_of u) u.outcome

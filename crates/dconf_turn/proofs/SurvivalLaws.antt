@@ -26,8 +26,10 @@ good u job old now apart d = whatever_is_answered d.taken d.begun u job old now 
 abbrev ending_of : TurnEnd → Ending
 ending_of (said Made) = done
 ending_of (said (Kept fault)) = refused
+ending_of (said (Either fault)) = faulted
+ending_of (said (Unsettled fault)) = faulted
+ending_of killed = faulted
 ending_of crashed = stopped
-ending_of _ = faulted
 
 -- a crash between turns is a command that changes nothing, and is stopped
 abbrev MayOrNot : {Command : Type 0} → (MaybeBytes → Command → MaybeBytes → Type 0) → MaybeBytes → Option Command → MaybeBytes → Type 0
@@ -71,7 +73,8 @@ module _ {Command : Type 0} (may : MaybeBytes → Command → MaybeBytes → Typ
       let r = (good s.0 (job_of may name lock d.0) old new apart d.2).said Made s.2 in
       (Some d.0, d.1, r.settled, r.read)
   step_of_outcome command (Kept fault) old new s = not_done s.0.keeps s.1 command old new ((good s.0 (job_of may name lock s.1) old new apart s.2).said (Kept fault) s.3)
-  step_of_outcome command _ old new s = at_fault command old new s.0 s.1
+  step_of_outcome command (Either fault) old new s = at_fault command old new s.0 s.1
+  step_of_outcome command (Unsettled fault) old new s = at_fault command old new s.0 s.1
 
   early_kept : (old cut : List Event) → IsEarly (job_of may name lock []) old cut → IsKept false (job_of may name lock []) old cut
   early_kept old cut e = kept false (job_of may name lock []) old cut (early_apart false (job_of may name lock []) old cut e)
@@ -121,7 +124,10 @@ module _ {Command : Type 0} (may : MaybeBytes → Command → MaybeBytes → Typ
       KeptBy (ending_of end) (Some command) (KeptOf (steps_of more)) all → IsKeptBy end command (AreTurnsKept more) (commands all)
   by_end (said Made) command more later all h = first_kept command more later all h
   by_end (said (Kept fault)) command more later all h = later all h
-  by_end _ command more later all h = ⊎_elim (λ out. inl (later all out)) (λ k. inr (first_kept command more later all k)) h
+  by_end (said (Either fault)) command more later all h = ⊎_elim (λ out. inl (later all out)) (λ k. inr (first_kept command more later all k)) h
+  by_end (said (Unsettled fault)) command more later all h = ⊎_elim (λ out. inl (later all out)) (λ k. inr (first_kept command more later all k)) h
+  by_end killed command more later all h = ⊎_elim (λ out. inl (later all out)) (λ k. inr (first_kept command more later all k)) h
+  by_end crashed command more later all h = ⊎_elim (λ out. inl (later all out)) (λ k. inr (first_kept command more later all k)) h
 
   kept_so : (happened : List (Happening Command)) (all : List (Option Command)) → KeptOf (steps_of happened) all → AreTurnsKept happened (commands all)
   kept_so [] all h = ap commands h

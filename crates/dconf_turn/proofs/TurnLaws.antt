@@ -14,10 +14,10 @@ use Rattle.dconf_turn.specs.declared.step.Outcome.TheVariants.{Made, Kept, Eithe
 use Rattle.dconf_turn.specs.declared.step.Answer.{Answer}
 use Rattle.dconf_turn.specs.declared.step.Answer.TheVariants.{Yes, No}
 use Rattle.dconf_turn.specs.Jobs.{Job, IsFree, IsOwn, IsLockApart}
-use Rattle.dconf_turn.specs.Hosts.{IsLockMade, IsLinked, IsNoted}
-use Rattle.dconf_turn.specs.Steps.{IsRead}
+use Rattle.dconf_turn.specs.Hosts.{DidStep, IsLockMade, IsLinked, IsNoted}
+use Rattle.dconf_turn.specs.Steps.{step_of, steps_left, KnowsAfter, IsSaid, GoesOn, Follows, EndsWell, IsRead}
 use Rattle.dconf_turn.specs.Sayings.{IsKept, IsWhole, Says}
-use Rattle.dconf_turn.specs.Progress.{Apart, Holds, Staged, Placed, IsAsideAt, IsEarly, IsCleared, IsAnswered}
+use Rattle.dconf_turn.specs.Progress.{Apart, Holds, Staged, Placed, IsAsideAt, IsEarly, IsCleared, Stands, IsAnswered}
 use Rattle.dconf_turn.proofs.ApartLaws.{created_apart, removed_apart, linked_apart, made, appended, appended_apart, touched_apart, synced, linked, moved}
 use Rattle.dconf_turn.proofs.OwnNames.{differs, aside_is_not_name, aside_is_not_new, new_own, aside_own, name_not_own, was_free}
 use Rattle.dconf_turn.proofs.PlacedLaws.{by_rename, by_exchange, changed, gone, beside_rename, beside_exchange}
@@ -29,6 +29,25 @@ at_state t s = record t { state = s }
 -- a turn whose state is known
 as_known : (t u : Turn) (answer : Answer) (s : State) → t.state ≡ s → IsAnswered (at_state t s) answer u → IsAnswered t answer u
 as_known t u answer s e h = let same : at_state t s ≡ t = ap (λ x. at_state t x) (sym e) in subst (λ x. IsAnswered x answer u) same h
+
+-- what a turn became whose state is known: what it stands at, fewer steps left, their order, what follows, what is said, how it
+-- ends, what is known of the old file, and that a new file is left only if one was
+became : (t u : Turn) (answer : Answer) (s : State) → t.state ≡ s →
+    ((job : Job) (old es now : List Event) → IsLockApart job → Stands (at_state t s) job old es → DidStep (step_of (at_state t s)) answer job es now → Stands u job old now) →
+    ((size : ℕ) → steps_left u size < steps_left (at_state t s) size) →
+    Follows (step_of (at_state t s)) (step_of u) → GoesOn (at_state t s) (step_of (at_state t s)) answer (step_of u) →
+    IsSaid (step_of (at_state t s)) answer t.outcome u.outcome → EndsWell (step_of (at_state t s)) answer (step_of u) →
+    KnowsAfter (step_of (at_state t s)) answer (at_state t s) u → u.leaves_new ≡ t.leaves_new → IsAnswered t answer u
+became t u answer s e stands fewer order on said ends knows leaves = as_known t u answer s e (record {
+  stands = stands;
+  fewer = λ job old es now h d. inr (fewer (length job.bytes));
+  order = order;
+  on = on;
+  said = said;
+  ends = ends;
+  knows = knows;
+  leaves = λ l. inl (subst (λ b. IsTrue b) leaves l);
+})
 
 -- ---- what a step makes of a folder
 
@@ -187,168 +206,80 @@ module _ (t : Turn) where
   -- ---- steps that were done
 
   pub done_locking : (n : ℕ) → (e : t.state ≡ Locking) → IsAnswered t (Yes n) (at_state t Reading)
-  done_locking n e = as_known t (at_state t Reading) (Yes n) Locking e (record {
-    stands = λ job old es now apart s d. early_now t.keeps job old es now apart s d;
-    fewer = λ job old es now s d. inr (omega arith);
-    order = omega arith;
-    on = refl;
-    said = refl;
-    ends = λ x. x;
-    knows = (refl, refl);
-    leaves = λ l. inl l;
-  })
+  done_locking n e = became t _ (Yes n) Locking e (λ job old es now apart s d. early_now t.keeps job old es now apart s d) (λ z. omega arith) (omega arith) refl refl (λ x. x) (refl, refl) refl
 
   pub done_reading : (n : ℕ) → (bits : Option ℕ) → (keeps : Bool) → (e : t.state ≡ Reading) → (r : IsRead n bits keeps) → IsAnswered t (Yes n) (record t { state = Making; bits = bits; keeps = keeps })
-  done_reading n bits keeps e r = as_known t (record t { state = Making; bits = bits; keeps = keeps }) (Yes n) Reading e (record {
-    stands = λ job old es now apart s d. still_early t.keeps job old es now apart s d;
-    fewer = λ job old es now s d. inr (omega arith);
-    order = omega arith;
-    on = refl;
-    said = refl;
-    ends = λ x. x;
-    knows = r;
-    leaves = λ l. inl l;
-  })
+  done_reading n bits keeps e r = became t _ (Yes n) Reading e (λ job old es now apart s d. still_early t.keeps job old es now apart s d) (λ z. omega arith) (omega arith) refl refl (λ x. x) r refl
 
   pub done_making : (n : ℕ) → (e : t.state ≡ Making) → IsAnswered t (Yes n) (record t { state = Creating; len = n })
-  done_making n e = as_known t (record t { state = Creating; len = n }) (Yes n) Making e (record {
-    stands = λ job old es now apart s d. (still_early t.keeps job old es now apart s d.0, d.1);
-    fewer = λ job old es now s d. inr (omega arith);
-    order = omega arith;
-    on = refl;
-    said = refl;
-    ends = λ x. x;
-    knows = (refl, refl);
-    leaves = λ l. inl l;
-  })
+  done_making n e =
+      became t _ (Yes n) Making e (λ job old es now apart s d. (still_early t.keeps job old es now apart s d.0, d.1))
+      (λ z. omega arith) (omega arith) refl refl (λ x. x) (refl, refl) refl
 
   pub done_creating : (n : ℕ) → (e : t.state ≡ Creating) → IsAnswered t (Yes n) (record t { state = Writing; at = 0 })
-  done_creating n e = as_known t (record t { state = Writing; at = 0 }) (Yes n) Creating e (record {
-    stands = λ job old es now apart s d. (
-      subst (λ l. Holds old l (IsOwn t.keeps job old) (new_name job.name) []) (sym d)
-          (made old es (IsOwn t.keeps job old) (early_apart t.keeps job old es s.0) (new_name job.name) (new_own t.keeps job old)),
-      s.1,
-      omega arith,
-    );
-    fewer = λ job old es now s d. inr (omega arith);
-    order = omega arith;
-    on = refl;
-    said = refl;
-    ends = λ x. x;
-    knows = (refl, refl);
-    leaves = λ l. inl l;
-  })
+  done_creating n e =
+      became t _ (Yes n) Creating e (λ job old es now apart s d. (
+        subst (λ l. Holds old l (IsOwn t.keeps job old) (new_name job.name) []) (sym d)
+            (made old es (IsOwn t.keeps job old) (early_apart t.keeps job old es s.0) (new_name job.name) (new_own t.keeps job old)),
+        s.1,
+        omega arith,
+      ))
+      (λ z. omega arith) (omega arith) refl refl (λ x. x) (refl, refl) refl
 
   pub synced_renames : (n : ℕ) → (e : t.state ≡ Syncing) → (k : t.keeps ≡ false) → IsAnswered t (Yes n) (at_state t Renaming)
-  synced_renames n e k = as_known t (at_state t Renaming) (Yes n) Syncing e (record {
-    stands = λ job old es now apart s d. (
-      subst (λ l. Staged old l (IsOwn t.keeps job old) (new_name job.name) job.bytes) (sym d) (synced old es (IsOwn t.keeps job old) (new_name job.name) job.bytes s),
-      λ x. (let bad : false ≡ true = sym k ∙ x in cc),
-    );
-    fewer = λ job old es now s d. inr (omega arith);
-    order = omega arith;
-    on = (λ x. refl, λ x. (let bad : false ≡ true = sym k ∙ x in cc));
-    said = refl;
-    ends = λ x. x;
-    knows = (refl, refl);
-    leaves = λ l. inl l;
-  })
+  synced_renames n e k =
+      became t _ (Yes n) Syncing e (λ job old es now apart s d. (
+        subst (λ l. Staged old l (IsOwn t.keeps job old) (new_name job.name) job.bytes) (sym d) (synced old es (IsOwn t.keeps job old) (new_name job.name) job.bytes s),
+        λ x. (let bad : false ≡ true = sym k ∙ x in cc),
+      ))
+      (λ z. omega arith) (omega arith) (λ x. refl, λ x. (let bad : false ≡ true = sym k ∙ x in cc)) refl (λ x. x) (refl, refl) refl
 
   pub synced_sets_aside : (n : ℕ) → (e : t.state ≡ Syncing) → (k : t.keeps ≡ true) → IsAnswered t (Yes n) (at_state t SettingAside)
-  synced_sets_aside n e k = as_known t (at_state t SettingAside) (Yes n) Syncing e (record {
-    stands = λ job old es now apart s d. (
-      subst (λ l. Staged old l (IsOwn t.keeps job old) (new_name job.name) job.bytes) (sym d) (synced old es (IsOwn t.keeps job old) (new_name job.name) job.bytes s),
-      k,
-    );
-    fewer = λ job old es now s d. inr (omega arith);
-    order = omega arith;
-    on = (λ x. (let bad : false ≡ true = sym x ∙ k in cc), λ x. refl);
-    said = refl;
-    ends = λ x. x;
-    knows = (refl, refl);
-    leaves = λ l. inl l;
-  })
+  synced_sets_aside n e k =
+      became t _ (Yes n) Syncing e (λ job old es now apart s d. (
+        subst (λ l. Staged old l (IsOwn t.keeps job old) (new_name job.name) job.bytes) (sym d) (synced old es (IsOwn t.keeps job old) (new_name job.name) job.bytes s),
+        k,
+      ))
+      (λ z. omega arith) (omega arith) (λ x. (let bad : false ≡ true = sym x ∙ k in cc), λ x. refl) refl (λ x. x) (refl, refl) refl
 
   pub was_set_aside : (n : ℕ) → (e : t.state ≡ SettingAside) → (z : n ≡ 0) → IsAnswered t (Yes n) (at_state t Renaming)
-  was_set_aside n e z = as_known t (at_state t Renaming) (Yes n) SettingAside e (record {
-    stands = λ job old es now apart s d. ⊎_elim (λ (h : (n ≡ 0) × IsLinked job es now). set_aside t.keeps job old es now apart s.0 s.1 h.1)
-        (λ (h : (0 < n) × (now ≡ es)). (let lt = h.0 in absurd (omega arith))) d;
-    fewer = λ job old es now s d. inr (omega arith);
-    order = omega arith;
-    on = (λ x. refl, λ x. absurd (omega arith));
-    said = refl;
-    ends = λ x. x;
-    knows = (refl, refl);
-    leaves = λ l. inl l;
-  })
+  was_set_aside n e z =
+      became t _ (Yes n) SettingAside e (λ job old es now apart s d. ⊎_elim (λ (h : (n ≡ 0) × IsLinked job es now). set_aside t.keeps job old es now apart s.0 s.1 h.1)
+      (λ (h : (0 < n) × (now ≡ es)). (let lt = h.0 in absurd (omega arith))) d)
+      (λ z. omega arith) (omega arith) (λ x. refl, λ x. absurd (omega arith)) refl (λ x. x) (refl, refl) refl
 
   pub has_no_aside : (n : ℕ) → (e : t.state ≡ SettingAside) → (z : 0 < n) → IsAnswered t (Yes n) (at_state t Exchanging)
-  has_no_aside n e z = as_known t (at_state t Exchanging) (Yes n) SettingAside e (record {
-    stands = λ job old es now apart s d. ⊎_elim (λ (h : (n ≡ 0) × IsLinked job es now). (let is = h.0 in absurd (omega arith)))
-        (λ (h : (0 < n) × (now ≡ es)). (staged_now t.keeps job old es now apart s.0 h.1, s.1)) d;
-    fewer = λ job old es now s d. inr (omega arith);
-    order = omega arith;
-    on = (λ x. absurd (omega arith), λ x. refl);
-    said = refl;
-    ends = λ x. x;
-    knows = (refl, refl);
-    leaves = λ l. inl l;
-  })
+  has_no_aside n e z =
+      became t _ (Yes n) SettingAside e (λ job old es now apart s d. ⊎_elim (λ (h : (n ≡ 0) × IsLinked job es now). (let is = h.0 in absurd (omega arith)))
+      (λ (h : (0 < n) × (now ≡ es)). (staged_now t.keeps job old es now apart s.0 h.1, s.1)) d)
+      (λ z. omega arith) (omega arith) (λ x. absurd (omega arith), λ x. refl) refl (λ x. x) (refl, refl) refl
 
   pub done_exchanging : (n : ℕ) → (e : t.state ≡ Exchanging) → IsAnswered t (Yes n) (at_state t SyncingFolder)
-  done_exchanging n e = as_known t (at_state t SyncingFolder) (Yes n) Exchanging e (record {
-    stands = λ job old es now apart s d. exchanged_now t.keeps job old es now apart s.0 s.1 d;
-    fewer = λ job old es now s d. inr (omega arith);
-    order = omega arith;
-    on = refl;
-    said = refl;
-    ends = λ x. x;
-    knows = (refl, refl);
-    leaves = λ l. inl l;
-  })
+  done_exchanging n e =
+      became t _ (Yes n) Exchanging e (λ job old es now apart s d. exchanged_now t.keeps job old es now apart s.0 s.1 d)
+      (λ z. omega arith) (omega arith) refl refl (λ x. x) (refl, refl) refl
 
   pub done_renaming : (n : ℕ) → (e : t.state ≡ Renaming) → IsAnswered t (Yes n) (at_state t SyncingFolder)
-  done_renaming n e = as_known t (at_state t SyncingFolder) (Yes n) Renaming e (record {
-    stands = λ job old es now apart s d. renamed_now t.keeps job old es now apart s.0 s.1 d;
-    fewer = λ job old es now s d. inr (omega arith);
-    order = omega arith;
-    on = refl;
-    said = refl;
-    ends = λ x. x;
-    knows = (refl, refl);
-    leaves = λ l. inl l;
-  })
+  done_renaming n e =
+      became t _ (Yes n) Renaming e (λ job old es now apart s d. renamed_now t.keeps job old es now apart s.0 s.1 d)
+      (λ z. omega arith) (omega arith) refl refl (λ x. x) (refl, refl) refl
 
   pub done_syncing_folder : (n : ℕ) → (e : t.state ≡ SyncingFolder) → IsAnswered t (Yes n) (record t { state = Noting; outcome = Made })
-  done_syncing_folder n e = as_known t (record t { state = Noting; outcome = Made }) (Yes n) SyncingFolder e (record {
-    stands = λ job old es now apart s d. (
-      subst (λ l. Says t.keeps Made job old l) (sym d) (settled_made t.keeps job old es s.0 s.2),
-      inr (inl (ap (λ l. file_of l (new_name job.name)) d ∙ s.1)),
-    );
-    fewer = λ job old es now s d. inr (omega arith);
-    order = omega arith;
-    on = refl;
-    said = refl;
-    ends = λ x. x;
-    knows = (refl, refl);
-    leaves = λ l. inl l;
-  })
+  done_syncing_folder n e =
+      became t _ (Yes n) SyncingFolder e (λ job old es now apart s d. (
+        subst (λ l. Says t.keeps Made job old l) (sym d) (settled_made t.keeps job old es s.0 s.2),
+        inr (inl (ap (λ l. file_of l (new_name job.name)) d ∙ s.1)),
+      ))
+      (λ z. omega arith) (omega arith) refl refl (λ x. x) (refl, refl) refl
 
   pub done_removing : (n : ℕ) → (e : t.state ≡ Removing) → IsAnswered t (Yes n) (at_state t Unlocking)
-  done_removing n e = as_known t (at_state t Unlocking) (Yes n) Removing e (record {
-    stands = λ job old es now apart s d. (
-      subst (λ l. Says t.keeps t.outcome job old l) (sym d)
-          (says_removed t.keeps t.outcome job old es apart s (λ x. differs job.name (sym x)) (new_own t.keeps job old)),
-      inr (inl (ap (λ l. file_of l (new_name job.name)) d ∙ is_gone es (new_name job.name))),
-    );
-    fewer = λ job old es now s d. inr (omega arith);
-    order = omega arith;
-    on = omega arith;
-    said = refl;
-    ends = λ x. x;
-    knows = (refl, refl);
-    leaves = λ l. inl l;
-  })
+  done_removing n e =
+      became t _ (Yes n) Removing e (λ job old es now apart s d. (
+        subst (λ l. Says t.keeps t.outcome job old l) (sym d)
+            (says_removed t.keeps t.outcome job old es apart s (λ x. differs job.name (sym x)) (new_own t.keeps job old)),
+        inr (inl (ap (λ l. file_of l (new_name job.name)) d ∙ is_gone es (new_name job.name))),
+      ))
+      (λ z. omega arith) (omega arith) (omega arith) refl (λ x. x) (refl, refl) refl
 
   -- ---- bytes that were written
 
@@ -356,19 +287,12 @@ module _ (t : Turn) where
   rest_of at n size e le = omega arith
 
   pub all_written : (n : ℕ) → (e : t.state ≡ Writing) → (rest : n ≡ t.len - t.at) → IsAnswered t (Yes n) (record t { state = Syncing; at = t.len })
-  all_written n e rest = as_known t (record t { state = Syncing; at = t.len }) (Yes n) Writing e (record {
-    stands = λ job old es now apart s d. (let whole : t.at + n ≡ length job.bytes = rest_of t.at n t.len rest s.2 ∙ s.1 in
-        subst (λ l. Holds old l (IsOwn t.keeps job old) (new_name job.name) job.bytes) (sym d)
-        (appended old es (IsOwn t.keeps job old) (new_name job.name) (take t.at job.bytes) s.0 (take n (drop t.at job.bytes)) job.bytes
-        (sym (take-add t.at n job.bytes) ∙ take_all (t.at + n) job.bytes (omega arith))));
-    fewer = λ job old es now s d. inr (omega arith);
-    order = omega arith;
-    on = record { whole = λ h. refl; part = λ h g. absurd (omega arith); any = inr (inl refl) };
-    said = inl refl;
-    ends = λ x. x;
-    knows = (refl, refl);
-    leaves = λ l. inl l;
-  })
+  all_written n e rest =
+      became t _ (Yes n) Writing e (λ job old es now apart s d. (let whole : t.at + n ≡ length job.bytes = rest_of t.at n t.len rest s.2 ∙ s.1 in
+      subst (λ l. Holds old l (IsOwn t.keeps job old) (new_name job.name) job.bytes) (sym d)
+      (appended old es (IsOwn t.keeps job old) (new_name job.name) (take t.at job.bytes) s.0 (take n (drop t.at job.bytes)) job.bytes
+      (sym (take-add t.at n job.bytes) ∙ take_all (t.at + n) job.bytes (omega arith)))))
+      (λ z. omega arith) (omega arith) (record { whole = λ h. refl; part = λ h g. absurd (omega arith); any = inr (inl refl) }) (inl refl) (λ x. x) (refl, refl) refl
 
   pub some_written : (n : ℕ) → t.state ≡ Writing → n < t.len - t.at → 0 < n → IsAnswered t (Yes n) (record t { at = t.at + n })
   some_written n e less more =
@@ -391,142 +315,65 @@ module _ (t : Turn) where
       }))
 
   pub badly_written : (n : ℕ) → (e : t.state ≡ Writing) → (bad : (n ≡ 0) ⊎ (t.len - t.at < n)) → (other : ¬ (n ≡ t.len - t.at)) → IsAnswered t (Yes n) (record t { state = Removing; outcome = Kept 0 })
-  badly_written n e bad other = as_known t (record t { state = Removing; outcome = Kept 0 }) (Yes n) Writing e (record {
-    stands = λ job old es now apart s d. kept_at t.keeps job old es now apart (append (new_name job.name) (take n (drop t.at job.bytes)) ∷ es) d
-        (appended_apart old es (IsOwn t.keeps job old) (new_name job.name) (take t.at job.bytes) s.0 (take n (drop t.at job.bytes)));
-    fewer = λ job old es now s d. inr (omega arith);
-    order = omega arith;
-    on = record { whole = λ h. absurd (other (omega arith)); part = λ h g. ⊎_elim (λ (z : n ≡ 0). absurd (omega arith)) (λ (z : t.len - t.at < n). absurd (omega arith)) bad; any = inr (inr (omega arith)) };
-    said = inr refl;
-    ends = λ x. x;
-    knows = (refl, refl);
-    leaves = λ l. inl l;
-  })
+  badly_written n e bad other =
+      became t _ (Yes n) Writing e (λ job old es now apart s d. kept_at t.keeps job old es now apart (append (new_name job.name) (take n (drop t.at job.bytes)) ∷ es) d
+      (appended_apart old es (IsOwn t.keeps job old) (new_name job.name) (take t.at job.bytes) s.0 (take n (drop t.at job.bytes))))
+      (λ z. omega arith) (omega arith) (record { whole = λ h. absurd (other (omega arith)); part = λ h g. ⊎_elim (λ (z : n ≡ 0). absurd (omega arith)) (λ (z : t.len - t.at < n). absurd (omega arith)) bad; any = inr (inr (omega arith)) }) (inr refl) (λ x. x) (refl, refl) refl
 
   -- ---- steps that failed
 
   pub failed_locking : (fault : ℕ) → (e : t.state ≡ Locking) → IsAnswered t (No fault) (record t { state = Over; outcome = Kept fault })
-  failed_locking fault e = as_known t (record t { state = Over; outcome = Kept fault }) (No fault) Locking e (record {
-    stands = λ job old es now apart s d. (let k = early_now t.keeps job old es now apart s d in (kept_early t.keeps job old es now apart k, inl (early_same t.keeps job old es now apart k)));
-    fewer = λ job old es now s d. inr (omega arith);
-    order = omega arith;
-    on = omega arith;
-    said = refl;
-    ends = tt;
-    knows = (refl, refl);
-    leaves = λ l. inl l;
-  })
+  failed_locking fault e =
+      became t _ (No fault) Locking e (λ job old es now apart s d. (let k = early_now t.keeps job old es now apart s d in (kept_early t.keeps job old es now apart k, inl (early_same t.keeps job old es now apart k))))
+      (λ z. omega arith) (omega arith) (omega arith) refl tt (refl, refl) refl
 
   pub failed_reading : (fault : ℕ) → (e : t.state ≡ Reading) → IsAnswered t (No fault) (record t { state = Unlocking; outcome = Kept fault })
-  failed_reading fault e = as_known t (record t { state = Unlocking; outcome = Kept fault }) (No fault) Reading e (record {
-    stands = λ job old es now apart s d. (let k = still_early t.keeps job old es now apart s d in (kept_early t.keeps job old es now apart k, inl (early_same t.keeps job old es now apart k)));
-    fewer = λ job old es now s d. inr (omega arith);
-    order = omega arith;
-    on = omega arith;
-    said = refl;
-    ends = λ x. x;
-    knows = (refl, refl);
-    leaves = λ l. inl l;
-  })
+  failed_reading fault e =
+      became t _ (No fault) Reading e (λ job old es now apart s d. (let k = still_early t.keeps job old es now apart s d in (kept_early t.keeps job old es now apart k, inl (early_same t.keeps job old es now apart k))))
+      (λ z. omega arith) (omega arith) (omega arith) refl (λ x. x) (refl, refl) refl
 
   pub failed_making : (fault : ℕ) → (e : t.state ≡ Making) → IsAnswered t (No fault) (record t { state = Noting; outcome = Kept fault })
-  failed_making fault e = as_known t (record t { state = Noting; outcome = Kept fault }) (No fault) Making e (record {
-    stands = λ job old es now apart s d. (let k = still_early t.keeps job old es now apart s d in (kept_early t.keeps job old es now apart k, inl (early_same t.keeps job old es now apart k)));
-    fewer = λ job old es now s d. inr (omega arith);
-    order = omega arith;
-    on = omega arith;
-    said = refl;
-    ends = λ x. x;
-    knows = (refl, refl);
-    leaves = λ l. inl l;
-  })
+  failed_making fault e =
+      became t _ (No fault) Making e (λ job old es now apart s d. (let k = still_early t.keeps job old es now apart s d in (kept_early t.keeps job old es now apart k, inl (early_same t.keeps job old es now apart k))))
+      (λ z. omega arith) (omega arith) (omega arith) refl (λ x. x) (refl, refl) refl
 
   pub failed_creating : (fault : ℕ) → (e : t.state ≡ Creating) → IsAnswered t (No fault) (record t { state = Removing; outcome = Kept fault })
-  failed_creating fault e = as_known t (record t { state = Removing; outcome = Kept fault }) (No fault) Creating e (record {
-    stands = λ job old es now apart s d. kept_creating t.keeps job old es now apart s.0 d;
-    fewer = λ job old es now s d. inr (omega arith);
-    order = omega arith;
-    on = omega arith;
-    said = refl;
-    ends = λ x. x;
-    knows = (refl, refl);
-    leaves = λ l. inl l;
-  })
+  failed_creating fault e =
+      became t _ (No fault) Creating e (λ job old es now apart s d. kept_creating t.keeps job old es now apart s.0 d)
+      (λ z. omega arith) (omega arith) (omega arith) refl (λ x. x) (refl, refl) refl
 
   pub failed_writing : (fault : ℕ) → (e : t.state ≡ Writing) → IsAnswered t (No fault) (record t { state = Removing; outcome = Kept fault })
-  failed_writing fault e = as_known t (record t { state = Removing; outcome = Kept fault }) (No fault) Writing e (record {
-    stands = λ job old es now apart s d. kept_writing t.keeps job old es now apart (take t.at job.bytes) s.0 d;
-    fewer = λ job old es now s d. inr (omega arith);
-    order = omega arith;
-    on = omega arith;
-    said = refl;
-    ends = λ x. x;
-    knows = (refl, refl);
-    leaves = λ l. inl l;
-  })
+  failed_writing fault e =
+      became t _ (No fault) Writing e (λ job old es now apart s d. kept_writing t.keeps job old es now apart (take t.at job.bytes) s.0 d)
+      (λ z. omega arith) (omega arith) (omega arith) refl (λ x. x) (refl, refl) refl
 
   pub failed_syncing : (fault : ℕ) → (e : t.state ≡ Syncing) → IsAnswered t (No fault) (record t { state = Removing; outcome = Kept fault })
-  failed_syncing fault e = as_known t (record t { state = Removing; outcome = Kept fault }) (No fault) Syncing e (record {
-    stands = λ job old es now apart s d. kept_touched t.keeps job old es now apart job.bytes s d;
-    fewer = λ job old es now s d. inr (omega arith);
-    order = omega arith;
-    on = omega arith;
-    said = refl;
-    ends = λ x. x;
-    knows = (refl, refl);
-    leaves = λ l. inl l;
-  })
+  failed_syncing fault e =
+      became t _ (No fault) Syncing e (λ job old es now apart s d. kept_touched t.keeps job old es now apart job.bytes s d)
+      (λ z. omega arith) (omega arith) (omega arith) refl (λ x. x) (refl, refl) refl
 
   pub failed_setting_aside : (fault : ℕ) → (e : t.state ≡ SettingAside) → IsAnswered t (No fault) (record t { state = Removing; outcome = Kept fault })
-  failed_setting_aside fault e = as_known t (record t { state = Removing; outcome = Kept fault }) (No fault) SettingAside e (record {
-    stands = λ job old es now apart s d. kept_aside t.keeps job old es now apart s.0 s.1 d;
-    fewer = λ job old es now s d. inr (omega arith);
-    order = omega arith;
-    on = omega arith;
-    said = refl;
-    ends = λ x. x;
-    knows = (refl, refl);
-    leaves = λ l. inl l;
-  })
+  failed_setting_aside fault e =
+      became t _ (No fault) SettingAside e (λ job old es now apart s d. kept_aside t.keeps job old es now apart s.0 s.1 d)
+      (λ z. omega arith) (omega arith) (omega arith) refl (λ x. x) (refl, refl) refl
 
   pub failed_exchanging : (fault : ℕ) → (e : t.state ≡ Exchanging) → IsAnswered t (No fault) (record t { state = Removing; outcome = Either fault })
-  failed_exchanging fault e = as_known t (record t { state = Removing; outcome = Either fault }) (No fault) Exchanging e (record {
-    stands = λ job old es now apart s d. whole_exchanging t.keeps job old es now apart s.0 s.1 d;
-    fewer = λ job old es now s d. inr (omega arith);
-    order = omega arith;
-    on = omega arith;
-    said = refl;
-    ends = λ x. x;
-    knows = (refl, refl);
-    leaves = λ l. inl l;
-  })
+  failed_exchanging fault e =
+      became t _ (No fault) Exchanging e (λ job old es now apart s d. whole_exchanging t.keeps job old es now apart s.0 s.1 d)
+      (λ z. omega arith) (omega arith) (omega arith) refl (λ x. x) (refl, refl) refl
 
   pub failed_renaming : (fault : ℕ) → (e : t.state ≡ Renaming) → IsAnswered t (No fault) (record t { state = Removing; outcome = Either fault })
-  failed_renaming fault e = as_known t (record t { state = Removing; outcome = Either fault }) (No fault) Renaming e (record {
-    stands = λ job old es now apart s d. whole_renaming t.keeps job old es now apart s.0 s.1 d;
-    fewer = λ job old es now s d. inr (omega arith);
-    order = omega arith;
-    on = omega arith;
-    said = refl;
-    ends = λ x. x;
-    knows = (refl, refl);
-    leaves = λ l. inl l;
-  })
+  failed_renaming fault e =
+      became t _ (No fault) Renaming e (λ job old es now apart s d. whole_renaming t.keeps job old es now apart s.0 s.1 d)
+      (λ z. omega arith) (omega arith) (omega arith) refl (λ x. x) (refl, refl) refl
 
   pub failed_syncing_folder : (fault : ℕ) → (e : t.state ≡ SyncingFolder) → IsAnswered t (No fault) (record t { state = Noting; outcome = Unsettled fault })
-  failed_syncing_folder fault e = as_known t (record t { state = Noting; outcome = Unsettled fault }) (No fault) SyncingFolder e (record {
-    stands = λ job old es now apart s d. (
-      subst (λ l. Says t.keeps (Unsettled fault) job old l) (sym d) (unsettled t.keeps job old es s.0 s.2),
-      inr (inl (ap (λ l. file_of l (new_name job.name)) d ∙ s.1)),
-    );
-    fewer = λ job old es now s d. inr (omega arith);
-    order = omega arith;
-    on = refl;
-    said = refl;
-    ends = λ x. x;
-    knows = (refl, refl);
-    leaves = λ l. inl l;
-  })
+  failed_syncing_folder fault e =
+      became t _ (No fault) SyncingFolder e (λ job old es now apart s d. (
+        subst (λ l. Says t.keeps (Unsettled fault) job old l) (sym d) (unsettled t.keeps job old es s.0 s.2),
+        inr (inl (ap (λ l. file_of l (new_name job.name)) d ∙ s.1)),
+      ))
+      (λ z. omega arith) (omega arith) refl refl (λ x. x) (refl, refl) refl
 
   pub failed_removing : (fault : ℕ) → (e : t.state ≡ Removing) → IsAnswered t (No fault) (record t { state = Unlocking; leaves_new = true })
   failed_removing fault e = as_known t (record t { state = Unlocking; leaves_new = true }) (No fault) Removing e (record {
@@ -565,31 +412,15 @@ module _ (t : Turn) where
   )
 
   pub noted : (answer : Answer) → t.state ≡ Noting → IsAnswered t answer (at_state t Unlocking)
-  noted answer e = as_known t (at_state t Unlocking) answer Noting e (record {
-    stands = λ job old es now apart s d. noted_now job old es now apart s d;
-    fewer = λ job old es now s d. inr (omega arith);
-    order = omega arith;
-    on = omega arith;
-    said = refl;
-    ends = λ x. x;
-    knows = (refl, refl);
-    leaves = λ l. inl l;
-  })
+  noted answer e = became t _ answer Noting e (λ job old es now apart s d. noted_now job old es now apart s d) (λ z. omega arith) (omega arith) (omega arith) refl (λ x. x) (refl, refl) refl
 
   pub unlocked : (answer : Answer) → t.state ≡ Unlocking → IsAnswered t answer (at_state t Over)
-  unlocked answer e = as_known t (at_state t Over) answer Unlocking e (record {
-    stands = λ job old es now apart s d. subst (λ l. Says t.keeps t.outcome job old l × IsCleared t job old l) (sym d) s;
-    fewer = λ job old es now s d. inr (omega arith);
-    order = omega arith;
-    on = omega arith;
-    said = refl;
-    ends = tt;
-    knows = (refl, refl);
-    leaves = λ l. inl l;
-  })
+  unlocked answer e =
+      became t _ answer Unlocking e (λ job old es now apart s d. subst (λ l. Says t.keeps t.outcome job old l × IsCleared t job old l) (sym d) s)
+      (λ z. omega arith) (omega arith) (omega arith) refl tt (refl, refl) refl
 
-  pub stayed : (answer : Answer) → t.state ≡ Over → IsAnswered t answer (at_state t Over)
-  stayed answer e = as_known t (at_state t Over) answer Over e (record {
+  stay : (answer : Answer) → IsAnswered (at_state t Over) answer (at_state t Over)
+  stay (Yes n) = record {
     stands = λ job old es now apart s d. subst (λ l. Says t.keeps t.outcome job old l × IsCleared t job old l) (sym d) s;
     fewer = λ job old es now s d. inl tt;
     order = refl;
@@ -598,7 +429,20 @@ module _ (t : Turn) where
     ends = tt;
     knows = (refl, refl);
     leaves = λ l. inl l;
-  })
+  }
+  stay (No fault) = record {
+    stands = λ job old es now apart s d. subst (λ l. Says t.keeps t.outcome job old l × IsCleared t job old l) (sym d) s;
+    fewer = λ job old es now s d. inl tt;
+    order = refl;
+    on = omega arith;
+    said = refl;
+    ends = tt;
+    knows = (refl, refl);
+    leaves = λ l. inl l;
+  }
+
+  pub stayed : (answer : Answer) → t.state ≡ Over → IsAnswered t answer (at_state t Over)
+  stayed answer e = as_known t (at_state t Over) answer Over e (stay answer)
 
 -- a turn that is equal to one that an answer gives
 pub by_equal : (t u v : Turn) (answer : Answer) → v ≡ u → IsAnswered t answer u → IsAnswered t answer v
