@@ -54,7 +54,7 @@ impl<'a> fmt::Debug for Engine<'a> {
 }
 
 impl<'a> Engine<'a> {
-    ghost use Rattle.dconf_layers.specs.LentSettings.{seen_in};
+    ghost use Rattle.dconf_layers.specs.LayerSettings.{seen_in};
 
     /// Opens the databases of a profile. For each there is the bytes of its file, or None where there is no file: that is
     /// an empty database.

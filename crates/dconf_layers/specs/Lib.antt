@@ -2,7 +2,6 @@ pub mod Verdicts
 pub mod SoundTables
 pub mod LayerSettings
 pub mod Files
-pub mod LentSettings
 pub mod LayerRows
 pub mod Entries
 pub mod TextSets

@@ -24,7 +24,7 @@ pub(crate) struct Child<'a> {
 }
 
 impl<'a> LentLayers<'a, '_> {
-    ghost use Rattle.dconf_layers.specs.LentSettings.{seen_in};
+    ghost use Rattle.dconf_layers.specs.LayerSettings.{seen_in};
 
     /// What a directory has in any layer, in the byte order of the names.
     ///

@@ -7,7 +7,7 @@ ghost use Rattle.dconf_model.specs.Paths.{ends_with_slash};
 ghost use Rattle.dconf_model.specs.Salvaging.{IsKeyText};
 ghost use Rattle.dconf_path.specs.Paths.{directory_text};
 ghost use Rattle.dconf_differences.specs.Differing.{AreDiffering, Differs};
-ghost use Rattle.dconf_layers.specs.LentSettings.{seen_in};
+ghost use Rattle.dconf_layers.specs.LayerSettings.{seen_in};
 ghost use Rattle.dconfdb_calls.specs.Given.{IsDirectory};
 ghost use Rattle.dconfdb_calls.specs.Seen.{layers_of};
 ghost use Rattle.dconfdb_calls.specs.Since.{AreDifferingIfAsked, IsChangedSince, IsFirstSince, has_directory};

@@ -7,7 +7,7 @@ ghost use Rattle.dconf_model.specs.Reads.{Input};
 ghost use Rattle.dconf_path.specs.Paths.{directory_text};
 ghost use Rattle.keyfile_core.specs.DumpRows.{AreAllBelow};
 ghost use Rattle.keyfile_core.specs.RowsFaults.{rows_cause_of};
-ghost use Rattle.dconf_layers.specs.LentSettings.{seen_in};
+ghost use Rattle.dconf_layers.specs.LayerSettings.{seen_in};
 ghost use Rattle.dconf_streams.specs.Answers.{GivesOutcome};
 ghost use Rattle.dconf_streams.specs.Readings.{Decides};
 ghost use Rattle.dconf_commands.specs.Dumps.{setting_of};

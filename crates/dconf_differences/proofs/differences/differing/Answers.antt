@@ -3,7 +3,7 @@ use Rattle.std.specs.Prelude.{filter, string_bytes}
 use Rattle.std.specs.FinMap.{empty, keys}
 use Rattle.std.proofs.lemmas.Result.{IfOk-weaker}
 use Rattle.dconf_differences.specs.Differing.{AreDiffering, differs, first_keys}
-use Rattle.dconf_layers.specs.LentSettings.{seen_in}
+use Rattle.dconf_layers.specs.LayerSettings.{seen_in}
 use Rattle.dconf_layers.specs.TextSets.{TextSet, with_texts}
 use Rattle.dconf_differences.proofs.DifferingLaws.{are_differing}
 use Rattle.dconf_layers.proofs.TextSetLaws.{keys_are_listed}

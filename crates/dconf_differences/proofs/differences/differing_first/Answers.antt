@@ -4,8 +4,7 @@ use Rattle.std.specs.FinMap.{empty, keys}
 use Rattle.std.proofs.lemmas.Result.{IfOk-weaker}
 use Rattle.dconf_model.specs.Layers.{Layers}
 use Rattle.dconf_differences.specs.Differing.{AreDiffering, differs, first_keys, with_first}
-use Rattle.dconf_layers.specs.LayerSettings.{settings_of}
-use Rattle.dconf_layers.specs.LentSettings.{seen_in}
+use Rattle.dconf_layers.specs.LayerSettings.{settings_of, seen_in}
 use Rattle.dconf_layers.specs.TextSets.{TextSet, with_texts}
 use Rattle.dconf_differences.proofs.DifferingLaws.{are_differing, other_first}
 use Rattle.dconf_layers.proofs.TextSetLaws.{keys_are_listed}

@@ -5,7 +5,7 @@ use Rattle.dconf_model.specs.Outcomes.{dump_at, dump_of, with_lines}
 use Rattle.dconf_model.specs.Walks.{keys_below}
 use Rattle.dconf_path.specs.Paths.{directory_text}
 use Rattle.keyfile_core.specs.DumpRows.{AreAllBelow}
-use Rattle.dconf_layers.specs.LentSettings.{seen_in}
+use Rattle.dconf_layers.specs.LayerSettings.{seen_in}
 use Rattle.dconf_streams.specs.Answers.{GivesOutcome}
 use Rattle.dconf_commands.specs.Dumps.{setting_of}
 use Rattle.dconf_commands.proofs.DumpLaws.{all_seen, as_walked, at_last, found_are_below}

@@ -1,7 +1,6 @@
 use Rattle.std.proofs.Common.{rules, ◌≡◌, ◌∷◌, List, map, ap}
 use Rattle.dconf_layers.specs.declared.layer.Layer.{Layer}
-use Rattle.dconf_layers.specs.LentSettings.{seen_in}
-use Rattle.dconf_layers.specs.LayerSettings.{settings_of}
+use Rattle.dconf_layers.specs.LayerSettings.{seen_in, settings_of}
 use Rattle.dconf_differences.proofs.TwinLaws.{passes_alike, passes_back, twins_of}
 use Rattle.dconf_differences.specs.Differing.{differs}
 use Rattle.dconf_differences.proofs.differences.Pair.add_first.Goals as goal

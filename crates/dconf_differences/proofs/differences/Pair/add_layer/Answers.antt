@@ -3,8 +3,7 @@ use Rattle.std.specs.Prelude.{filter}
 use Rattle.std.specs.FinMap.{keys}
 use Rattle.dconf_model.proofs.PathMaps.{key_in}
 use Rattle.dconf_layers.specs.LayerRows.{layer_paths}
-use Rattle.dconf_layers.specs.LayerSettings.{settings_of}
-use Rattle.dconf_layers.specs.LentSettings.{seen_in}
+use Rattle.dconf_layers.specs.LayerSettings.{settings_of, seen_in}
 use Rattle.dconf_layers.specs.TextSets.{with_texts}
 use Rattle.dconf_layers.proofs.EntryLaws.{has_path}
 use Rattle.dconf_layers.proofs.TextSetLaws.{passing_alike}

@@ -2,7 +2,7 @@ use Rattle.std.proofs.Common.{◌≡◌}
 use Rattle.std.specs.Prelude.{filter}
 use Rattle.dconf_layers.specs.Entries.{entries_left}
 use Rattle.dconf_layers.specs.LayerRows.{layer_paths, paths_of}
-use Rattle.dconf_layers.specs.LentSettings.{seen_in}
+use Rattle.dconf_layers.specs.LayerSettings.{seen_in}
 use Rattle.dconf_layers.specs.TextSets.{with_texts}
 use Rattle.dconf_differences.specs.Differing.{differs}
 use Rattle.dconf_differences.proofs.differences.Pair.add_layer.Given as goal

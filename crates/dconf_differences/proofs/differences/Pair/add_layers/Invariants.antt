@@ -2,8 +2,7 @@ use Rattle.std.proofs.Common.{◌≡◌, drop, map}
 use Rattle.std.specs.Prelude.{filter}
 use Rattle.dconf_model.specs.Layers.{all_paths}
 use Rattle.dconf_differences.specs.Differing.{differs}
-use Rattle.dconf_layers.specs.LayerSettings.{settings_of}
-use Rattle.dconf_layers.specs.LentSettings.{seen_in}
+use Rattle.dconf_layers.specs.LayerSettings.{settings_of, seen_in}
 use Rattle.dconf_layers.specs.TextSets.{with_texts}
 use Rattle.dconf_differences.proofs.differences.Pair.add_layers.Given as goal
 

@@ -5,8 +5,7 @@ use Rattle.dconf_model.proofs.PathMaps.{key_in}
 use Rattle.dconf_layers.specs.declared.entries.Entries.{Entries}
 use Rattle.dconf_layers.specs.Entries.{entries_left, entry_row}
 use Rattle.dconf_layers.specs.LayerRows.{AreOf, layer_paths, paths_of}
-use Rattle.dconf_layers.specs.LayerSettings.{settings_of}
-use Rattle.dconf_layers.specs.LentSettings.{seen_in}
+use Rattle.dconf_layers.specs.LayerSettings.{settings_of, seen_in}
 use Rattle.dconf_layers.specs.TextSets.{with_texts}
 use Rattle.dconf_layers.proofs.EntryLaws.{has_path}
 use Rattle.dconf_layers.proofs.TextSetLaws.{passing_alike}

@@ -1,6 +1,6 @@
 use Rattle.std.proofs.lemmas.Result.{IfOk-weaker}
 use Rattle.dconf_path.specs.Paths.{key_text}
-use Rattle.dconf_layers.specs.LentSettings.{seen_in}
+use Rattle.dconf_layers.specs.LayerSettings.{seen_in}
 use Rattle.dconf_differences.proofs.DifferingLaws.{told_differing}
 use Rattle.dconf_differences.proofs.differences.Pair.differs.Goals as goal
 

@@ -2,7 +2,7 @@ use Rattle.std.proofs.Common.{◌≡◌, ◌<◌, ◌∙◌, ℕ, ap, drop, rule
 use Rattle.dconf_model.specs.Layers.{first_from, greatest_from, level, locks_path}
 use Rattle.dconf_model.specs.Settings.{Settings}
 use Rattle.dconf_path.specs.Paths.{key_text}
-use Rattle.dconf_layers.specs.LentSettings.{seen_in}
+use Rattle.dconf_layers.specs.LayerSettings.{seen_in}
 use Rattle.dconf_layers.proofs.Levels.{place_later}
 use Rattle.dconf_engine.proofs.engine.Engine.place.Goals as goal
 

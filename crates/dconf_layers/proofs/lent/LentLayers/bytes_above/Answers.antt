@@ -1,6 +1,6 @@
 use Rattle.std.proofs.Common.{◌≡◌, ◌∙◌, List, ℕ, None, ap, option_map, rules, sym}
 use Rattle.dconf_layers.specs.Children.{place_shown}
-use Rattle.dconf_layers.specs.LentSettings.{seen_in}
+use Rattle.dconf_layers.specs.LayerSettings.{seen_in}
 use Rattle.dconf_layers.proofs.Levels.{no_place}
 use Rattle.dconf_layers.proofs.lent.LentLayers.bytes_above.Goals as goal
 

@@ -3,7 +3,7 @@ use Rattle.std.proofs.lemmas.Fn.{dedup_same}
 use Rattle.std.proofs.lemmas.List.Sorted.{answers_always}
 use Rattle.dconf_path.specs.Paths.{directory_text}
 use Rattle.dconf_layers.specs.Children.{child_name}
-use Rattle.dconf_layers.specs.LentSettings.{seen_in}
+use Rattle.dconf_layers.specs.LayerSettings.{seen_in}
 use Rattle.dconf_layers.proofs.ChildOrder.{names_are_listed, places_are_first}
 use Rattle.dconf_layers.proofs.TextSetLaws.{same_name}
 use Rattle.dconf_layers.proofs.lent.LentLayers.children.Goals as goal

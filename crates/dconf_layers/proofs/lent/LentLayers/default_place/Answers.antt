@@ -1,6 +1,6 @@
 use Rattle.std.proofs.Common.{◌∙◌, rules}
 use Rattle.dconf_path.specs.Paths.{key_text}
-use Rattle.dconf_layers.specs.LentSettings.{seen_in}
+use Rattle.dconf_layers.specs.LayerSettings.{seen_in}
 use Rattle.dconf_layers.proofs.Levels.{default_low}
 use Rattle.dconf_layers.proofs.lent.LentLayers.default_place.Goals as goal
 

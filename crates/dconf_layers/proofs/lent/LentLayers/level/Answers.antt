@@ -1,7 +1,7 @@
 use Rattle.dconf_model.specs.Layers.{level}
 use Rattle.dconf_path.specs.Paths.{key_text}
 use Rattle.dconf_layers.proofs.Levels.{told_level}
-use Rattle.dconf_layers.specs.LentSettings.{seen_in}
+use Rattle.dconf_layers.specs.LayerSettings.{seen_in}
 use Rattle.dconf_layers.proofs.lent.LentLayers.level.Goals as goal
 
 pub returns : goal.returns

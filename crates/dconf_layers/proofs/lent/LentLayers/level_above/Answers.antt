@@ -2,7 +2,7 @@ use Rattle.std.proofs.Common.{◌≡◌, ◌∙◌, ◌-◌, ◌+◌, sym, subst
 use Rattle.dconf_model.specs.Layers.{locks_path}
 use Rattle.dconf_path.specs.Paths.{key_text}
 use Rattle.dconf_layers.proofs.Levels.{NoneFrom, level_at, level_below, level_none}
-use Rattle.dconf_layers.specs.LentSettings.{seen_in}
+use Rattle.dconf_layers.specs.LayerSettings.{seen_in}
 use Rattle.dconf_layers.proofs.lent.LentLayers.level_above.Goals as goal
 
 pub returns-then-i-floor-clause-none : goal.returns-then-i-floor-clause-none

@@ -2,7 +2,7 @@ use Rattle.std.proofs.Common.{◌-◌, ◌≤◌, length}
 use Rattle.dconf_model.specs.Layers.{locks_path}
 use Rattle.dconf_path.specs.Paths.{key_text}
 use Rattle.dconf_layers.proofs.Levels.{NoneFrom}
-use Rattle.dconf_layers.specs.LentSettings.{seen_in}
+use Rattle.dconf_layers.specs.LayerSettings.{seen_in}
 use Rattle.dconf_layers.proofs.lent.LentLayers.level_above.Given as goal
 
 -- no layer from this one on locks the path

@@ -2,7 +2,7 @@ use Rattle.std.proofs.Common.{◌≡◌, Some}
 use Rattle.dconf_model.specs.Layers.{first_from}
 use Rattle.dconf_path.specs.Paths.{key_text}
 use Rattle.dconf_layers.proofs.Levels.{first_place}
-use Rattle.dconf_layers.specs.LentSettings.{seen_in}
+use Rattle.dconf_layers.specs.LayerSettings.{seen_in}
 use Rattle.dconf_layers.proofs.lent.LentLayers.place_above.Goals as goal
 
 pub returns-then-level-first : goal.returns-then-level-first

@@ -1,7 +1,7 @@
 use Rattle.std.proofs.Common.{◌≡◌, ◌∙◌, None, rules}
 use Rattle.dconf_model.specs.Layers.{first_from}
 use Rattle.dconf_layers.proofs.Levels.{no_place}
-use Rattle.dconf_layers.specs.LentSettings.{seen_in}
+use Rattle.dconf_layers.specs.LayerSettings.{seen_in}
 use Rattle.dconf_layers.proofs.lent.LentLayers.place_beside_locks.Goals as goal
 
 pub returns-in_err-first-clause-place : goal.returns-in_err-first-clause-place
