@@ -1,9 +1,12 @@
 //! Answers of the commands that change the user's values: the user's database takes the place of its file, or the change is
 //! refused.
-ghost use Rattle.std.specs.Prelude.{◌≡◌, ℕ, List, [], Err, IfOk, string_bytes};
+ghost use Rattle.std.specs.Prelude.{◌≡◌, ℕ, List, [], Err, IfErr, IfOk, string_bytes};
 ghost use Rattle.dconf_model.specs.Changes.{saved};
+ghost use Rattle.dconf_model.specs.Databases.{IsDatabaseOf};
 ghost use Rattle.dconf_model.specs.Outcomes.{Writes};
 ghost use Rattle.dconf_model.specs.Profiles.{user_file};
+ghost use Rattle.dconf_model.specs.Settings.{Settings};
+ghost use Rattle.gvdb_write.specs.Limits.{IsRefusal};
 ghost use Rattle.dconf_path.specs.Profiles.{databases_of};
 ghost use Rattle.dconf_engine.specs.ChangeFaults.{refusal_of};
 ghost use Rattle.dconf_streams.specs.Answers.{GivesOutcome};
@@ -24,19 +27,20 @@ pub(crate) fn saved(
 ) -> Result<Answer, Refusal>
     ensures { GivesOutcome result (Writes (user_file (databases_of profile.now)) [] (saved engine.entry.layers)) }
 {
-    saved_saying(alloc, profile, engine, String::new(alloc))
+    saved_saying(alloc, profile, engine.into_saved(), String::new(alloc))
 }
 
-/// The answer that puts it there, and prints this text.
+/// The answer that puts a written database there, and prints this text.
 pub(crate) fn saved_saying(
     alloc: Global,
     profile: &Profile<'_>,
-    engine: Engine<'_>,
+    written: Result<Vec<u8>, WriteFault>,
     text: String,
 ) -> Result<Answer, Refusal>
-    ensures { GivesOutcome result (Writes (user_file (databases_of profile.now)) (string_bytes text) (saved engine.entry.layers)) }
+    ensures { (s : Settings) → IfOk written (λ file. IsDatabaseOf s file.items) → IfErr written (IsRefusal s)
+        → GivesOutcome result (Writes (user_file (databases_of profile.now)) (string_bytes text) s) }
 {
-    match engine.into_saved() {
+    match written {
         Ok(bytes) => Ok(Answer::Changed {
             file: user_file(alloc, profile)?,
             bytes,

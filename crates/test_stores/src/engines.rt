@@ -53,6 +53,12 @@ fn is_changed(
     Ok(is_set && is_reset && is_reset_below && is_seen(engine, *path, Some(7), Some(0)))
 }
 
+/// Whether rows that are set already, loaded once more, make the same file.
+fn is_loaded(engine: &Engine<'_>, rows: &[(KeyPath<'_>, Tree)]) -> Result<bool, Fail> {
+    let file = engine.loaded_values(rows, false)?.write()?;
+    Ok(file.as_slice() == engine.save()?.as_slice())
+}
+
 /// Whether both databases have a value at a path, and the site locks it by its own.
 fn is_explained(engine: &Engine<'_>, path: KeyPath<'_>) -> bool {
     engine.value_in(1, path).and_then(View::as_i32) == Some(5)
@@ -99,7 +105,8 @@ fn is_right(alloc: Global, mut engine: Engine<'_>) -> Result<bool, Fail> {
     let is_changed = is_changed(&mut engine, &rows, DirPath::parse("/a/")?)?;
     let is_open = is_open(&engine, KeyPath::parse("/k")?);
     let is_listed = is_listed(alloc, &engine, DirPath::parse("/")?)?;
-    Ok(is_changed && is_open && is_listed && is_saved(engine)?)
+    let is_loaded = is_loaded(&engine, &rows)?;
+    Ok(is_changed && is_open && is_listed && is_loaded && is_saved(engine)?)
 }
 
 /// Whether one key differs between this layer and none, and none between two that are alike.

@@ -1,5 +1,5 @@
 //! `load [-f] [--skip-doubles] DIR`: the user's values of the rows of a keyfile from input, below a directory. All rows are read before any is set.
-ghost use Rattle.std.specs.Prelude.{◌≡◌, ◌≢◌, ℕ, List, Bool, Ok, Err, IfErr, IfOk, OnOk, codes, map, string_bytes};
+ghost use Rattle.std.specs.Prelude.{◌≡◌, ◌≢◌, ℕ, List, Bool, Err, IfErr, IfOk, OnOk, codes, map, string_bytes};
 ghost use Rattle.dconf_model.specs.Changes.{Change.load_values, apply, paths_of};
 ghost use Rattle.dconf_model.specs.Commands.Command.{load as load_of};
 ghost use Rattle.dconf_model.specs.FaultTexts.{device_text};
@@ -10,7 +10,7 @@ ghost use Rattle.dconf_path.specs.Paths.{directory_text};
 ghost use Rattle.dconf_compile.specs.Loading.{rows_loaded};
 ghost use Rattle.dconf_compile.specs.LineStops.{line_fault_of};
 ghost use Rattle.dconf_engine.specs.ChangeFaults.{refusal_of};
-ghost use Rattle.dconf_engine.specs.Loads.{rows_of};
+ghost use Rattle.dconf_engine.specs.Loads.{IsLoaded, rows_of};
 ghost use Rattle.dconf_streams.specs.Answers.{GivesOutcome, RefusesFor};
 ghost use Rattle.dconf_streams.specs.Counted.{CameToEnd, failures_of};
 ghost use Rattle.dconf_streams.specs.Inputs.{ReadsText, Took};
@@ -29,6 +29,7 @@ use dconf_streams::{
     Answer, Counted, InputFault, Refusal, named_file, read_input, refused, refused_at,
 };
 use gv_tree::Tree;
+use gvdb_write::MapBuilder;
 use std::alloc::{AllocError, Global};
 use std::io::Read;
 
@@ -130,11 +131,11 @@ fn load_rows<F: Folder>(
     let text = lines(alloc, &left_out)?;
     let profile = named_file(alloc, folder, profile)?;
     let files = StoreFiles::read(alloc, folder, &profile)?;
-    let mut engine = files.open(alloc)?;
-    set_rows(alloc, &mut engine, values, force)?;
+    let engine = files.open(alloc)?;
+    let loaded = loaded_values(alloc, &engine, values, force)?;
     drop(left_out);
     drop(below);
-    saved_saying(alloc, &files.profile, engine, text)
+    saved_saying(alloc, &files.profile, loaded.write(), text)
 }
 
 /// Paths, each on a line.
@@ -149,19 +150,19 @@ fn lines(alloc: Global, paths: &[&str]) -> Result<String, AllocError>
     Ok(lines)
 }
 
-/// Sets these rows, or says why they are refused.
-fn set_rows(
+/// The user's values once these rows are loaded, or why they are refused.
+fn loaded_values(
     alloc: Global,
-    engine: &mut Engine<'_>,
+    engine: &Engine<'_>,
     rows: Vec<(KeyPath<'_>, Tree)>,
     force: bool,
-) -> Result<(), Refusal>
-    ensures ok { OnOk result (apply engine.old (load_values (rows_of rows.entry.items) force) ≡ Ok engine.new) }
+) -> Result<MapBuilder, Refusal>
+    ensures ok { IfOk result (IsLoaded engine.now (rows_of rows.entry.items) force) }
     ensures err { IfErr result (λ refusal. (text file : List ℕ) → GivesOutcome (Err refusal)
-        (SavesSaying text (paths_of (rows_of rows.entry.items)) file (apply engine.old (load_values (rows_of rows.entry.items) force)))) }
+        (SavesSaying text (paths_of (rows_of rows.entry.items)) file (apply engine.now (load_values (rows_of rows.entry.items) force)))) }
 {
-    match engine.load(&rows, force) {
-        Ok(()) => Ok(()),
+    match engine.loaded_values(&rows, force) {
+        Ok(values) => Ok(values),
         Err(fault) => Err(change_refused(alloc, fault, locked_path(&rows, fault))),
     }
 }

@@ -1,7 +1,6 @@
 use Rattle.std.proofs.Common.{◌≡◌, ◌∙◌, List, ap, length, map, nat_eq, sym}
 use Rattle.std.proofs.lemmas.Result.{err_from_is_err_and}
 use Rattle.dconf_model.specs.Changes.{changed, saved, with_all, with_first_layer}
-use Rattle.dconf_model.specs.Layers.{Layers}
 use Rattle.dconf_layers.specs.LayerSettings.{settings_of}
 use Rattle.dconf_layers.specs.declared.layer.Layer.{Layer}
 use Rattle.dconf_engine.specs.Loads.{rows_of, not_locked}
