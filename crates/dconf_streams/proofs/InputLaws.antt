@@ -2,7 +2,6 @@
 use Rattle.std.proofs.Common.{◌≡◌, ◌≤◌, ◌<◌, ◌+◌, ◌-◌, ◌++◌, ◌∷◌, ◌⊎◌, ◌∙◌, inl, inr, ℕ, true, false, List, [], Option, Some, None, Result, Ok, Err, refl, sym, ap, length, length-append, length-take-le, take, append-nil, arith}
 use Rattle.std.specs.Prelude.{nat_lt, not, unwrap_or}
 use Rattle.std.specs.Io.KnownBytes.{Consumes, IsAtEnd, Keeps}
-use Rattle.std.proofs.Math.Seq.{take-append_seam}
 use Rattle.std.proofs.lemmas.List.{append_assoc}
 use Rattle.dconf_model.specs.Lines.{longest_text}
 use Rattle.dconf_model.specs.Reads.{Input}
@@ -169,22 +168,3 @@ module _ {V R : Type 0} (items : V → List ℕ) (remaining : R → Option (List
     took_whole (items bytes) given,
     record { text = (refl, same_text (remaining (inner_of new)) (items bytes) end); failing = λ e. cc },
   )
-
--- of a reader that says what it has left, it is that, or the first part of it where a read failed
-had : (before left : Option (List ℕ)) (gave xs : List ℕ) → Consumes before left gave → before ≡ Some xs
-    → (rest : List ℕ) × (left ≡ Some rest) × (xs ≡ gave ++ rest)
-had None left gave xs is known = cc
-had (Some ys) None gave xs is known = absurd is
-had (Some ys) (Some rest) gave xs is known = let same : ys ≡ xs = cc in (rest, refl, sym same ∙ is)
-
-module _ {R : Type 0} (remaining : R → Option (List ℕ)) (old new : Counted R) (i : Input) (took : Took remaining old new i) (xs : List ℕ)
-    (known : remaining (inner_of old) ≡ Some xs) where
-  pub took_known : i.fails ≡ false → i.bytes ≡ xs
-  took_known calm =
-      let h = had (remaining (inner_of old)) (remaining (inner_of new)) took.gave xs took.given.left known in
-      took.whole calm ∙ ap (λ (o : Option (List ℕ)). took.gave ++ unwrap_or o []) h.1 ∙ sym h.2
-
-  pub took_part : i.fails ≡ true → (n : ℕ) × (i.bytes ≡ take n xs)
-  took_part broken =
-      let h = had (remaining (inner_of old)) (remaining (inner_of new)) took.gave xs took.given.left known in
-      (length took.gave, (took.part broken).0 ∙ sym (take-append_seam took.gave h.0) ∙ ap (take (length took.gave)) (sym h.2))

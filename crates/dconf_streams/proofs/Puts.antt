@@ -1,5 +1,5 @@
 -- Writing bytes piece by piece.
-use Rattle.std.proofs.Common.{◌≡◌, ◌+◌, ◌-◌, ℕ, List, [], length, take, drop, sym, ap, subst, ◌∙◌, Option, append-nil, arith, length-drop, take-add}
+use Rattle.std.proofs.Common.{◌≡◌, ◌+◌, ◌-◌, ℕ, List, [], length, take, drop, sym, ap, subst, ◌∙◌, Option, arith, length-drop, take-add}
 use Rattle.std.proofs.lemmas.List.{drop-drop, take_all}
 use Rattle.dconf_streams.specs.declared.counted.Counted.{Counted}
 use Rattle.dconf_streams.specs.Counted.{Grew}
@@ -31,16 +31,3 @@ module _ {W : Type 0} (contents : W → Option (List ℕ)) where
       let dropped = length-drop h.n bytes in
       let none = ap length e in
       omega (arith, left, dropped, none)
-
-  -- where no rest is left all was written
-  pub HasPut-all : (old new : Counted W) (bytes rest : List ℕ) → HasPut old new bytes rest → length rest ≡ 0 → Grew contents old new bytes
-  HasPut-all old new bytes rest h none =
-      let left = ap length h.left in
-      let dropped = length-drop h.n bytes in
-      subst (Grew contents old new) (take_all h.n bytes (omega (arith, left, dropped, none))) h.grown
-
-  -- a write more that took nothing leaves a first part
-  pub HasPut-part : (old mid new : Counted W) (bytes rest : List ℕ) → HasPut old mid bytes rest → Grew contents mid new []
-      → (n : ℕ) × Grew contents old new (take n bytes)
-  HasPut-part old mid new bytes rest h more =
-      (h.n, subst (Grew contents old new) (append-nil (take h.n bytes)) (Grew-trans contents old mid new (take h.n bytes) [] h.grown more))

@@ -1,7 +1,7 @@
 -- What one call of a stream after another moved.
 use Rattle.std.proofs.Common.{◌≡◌, ◌++◌, ◌∷◌, ◌∙◌, ℕ, List, [], Option, sym, ap, append-nil, take}
 use Rattle.std.specs.Io.KnownBytes.{Appends, Consumes, Keeps}
-use Rattle.std.proofs.KnownBytes.{Appends-kept, Appends-nil, Appends-trans, Consumes-kept, Consumes-nil, Consumes-trans}
+use Rattle.std.proofs.KnownBytes.{Appends-nil, Appends-trans, Consumes-kept, Consumes-nil, Consumes-trans}
 use Rattle.std.proofs.lemmas.List.{append_assoc}
 use Rattle.std.proofs.lemmas.Grind.{flat_map-append}
 use Rattle.dconf_streams.specs.declared.counted.Counted.{Counted}
@@ -27,13 +27,6 @@ module _ {W : Type 0} (contents : W → Option (List ℕ)) where
   pub grew_by : (old new : Counted W) (n : ℕ) (buf : List ℕ) → transfers_of new ≡ transfers_of old ++ transfer_of (n ∷ []) buf ∷ []
       → Appends (contents (inner_of old)) (contents (inner_of new)) (take n buf) → Grew contents old new (take n buf)
   grew_by old new n buf called held = record { taken = one_more (transfers_of old) (transfers_of new) (transfer_of (n ∷ []) buf) called; held = held }
-
-  pub grew_by_none : (old new : Counted W) (buf : List ℕ) → transfers_of new ≡ transfers_of old ++ transfer_of [] buf ∷ []
-      → Keeps (contents (inner_of old)) (contents (inner_of new)) → Grew contents old new []
-  grew_by_none old new buf called kept = record {
-    taken = one_more (transfers_of old) (transfers_of new) (transfer_of [] buf) called;
-    held = Appends-kept (contents (inner_of old)) (contents (inner_of old)) (contents (inner_of new)) [] (Appends-nil (contents (inner_of old))) kept;
-  }
 
 -- of a reader
 module _ {R : Type 0} (remaining : R → Option (List ℕ)) where
