@@ -1,4 +1,4 @@
-use Rattle.std.proofs.Common.{List, Result, Err, codes, sym, subst}
+use Rattle.std.proofs.Common.{Result, Err, codes, sym, subst}
 use Rattle.dconf_model.specs.Lines.{LineFault}
 use Rattle.dconf_model.specs.Outcomes.{Loads, Gives, OrLine}
 use Rattle.dconf_model.specs.Reads.{ReadResults}
