@@ -140,9 +140,6 @@ came (s ∷ more) t u job old es now apart k h =
 
 -- ---- what was asked
 
-kept_0_is_not_made : Kept 0 ≡ Made → ⊥
-kept_0_is_not_made e = cc
-
 -- made is said from the folder's sync on
 made_by : (step : Step) (answer : Answer) (before said : Outcome) → IsSaid step answer before said → said ≡ Made → (before ≡ Made) ⊎ ((place step ≡ 9) × IsYes answer)
 made_by Lock (Yes n) before said s m = inl (sym s ∙ m)
@@ -262,7 +259,7 @@ rename_asked (s ∷ more) t u job es now h lt d =
 made_asked : (taken : List Taken) (t u : Turn) (job : Job) (es now : List Event) → IsBegun t → RanSteps taken t u job es now → u.outcome ≡ Made → (HasDone 8 taken ⊎ HasDone 7 taken) × HasDone 9 taken
 made_asked taken t u job es now b h m =
     let first : place (step_of t) ≡ 0 = ap place b.first in
-    let folder : HasDone 9 taken = ⊎_elim (λ (was : t.outcome ≡ Made). absurd (kept_0_is_not_made (sym b.said ∙ was))) (λ d. d) (folder_asked taken t u job es now h m) in
+    let folder : HasDone 9 taken = ⊎_elim (λ (was : t.outcome ≡ Made). (let bad : Kept 0 ≡ Made = sym b.said ∙ was in cc)) (λ d. d) (folder_asked taken t u job es now h m) in
     (rename_asked taken t u job es now h (omega arith) folder, folder)
 
 -- ---- it does not give up without a fault
