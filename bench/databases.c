@@ -22,7 +22,6 @@ bool dconf_bench_find(bytes_at file, size_t file_len, bytes_at name, size_t name
 bool dconf_bench_find_bytes(bytes_at file, size_t file_len, bytes_at name, size_t name_len, size_t *len);
 bool dconf_bench_check(bytes_at file, size_t file_len, bool *sound);
 bool dconf_bench_database(bytes_at paths, size_t paths_len, uint8_t *room, size_t room_len, size_t *len);
-bool dconf_bench_map(bytes_at paths, size_t paths_len);
 
 typedef struct GvdbTable GvdbTable;
 typedef struct GvdbItem GvdbItem;
@@ -129,10 +128,6 @@ static bool check(Input *in) {
     return dconf_bench_check(in->file, in->file_len, &sound) && sound;
 }
 
-static bool map(Input *in) {
-    return dconf_bench_map(in->paths, in->paths_len);
-}
-
 static bool map_and_write(Input *in) {
     return dconf_bench_database(in->paths, in->paths_len, in->file, in->file_room, &in->file_len)
         && in->file_len <= in->file_room;
@@ -216,11 +211,6 @@ static GHashTable *gvdb_map_of(const Input *in) {
     return table;
 }
 
-static bool gvdb_map(Input *in) {
-    g_hash_table_unref(gvdb_map_of(in));
-    return true;
-}
-
 /* gvdb hands its bytes to nothing but a file. */
 static bool gvdb_map_and_write(Input *in) {
     char name[LONGEST];
@@ -243,7 +233,6 @@ static const struct {
     {"bytes", find_bytes},
     {"missing", find_missing},
     {"check", check},
-    {"map", map},
     {"write", map_and_write},
     {"gvdb-open", gvdb_open},
     {"gvdb-there", gvdb_there},
@@ -251,7 +240,6 @@ static const struct {
     {"gvdb-there-open", gvdb_there_open},
     {"gvdb-has-open", gvdb_has_open},
     {"gvdb-missing-open", gvdb_missing_open},
-    {"gvdb-map", gvdb_map},
     {"gvdb-write", gvdb_map_and_write},
 };
 
