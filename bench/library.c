@@ -40,7 +40,9 @@ void *__wrap_realloc(void *old, size_t size) {
 }
 
 /* What the works are done with, and what they answer. */
-static const char *folder, *path;
+static const char *folder;
+/* Aligned, since what strlen() takes depends on it: the place of a word of main's depends on how long the environment is. */
+static _Alignas(64) char path[64];
 static DconfdbStore *store;
 static DconfdbSnapshot *now;
 static DconfdbValue value;
@@ -400,9 +402,9 @@ static void measure(const Work *work) {
 }
 
 int main(int argc, char **argv) {
-    needs(argc == 4, "library WORK FOLDER PATH");
+    needs(argc == 4 && strlen(argv[3]) < sizeof path, "library WORK FOLDER PATH");
     folder = argv[2];
-    path = argv[3];
+    strcpy(path, argv[3]);
     if (strcmp(argv[1], "same") == 0) {
         our_start();
         their_start();
