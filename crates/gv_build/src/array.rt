@@ -67,7 +67,7 @@ fn write_framed(elements: &[Tree], out: &mut Vec<u8>) -> Result<(), BuildFault>
         + length (framed (body_from 0 (parts_of elements.now)) (ends_from 0 (parts_of elements.now))))) }
 {
     let start = out.len();
-    let mut ends: SmallVec<u32, 8> = SmallVec::new(*out.allocator());
+    let mut ends: SmallVec<u32, 16> = SmallVec::new(*out.allocator());
     for element in elements {
         place(element, start, out)?;
         ends.push((out.len() - start) as u32)?;

@@ -34,9 +34,8 @@ fn basic_room(value: &Basic) -> usize {
 /// The bytes of the first texts of an array, and an offset of one byte for each. A long array's buffer
 /// grows, which costs less than a look at each text.
 fn texts_room(elements: &[Tree]) -> usize {
-    let first = &elements[..elements.len().min(MEASURED)];
     let mut room: usize = 0;
-    for element in first {
+    for element in elements.iter().take(MEASURED) {
         if let Shape::Basic(value) = element.shape() {
             room = room.saturating_add(basic_room(value)).saturating_add(1);
         }
