@@ -2,30 +2,23 @@
 use Rattle.std.proofs.Common.{◌≡◌, ◌<◌, ◌≤◌, ◌⊎◌, ℕ, Bool, true, false, ◌&&◌, List, length, Option, Some, None, Ok, Err, Result, refl, ap, sym, ◌∙◌, inl, inr}
 use Rattle.std.proofs.Common.{IfErr, IsErrAnd, subst}
 use Rattle.std.proofs.lemmas.Result.{err_from_is_err_and}
-use Rattle.std.specs.Prelude.{IfSome, option_map, nat_lt, nat_le, cond}
+use Rattle.std.specs.Prelude.{IfSome, nat_lt, nat_le, cond}
 use Rattle.std.proofs.lemmas.Bool.{lt-ltb, le-leb, lt-leb}
 use Rattle.gv_model.specs.Tree.{Tree, depth}
 use Rattle.gv_model.specs.Literals.{ValueFault as TheFault}
 use Rattle.gv_syntax.specs.ModelTokens.{fault_at_span}
-use Rattle.gv_infer.specs.Reads.{Reads, HasTypingFault, IsReadFault}
+use Rattle.gv_infer.specs.Reads.{Reads, IsReadFlaw}
 use Rattle.gv_infer.specs.ValueFaults.{fault_of}
-use Rattle.gv_infer.specs.declared.fault.TypingFault.{TypingFault}
-use Rattle.gv_infer.specs.declared.fault.TypingFault.TheVariants as typings
-use Rattle.gv_infer.specs.declared.read_fault.ReadFault.{ReadFault}
-use Rattle.gv_infer.specs.declared.read_fault.ReadFault.TheVariants.{Text, Typing, Value}
-use Rattle.gv_build.specs.Faults.{IsUnbuildable, TooLarge}
-use Rattle.refused.specs.declared.Refused.{Refused}
-use Rattle.refused.specs.declared.Refused.TheVariants.{Fault, Memory}
+use Rattle.gv_infer.specs.declared.fault.TypingFlaw.TheVariants.{NoCommonType, Ambiguous}
+use Rattle.gv_infer.specs.declared.fault.ReadFlaw.{ReadFlaw}
+use Rattle.gv_infer.specs.declared.fault.ReadFlaw.TheVariants.{Text, Typing, Value}
 use Rattle.dconf_model.specs.Bytes.{longest_file}
 use Rattle.dconf_model.specs.Causes.{SettingsCause}
 use Rattle.dconf_model.specs.Causes.SettingsCause.{text_fault, value_fault, too_large}
 use Rattle.dconf_model.specs.Values.{value_of_text, stored, if_storable}
 use Rattle.dconf_model.proofs.ValueLaws.{computed}
 use Rattle.dconf_compile.specs.Added.{text_compiled}
-use Rattle.dconf_compile.specs.CompileFaults.{IsReadCause, build_cause, cause_of}
-use Rattle.dconf_compile.specs.ReadCauses.{read_cause_of}
-use Rattle.dconf_compile.specs.declared.fault.CompileCause.{CompileCause}
-use Rattle.dconf_compile.proofs.Causes.{same_cause}
+use Rattle.dconf_compile.specs.CompileFaults.{read_cause_of}
 use Rattle.dconf_model.proofs.PathMaps.{and_false}
 
 -- the fault of a step is that of the whole
@@ -41,27 +34,11 @@ value_read s v h = computed s (Ok v) (h.syntax, h.tree, (h.type, h.chosen, h.val
 abbrev pub Faults : List ℕ → Option SettingsCause → Type 0
 Faults s o = IfSome o (λ c. value_of_text s ≡ Err c)
 
-untyped : (s : List ℕ) (e : TypingFault) → HasTypingFault s e → Faults s (read_cause_of (Typing e))
-untyped s typings.NoCommonType h = computed s (Err (value_fault TheFault.no_common)) (h.syntax, h.tree, inl h.fault)
-untyped s typings.Ambiguous h = computed s (Err (value_fault TheFault.not_clear)) (h.syntax, h.tree, inl h.fault)
-untyped s typings.Memory h = tt
-
-unvalued : (s : List ℕ) (o : Option TheFault) → IfSome o (λ f. Reads s (Err f)) → Faults s (option_map value_fault o)
-unvalued s (Some f) h = computed s (Err (value_fault f)) (h.syntax, h.tree, inr (h.type, h.chosen, h.value))
-unvalued s None h = tt
-
-pub fault_read : (s : List ℕ) (e : ReadFault) → IsReadFault s e → Faults s (read_cause_of e)
-fault_read s (Text (Fault f)) h = computed s (Err (text_fault (fault_at_span f.cause f.span))) h
-fault_read s (Text Memory) h = tt
-fault_read s (Typing e) h = untyped s e h
-fault_read s (Value e) h = unvalued s (fault_of e) h
-
--- also as the cause that it is made
-pub stops_reading : {A : Type 0} (s : List ℕ) (e : ReadFault) (r : Result A CompileCause) → IsReadFault s e → IsErrAnd r (IsReadCause e)
-    → IfErr r (λ cause. Faults s (cause_of cause))
-stops_reading s e r h stop =
-    let p = err_from_is_err_and r stop in
-    rw p.1 (subst (Faults s) (sym (same_cause e _ p.2)) (fault_read s e h))
+pub fault_read : (s : List ℕ) (f : ReadFlaw) → IsReadFlaw s f → value_of_text s ≡ Err (read_cause_of f)
+fault_read s (Text f) h = computed s (Err (text_fault (fault_at_span f.cause f.span))) h
+fault_read s (Typing NoCommonType) h = computed s (Err (value_fault TheFault.no_common)) (h.syntax, h.tree, inl h.chosen)
+fault_read s (Typing Ambiguous) h = computed s (Err (value_fault TheFault.not_clear)) (h.syntax, h.tree, inl h.chosen)
+fault_read s (Value f) h = computed s (Err (value_fault (fault_of f))) (h.syntax, h.tree, inr (h.type, h.chosen, h.value))
 
 -- the fault of a text is that of compiling it
 pub text_refused : (s : List ℕ) (o : Option SettingsCause) → Faults s o → IfSome o (λ c. text_compiled s ≡ Err c)
@@ -79,10 +56,8 @@ text_stored s v h levels fits =
 unstorable : (v : Tree) (a b : Bool) → (a && b) ≡ false → cond (a && b) (Ok v) (Err too_large) ≡ Err too_large
 unstorable v a b e = rw e refl
 
-pub text_too_large : (s : List ℕ) (v : Tree) (e : Refused TooLarge) → value_of_text s ≡ Ok v → IsUnbuildable ((longest_file < length (stored v)) ⊎ (depth v ≡ 128)) e →
-    IfSome (cause_of (build_cause e)) (λ c. text_compiled s ≡ Err c)
-text_too_large s v Memory h why = tt
-text_too_large s v (Fault _) h why = ap if_storable h ∙ go why
+pub text_too_large : (s : List ℕ) (v : Tree) → value_of_text s ≡ Ok v → (longest_file < length (stored v)) ⊎ (depth v ≡ 128) → text_compiled s ≡ Err too_large
+text_too_large s v h why = ap if_storable h ∙ go why
   where
     go : (longest_file < length (stored v)) ⊎ (depth v ≡ 128) → if_storable (Ok v) ≡ Err too_large
     go (inl long) =

@@ -1,22 +1,27 @@
 -- Which fault of the model a fault of compiling is, if it is one of the files, and how it is printed.
 use Rattle.std.specs.Prelude.{◌≡◌, ℕ, List, Option, Some, None, Result, Err, IfSome, codes, option_map, unwrap_or}
 use Rattle.dconf_model.specs.Causes.{SettingsCause}
-use Rattle.dconf_model.specs.Causes.SettingsCause.{too_big, not_utf8, bad_line, no_group, bad_group, bad_key_name, lock_not_key, path_fault, too_large}
+use Rattle.dconf_model.specs.Causes.SettingsCause.{too_big, not_utf8, bad_line, no_group, bad_group, bad_key_name, lock_not_key, path_fault, text_fault, value_fault, too_large}
 use Rattle.dconf_model.specs.FaultTexts.{cause_text}
 use Rattle.dconf_model.specs.Paths.PathFault.{too_long}
 use Rattle.dconf_model.specs.Sources.{File, FileFault}
 use Rattle.dconf_model.specs.Sources.File.{keyfile, lock_file}
-use Rattle.gv_infer.specs.declared.read_fault.ReadFault.{ReadFault}
-use Rattle.refused.specs.declared.Refused.{Refused}
-use Rattle.refused.specs.declared.Refused.TheVariants as builds
+use Rattle.gv_syntax.specs.ModelTokens.{fault_at_span}
+use Rattle.gv_infer.specs.ValueFaults.{fault_of as value_fault_of, value_flaw}
+use Rattle.gv_infer.specs.declared.fault.ReadFlaw.{ReadFlaw}
+use Rattle.gv_infer.specs.declared.fault.ReadFlaw.TheVariants as texts
 use Rattle.dconf_compile.specs.declared.fault.FileRef.{FileRef}
 use Rattle.dconf_compile.specs.declared.fault.FileRef.TheVariants.{Keyfile, LockFile, Whole}
 use Rattle.dconf_compile.specs.declared.fault.CompileCause.{CompileCause}
 use Rattle.dconf_compile.specs.declared.fault.CompileCause.TheVariants.{TooBig, NotUtf8, BadLine, NoGroup, BadGroup, BadKeyName, LockNotKey, TooLong, Value, TooLarge, Memory}
 use Rattle.dconf_compile.specs.declared.fault.CompileFault.{CompileFault}
-use Rattle.dconf_compile.specs.ReadCauses.{read_cause_of}
 
 -- ---- causes; running out of memory is never the files' fault
+
+abbrev pub read_cause_of : ReadFlaw → SettingsCause
+read_cause_of (texts.Text f) = text_fault (fault_at_span f.cause f.span)
+read_cause_of (texts.Typing f) = value_fault (value_fault_of (value_flaw f))
+read_cause_of (texts.Value f) = value_fault (value_fault_of f)
 
 abbrev pub cause_of : CompileCause → Option SettingsCause
 cause_of TooBig = Some too_big
@@ -27,19 +32,9 @@ cause_of BadGroup = Some bad_group
 cause_of BadKeyName = Some bad_key_name
 cause_of LockNotKey = Some lock_not_key
 cause_of TooLong = Some (path_fault too_long)
-cause_of (Value e) = read_cause_of e.fault
+cause_of (Value f) = Some (read_cause_of f)
 cause_of TooLarge = Some too_large
 cause_of Memory = None
-
--- the cause for a fault of reading a text: `Memory` where a growth was refused
-abbrev pub IsReadCause : ReadFault → CompileCause → Type 0
-IsReadCause fault (Value e) = e.fault ≡ fault
-IsReadCause fault Memory = read_cause_of fault ≡ None
-IsReadCause fault _ = ⊥
-
-abbrev pub build_cause : {F : Type 0} → Refused F → CompileCause
-build_cause (builds.Fault f) = TooLarge
-build_cause builds.Memory = Memory
 
 abbrev pub compile_cause_text : CompileCause → List ℕ
 compile_cause_text cause = unwrap_or (option_map cause_text (cause_of cause)) (codes "Memory")

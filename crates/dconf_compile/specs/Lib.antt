@@ -1,5 +1,4 @@
 pub mod Added
-pub mod ReadCauses
 pub mod CompileFaults
 pub mod LineStops
 pub mod Loading

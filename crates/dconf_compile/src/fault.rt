@@ -2,11 +2,10 @@
 ghost use Rattle.std.specs.Prelude.{◌≡◌, None};
 ghost use Rattle.dconf_compile.specs.CompileFaults.{cause_of, fault_at, fault_of, file_of, no_memory};
 
-use crate::value_cause::ValueCause;
-use gv_build::BuildFault;
-use gv_infer::ReadFault;
+use gv_infer::{ReadFlaw, ValueFlaw};
+use gv_syntax::TextCause;
 use keyfile_core::KeyfileCause;
-use std::alloc::{AllocError, AllocFailed};
+use std::alloc::AllocError;
 use std::error::Error;
 use std::fmt;
 
@@ -41,7 +40,7 @@ pub enum CompileCause {
     /// The path of a key has more than 65,535 bytes.
     TooLong,
     /// The text of a value has none.
-    Value(ValueCause),
+    Value(ReadFlaw),
     /// A value has 128 levels, or more than 4,294,967,295 bytes would be stored for it.
     TooLarge,
     /// A growth was refused, also one while the text of a value was read.
@@ -90,7 +89,8 @@ impl CompileCause {
         ensures { result ≡ is_double_cause_if_any (cause_of self) }
     {
         match self {
-            CompileCause::Value(cause) => cause.is_double(),
+            CompileCause::Value(ReadFlaw::Text(flaw)) => flaw.cause == TextCause::DoubleText,
+            CompileCause::Value(ReadFlaw::Value(flaw)) => flaw == ValueFlaw::DoubleText,
             _ => false,
         }
     }
@@ -112,7 +112,7 @@ impl fmt::Display for CompileCause {
             CompileCause::BadKeyName => f.write_str("BadKeyName"),
             CompileCause::LockNotKey => f.write_str("LockNotKey"),
             CompileCause::TooLong => f.write_str("TooLong"),
-            CompileCause::Value(cause) => write!(f, "{cause}"),
+            CompileCause::Value(flaw) => flaw.fmt(f),
             CompileCause::TooLarge => f.write_str("TooLarge"),
             CompileCause::Memory => f.write_str("Memory"),
         }
@@ -126,7 +126,7 @@ impl fmt::Display for CompileFault {
     ghost output = { λ fault. Some (compile_cause_text fault.cause) };
 
     fn fmt<W: fmt::Write>(&self, f: &mut fmt::Formatter<W>) -> fmt::Result {
-        write!(f, "{}", self.cause)
+        self.cause.fmt(f)
     }
 }
 
@@ -152,32 +152,6 @@ impl From<KeyfileCause> for CompileCause {
     }
 }
 
-impl From<ReadFault> for CompileCause {
-    ghost use Rattle.dconf_compile.specs.CompileFaults.{IsReadCause};
-
-    ghost from_gives = { λ fault cause. IsReadCause fault cause };
-
-    fn from(fault: ReadFault) -> CompileCause {
-        match ValueCause::of(fault) {
-            Some(cause) => CompileCause::Value(cause),
-            None => CompileCause::Memory,
-        }
-    }
-}
-
-impl From<BuildFault> for CompileCause {
-    ghost use Rattle.dconf_compile.specs.CompileFaults.{build_cause};
-
-    ghost from_gives = { λ fault cause. cause ≡ build_cause fault };
-
-    fn from(fault: BuildFault) -> CompileCause {
-        match fault {
-            BuildFault::Fault(_) => CompileCause::TooLarge,
-            BuildFault::Memory => CompileCause::Memory,
-        }
-    }
-}
-
 impl From<AllocError> for CompileCause {
     ghost use Rattle.dconf_compile.specs.declared.fault.CompileCause.TheVariants.{Memory};
 
@@ -192,14 +166,6 @@ impl From<AllocError> for CompileFault {
     ghost from_gives = { λ _ fault. fault ≡ no_memory };
 
     fn from(_error: AllocError) -> CompileFault {
-        CompileFault::memory()
-    }
-}
-
-impl<T: Drop> From<AllocFailed<T>> for CompileFault {
-    ghost from_gives = { λ _ fault. fault ≡ no_memory };
-
-    fn from(_error: AllocFailed<T>) -> CompileFault {
         CompileFault::memory()
     }
 }

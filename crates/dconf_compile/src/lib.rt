@@ -20,7 +20,6 @@ mod order;
 mod rows;
 mod source;
 mod value;
-mod value_cause;
 
 pub use database::compile;
 pub use fault::{CompileCause, CompileFault, FileRef};
@@ -28,4 +27,3 @@ pub use line_stop::LineStop;
 pub use load::{Loaded, RowsBelow};
 pub use source::Source;
 pub use value::value_of_text;
-pub use value_cause::ValueCause;

@@ -39,7 +39,7 @@ impl fmt::Display for LineStop {
     ghost output = { λ stop. Some (compile_cause_text stop.cause) };
 
     fn fmt<W: fmt::Write>(&self, f: &mut fmt::Formatter<W>) -> fmt::Result {
-        write!(f, "{}", self.cause)
+        self.cause.fmt(f)
     }
 }
 

@@ -1,12 +1,12 @@
 //! The order in which keyfiles are taken: the byte order of their names.
-ghost use Rattle.std.specs.Prelude.{◌≡◌, IfOk, IfErr, OnOk, Some, map};
+ghost use Rattle.std.specs.Prelude.{◌≡◌, IfOk, OnOk, Some, map};
 ghost use Rattle.std.specs.List.{enumerate_from};
 ghost use Rattle.dconf_model.specs.Order.{in_order};
 ghost use Rattle.dconf_model.specs.Sources.{first_file, taken};
-ghost use Rattle.dconf_compile.specs.CompileFaults.{file_of, no_memory};
+ghost use Rattle.dconf_compile.specs.CompileFaults.{file_of};
 ghost use Rattle.dconf_compile.specs.Sources.{numbered, sources_of};
 
-use crate::fault::{CompileFault, FileRef};
+use crate::fault::FileRef;
 use crate::source::Source;
 use std::alloc::{AllocError, Global};
 
@@ -21,9 +21,8 @@ pub(crate) struct Numbered<'a> {
 pub(crate) fn in_order<'a>(
     alloc: Global,
     files: &[Source<'a>],
-) -> Result<Vec<Numbered<'a>>, CompileFault>
-    ensures order { IfOk result (λ order. map numbered order.items ≡ taken (sources_of files.entry.now)) }
-    ensures fault { IfErr result (λ e. e ≡ no_memory) }
+) -> Result<Vec<Numbered<'a>>, AllocError>
+    ensures { IfOk result (λ order. map numbered order.items ≡ taken (sources_of files.entry.now)) }
 {
     let mut order = with_numbers(alloc, files)?;
     sort_by_name(&mut order)?;
@@ -31,9 +30,8 @@ pub(crate) fn in_order<'a>(
 }
 
 /// Files with their numbers.
-fn with_numbers<'a>(alloc: Global, files: &[Source<'a>]) -> Result<Vec<Numbered<'a>>, CompileFault>
-    ensures files { IfOk result (λ all. map numbered all.items ≡ enumerate_from 0 (sources_of files.entry.now)) }
-    ensures fault { IfErr result (λ e. e ≡ no_memory) }
+fn with_numbers<'a>(alloc: Global, files: &[Source<'a>]) -> Result<Vec<Numbered<'a>>, AllocError>
+    ensures { IfOk result (λ all. map numbered all.items ≡ enumerate_from 0 (sources_of files.entry.now)) }
 {
     let mut all = Vec::new(alloc);
     for (number, source) in files.iter().enumerate() {

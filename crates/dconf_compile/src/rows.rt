@@ -9,7 +9,7 @@ ghost use Rattle.dconf_compile.specs.CompileFaults.{cause_of};
 use crate::fault::CompileCause;
 use crate::value::value_of_text;
 use dconf_path::MAX_PATH_LEN;
-use gv_build::variant_bytes;
+use gv_build::{BuildFault, variant_bytes};
 use gvdb_write::MapBuilder;
 use keyfile_core::Row;
 use std::alloc::{AllocError, Global};
@@ -59,5 +59,9 @@ fn stored(alloc: Global, text: &str) -> Result<Vec<u8>, CompileCause>
     ensures fault { IfErr result (λ cause. IfSome (cause_of cause) (λ c. text_compiled text.now ≡ Err c)) }
 {
     let value = value_of_text(alloc, text)?;
-    Ok(variant_bytes(alloc, &value)?)
+    match variant_bytes(alloc, &value) {
+        Ok(bytes) => Ok(bytes),
+        Err(BuildFault::Fault(_)) => Err(CompileCause::TooLarge),
+        Err(BuildFault::Memory) => Err(CompileCause::Memory),
+    }
 }

@@ -4,7 +4,7 @@ ghost use Rattle.dconf_model.specs.Values.{value_of_text};
 ghost use Rattle.dconf_compile.specs.CompileFaults.{cause_of};
 
 use crate::fault::CompileCause;
-use gv_infer::read_value;
+use gv_infer::{ReadFault, read_value};
 use gv_tree::Tree;
 use std::alloc::Global;
 
@@ -17,5 +17,9 @@ pub fn value_of_text(alloc: Global, text: &str) -> Result<Tree, CompileCause>
     ensures value { IfOk result (λ v. value_of_text text.now ≡ Ok v) }
     ensures fault { IfErr result (λ cause. IfSome (cause_of cause) (λ c. value_of_text text.now ≡ Err c)) }
 {
-    Ok(read_value(alloc, text)?)
+    match read_value(alloc, text) {
+        Ok(value) => Ok(value),
+        Err(ReadFault::Fault(flaw)) => Err(CompileCause::Value(flaw)),
+        Err(ReadFault::Memory) => Err(CompileCause::Memory),
+    }
 }

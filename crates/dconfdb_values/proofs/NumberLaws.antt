@@ -11,7 +11,7 @@ use Rattle.gv_model.specs.Layout.{basic_size}
 use Rattle.gv_model.specs.Tree.{basic_default}
 use Rattle.gv_model.specs.Tree.Tree.{number}
 use Rattle.gv_model.specs.TypeText.{TypeMark, mark, type_of_text}
-use Rattle.gv_model.specs.TypeText.TypeMark.{letter as mark_of, of_variant, of_array, of_maybe, open_tuple, close_tuple, open_entry, close_entry, other}
+use Rattle.gv_model.specs.TypeText.TypeMark.{letter as mark_of}
 use Rattle.gv_model.proofs.DecodeLaws.{decode_children}
 use Rattle.gv_model.proofs.TypeTextLaws.{mark_letter, type_of_text-spelling}
 use Rattle.gv_model.proofs.TypeTextSound.{IsByteOf, byte_of_mark, spelling_of_read}
@@ -57,9 +57,7 @@ eight_bits basics.Handle b n s one two three four five six seven e = absurd (sev
 eight_bits basics.Int64 b n s one two three four five six seven e = bits_are basics.Int64 int64 b 8 n refl refl e
 eight_bits basics.Uint64 b n s one two three four five six seven e = bits_are basics.Uint64 uint64 b 8 n refl refl e
 eight_bits basics.Double b n s one two three four five six seven e = bits_are basics.Double double b 8 n refl refl e
-eight_bits basics.Text b n s one two three four five six seven e = absurd cc
-eight_bits basics.ObjectPath b n s one two three four five six seven e = absurd cc
-eight_bits basics.Signature b n s one two three four five six seven e = absurd cc
+eight_bits _ b n s one two three four five six seven e = absurd cc
 
 -- ---- the number in bytes
 
@@ -68,9 +66,8 @@ whole_sized size b h = let same : (length b == size) ≡ true = eq-eqb (length b
 
 first_number : (b : List ℕ) → length b ≡ 1 → slice_index_or b 0 0 ≡ number_in b
 unfolding number_in
-first_number [] h = absurd (omega (arith, h))
 first_number (c ∷ []) h = omega arith
-first_number (c ∷ d ∷ b) h = absurd (omega (arith, h))
+first_number _ h = absurd (omega (arith, h))
 
 pub one_sized : (b : List ℕ) → length b ≡ 1 → slice_index_or b 0 0 ≡ sized 1 b
 one_sized b h = first_number b h ∙ whole_sized 1 b h
@@ -115,14 +112,7 @@ number_letter own of e = go (mark own) (byte_of_mark own) e
         let both = sized_is k (basic_size k) of is in
         let same : k ≡ basic_of of = sym (basic_of-basic_type k) ∙ ap basic_of both.0 in
         record { spelled = byte ∙ ap letter same; is_sized = subst (λ (j : Basic). IsSome (basic_size j)) same both.1 }
-    go of_variant byte is = absurd (none-some of is)
-    go of_array byte is = absurd (none-some of is)
-    go of_maybe byte is = absurd (none-some of is)
-    go open_tuple byte is = absurd (none-some of is)
-    go close_tuple byte is = absurd (none-some of is)
-    go open_entry byte is = absurd (none-some of is)
-    go close_entry byte is = absurd (none-some of is)
-    go other byte is = absurd (none-some of is)
+    go _ byte is = absurd (none-some of is)
 
 -- ---- which letter asks for which
 
@@ -158,9 +148,8 @@ number_type_of own asked of is asks =
 -- ---- the same of a text of one byte
 
 single : (text : List ℕ) → length text ≡ 1 → text ≡ slice_index_or text 0 0 ∷ []
-single [] h = absurd (omega (arith, h))
 single (c ∷ []) h = refl
-single (c ∷ d ∷ text) h = absurd (omega (arith, h))
+single _ h = absurd (omega (arith, h))
 
 -- no text of another length is that of a number's type
 pub no_number : (text : List ℕ) (asked : ℕ) → (length text ≡ 1 → ⊥) → IsNumberType text asked → ⊥

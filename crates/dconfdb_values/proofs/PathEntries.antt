@@ -2,10 +2,10 @@
 use Rattle.std.proofs.Common.{◌≡◌, ℕ, List, [], ◌∷◌, Option, Some, None, ap, ap₂, sym, subst, ◌∙◌, inr, arith}
 use Rattle.std.specs.Prelude.{All, MatchOption}
 use Rattle.gv_model.specs.Ty.{Ty, Basic}
-use Rattle.gv_model.specs.Ty.Ty.{basic, variant, array, maybe, tuple, entry}
+use Rattle.gv_model.specs.Ty.Ty.{basic, array, entry}
 use Rattle.gv_model.specs.Ty.Basic.{path}
 use Rattle.gv_model.specs.Tree.{Tree, children, tree_at, type_of}
-use Rattle.gv_model.specs.Tree.Tree.{number, text, node}
+use Rattle.gv_model.specs.Tree.Tree.{text, node}
 use Rattle.gv_model.specs.Decode.{decode}
 use Rattle.gv_model.specs.Parts.{Part, parts, part_trees}
 use Rattle.gv_model.specs.Entries.{IsLookedUp}
@@ -22,19 +22,7 @@ use Rattle.dconfdb_values.specs.Parts.{HasPath, IsFirstPath, IsFound, IsPathDict
 
 found_in_node : (t : Ty) (v : Tree) (key : List ℕ) (f : Option Tree) → type_of v ≡ t → (IsPathDictionary t → ⊥) → IsLookedUp v key f → IsFound v key f
 found_in_node t (node (array (entry path u)) vs) key f e h l = absurd (h (u, sym e))
-found_in_node t (node (array (entry _ u)) vs) key f e h l = l
-found_in_node t (node (array (basic k)) vs) key f e h l = l
-found_in_node t (node (array variant) vs) key f e h l = l
-found_in_node t (node (array (array u)) vs) key f e h l = l
-found_in_node t (node (array (maybe u)) vs) key f e h l = l
-found_in_node t (node (array (tuple us)) vs) key f e h l = l
-found_in_node t (node (basic k) vs) key f e h l = l
-found_in_node t (node variant vs) key f e h l = l
-found_in_node t (node (maybe u) vs) key f e h l = l
-found_in_node t (node (tuple us) vs) key f e h l = l
-found_in_node t (node (entry k u) vs) key f e h l = l
-found_in_node t (number k n) key f e h l = l
-found_in_node t (text k s) key f e h l = l
+found_in_node t _ key f e h l = l
 
 pub found_elsewhere : (d : Ty) (b : List ℕ) (key : List ℕ) (f : Option Tree) → (IsPathDictionary d → ⊥) → IsLookedUp (decode d b) key f → IsFound (decode d b) key f
 found_elsewhere d b key f h l = found_in_node d (decode d b) key f (type_of-decode d b) h l

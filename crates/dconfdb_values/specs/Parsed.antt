@@ -9,13 +9,11 @@ use Rattle.gv_model.specs.Normal.{IsNormal}
 use Rattle.gv_syntax.specs.declared.token.Span.{Span}
 use Rattle.gv_syntax.specs.declared.fault.TextCause.{TextCause}
 use Rattle.gv_syntax.specs.declared.fault.TextCause.TheVariants as causes
-use Rattle.refused.specs.declared.Refused.TheVariants as texts
-use Rattle.gv_infer.specs.Reads.{IsReadFault, Reads}
-use Rattle.gv_infer.specs.TypingValues.{value_fault}
-use Rattle.gv_infer.specs.declared.read_fault.ReadFault.{ReadFault}
-use Rattle.gv_infer.specs.declared.read_fault.ReadFault.TheVariants.{Text, Typing, Value}
-use Rattle.gv_infer.specs.declared.value_fault.ValueFault.{ValueFault}
-use Rattle.gv_infer.specs.declared.value_fault.ValueFault.TheVariants as values
+use Rattle.gv_infer.specs.Reads.{IsReadFlaw, Reads}
+use Rattle.gv_infer.specs.ValueFaults.{value_flaw}
+use Rattle.gv_infer.specs.declared.fault.ReadFlaw.TheVariants.{Text, Typing, Value}
+use Rattle.gv_infer.specs.declared.fault.ValueFlaw.{ValueFlaw}
+use Rattle.gv_infer.specs.declared.fault.ValueFlaw.TheVariants as values
 use Rattle.dconfdb_values.specs.declared.parsing.Unparsed.{Unparsed}
 use Rattle.dconfdb_values.specs.declared.parsing.Unparsed.TheVariants.{Memory, NotText, TooLong, TooLarge, Read}
 
@@ -48,7 +46,7 @@ IsUnparsed text Memory = Unit {0}
 IsUnparsed text NotText = ¬ IsUtf8 text
 IsUnparsed text TooLong = 16777216 < length text
 IsUnparsed text TooLarge = (v : Tree) × Reads text (Ok v) × (limit < length (encode v))
-IsUnparsed text (Read fault) = IsReadFault text fault
+IsUnparsed text (Read flaw) = IsReadFlaw text flaw
 
 -- ---- what C is told of that
 
@@ -60,8 +58,7 @@ text_number causes.Unclosed = 33
 text_number causes.BadEscape = 34
 text_number causes.Unexpected = 35
 
-abbrev pub value_number : ValueFault → ℕ
-value_number values.Memory = 1
+abbrev pub value_number : ValueFlaw → ℕ
 value_number values.TooDeep = 17
 value_number values.DoubleText = 19
 value_number values.NoCommonType = 36
@@ -70,22 +67,18 @@ value_number values.OutOfRange = 38
 value_number values.BadObjectPath = 39
 value_number values.BadSignature = 40
 
-abbrev pub read_number : ReadFault → ℕ
-read_number (Text (texts.Fault f)) = text_number f.cause
-read_number (Text texts.Memory) = 1
-read_number (Typing fault) = value_number (value_fault fault)
-read_number (Value fault) = value_number fault
-
 abbrev pub unparsed_number : Unparsed → ℕ
 unparsed_number Memory = 1
 unparsed_number NotText = 8
 unparsed_number TooLong = 17
 unparsed_number TooLarge = 17
-unparsed_number (Read fault) = read_number fault
+unparsed_number (Read (Text flaw)) = text_number flaw.cause
+unparsed_number (Read (Typing flaw)) = value_number (value_flaw flaw)
+unparsed_number (Read (Value flaw)) = value_number flaw
 
 -- where the text's first fault is, if it is one of its tokens or of its syntax
 abbrev pub place_of : Unparsed → Span
-place_of (Read (Text (texts.Fault f))) = f.span
+place_of (Read (Text flaw)) = flaw.span
 place_of _ = record { start = 0; end = 0 }
 
 -- the number and the place are told

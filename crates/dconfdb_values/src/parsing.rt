@@ -2,12 +2,12 @@
 ghost use Rattle.std.specs.Prelude.{◌≡◌, ◌≢◌, ◌++◌, IfErr, IfOk, IsOk, IsUtf8, length};
 ghost use Rattle.gv_model.specs.Ty.{spelling};
 ghost use Rattle.gv_types.specs.TypeStr.{ty};
-ghost use Rattle.dconfdb_values.specs.Parsed.{IsParsed, IsUnparsed, IsUnwritten, IsWritten, place_of, read_number, text_number, unparsed_number, value_number};
+ghost use Rattle.dconfdb_values.specs.Parsed.{IsParsed, IsUnparsed, IsUnwritten, IsWritten, place_of, text_number, unparsed_number, value_number};
 ghost use Rattle.dconfdb_values.specs.declared.parsing.Unparsed.TheVariants.{Memory};
 
 use gv_build::{BuildFault, serialise};
-use gv_infer::{ReadFault, ValueFault, read_value};
-use gv_syntax::{Span, TextCause, TextFault};
+use gv_infer::{ReadFault, ReadFlaw, ValueFlaw, read_value};
+use gv_syntax::{Span, TextCause};
 use gv_tree::Tree;
 use gv_types::TypeStr;
 use std::alloc::Global;
@@ -35,7 +35,7 @@ pub enum Unparsed {
     /// The value has over 4,294,967,295 bytes.
     TooLarge,
     /// It is no text of a value.
-    Read(ReadFault),
+    Read(ReadFlaw),
 }
 
 impl Unparsed {
@@ -48,7 +48,9 @@ impl Unparsed {
             Unparsed::Memory => 1,
             Unparsed::NotText => 8,
             Unparsed::TooLong | Unparsed::TooLarge => 17,
-            Unparsed::Read(fault) => number_of_read(fault),
+            Unparsed::Read(ReadFlaw::Text(flaw)) => number_of_text(flaw.cause),
+            Unparsed::Read(ReadFlaw::Typing(flaw)) => number_of_value(ValueFlaw::from(flaw)),
+            Unparsed::Read(ReadFlaw::Value(flaw)) => number_of_value(flaw),
         }
     }
 
@@ -57,26 +59,13 @@ impl Unparsed {
         ensures { result ≡ place_of self }
     {
         match self {
-            Unparsed::Read(ReadFault::Text(TextFault::Fault(flaw))) => flaw.span,
+            Unparsed::Read(ReadFlaw::Text(flaw)) => flaw.span,
             _ => Span { start: 0, end: 0 },
         }
     }
 }
 
-/// The number of a fault of a text in GVariant's format.
-fn number_of_read(fault: ReadFault) -> u32
-    ensures number { result ≡ read_number fault }
-    ensures some { result ≢ 0 }
-{
-    match fault {
-        ReadFault::Text(TextFault::Fault(flaw)) => number_of_text(flaw.cause),
-        ReadFault::Text(TextFault::Memory) => 1,
-        ReadFault::Typing(fault) => number_of_value(ValueFault::from(fault)),
-        ReadFault::Value(fault) => number_of_value(fault),
-    }
-}
-
-/// That of a fault of its tokens or of its syntax.
+/// The number of a fault of a text's tokens or of its syntax.
 fn number_of_text(cause: TextCause) -> u32
     ensures number { result ≡ text_number cause }
     ensures some { result ≢ 0 }
@@ -92,19 +81,18 @@ fn number_of_text(cause: TextCause) -> u32
 }
 
 /// That of a fault of its type or of its value.
-fn number_of_value(fault: ValueFault) -> u32
-    ensures number { result ≡ value_number fault }
+fn number_of_value(flaw: ValueFlaw) -> u32
+    ensures number { result ≡ value_number flaw }
     ensures some { result ≢ 0 }
 {
-    match fault {
-        ValueFault::Memory => 1,
-        ValueFault::TooDeep => 17,
-        ValueFault::DoubleText => 19,
-        ValueFault::NoCommonType => 36,
-        ValueFault::Ambiguous => 37,
-        ValueFault::OutOfRange => 38,
-        ValueFault::BadObjectPath => 39,
-        ValueFault::BadSignature => 40,
+    match flaw {
+        ValueFlaw::TooDeep => 17,
+        ValueFlaw::DoubleText => 19,
+        ValueFlaw::NoCommonType => 36,
+        ValueFlaw::Ambiguous => 37,
+        ValueFlaw::OutOfRange => 38,
+        ValueFlaw::BadObjectPath => 39,
+        ValueFlaw::BadSignature => 40,
     }
 }
 
@@ -128,7 +116,8 @@ pub fn value_of_text(alloc: Global, text: &[u8]) -> Result<Parsed, Unparsed>
     }
     match read_value(alloc, text) {
         Ok(tree) => written(alloc, &tree),
-        Err(fault) => Err(Unparsed::Read(fault)),
+        Err(ReadFault::Fault(flaw)) => Err(Unparsed::Read(flaw)),
+        Err(ReadFault::Memory) => Err(Unparsed::Memory),
     }
 }
 

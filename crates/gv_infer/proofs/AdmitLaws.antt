@@ -2,8 +2,8 @@
 use Rattle.std.proofs.Common.{◌≡◌, ◌↔◌, Bool, List, [], ◌∷◌, refl, sym, ap, ◌∙◌}
 use Rattle.std.specs.Prelude.{IsTrue}
 use Rattle.gv_model.specs.Ty.{Ty, Types, spelling, type_list, types_from}
-use Rattle.gv_model.specs.Ty.Ty.{basic, variant, array, maybe, tuple, entry}
-use Rattle.gv_model.specs.Ty.Basic.{boolean, byte, int16, uint16, int32, uint32, int64, uint64, handle, double, string, path, signature}
+use Rattle.gv_model.specs.Ty.Ty.{basic, variant, array}
+use Rattle.gv_model.specs.Ty.Basic.{boolean, byte}
 use Rattle.gv_model.specs.Syntax.{Syntaxes}
 use Rattle.gv_model.specs.Admits.{AlsoMaybe, Admit}
 use Rattle.gv_model.proofs.ListLaws.{types_from-listed}
@@ -23,31 +23,11 @@ also_where_bare P b t u e h =
 
 pub is_boolean : (t : Ty) (c : Class) → c ≡ class_of t → (c ≡ classes.Basic basics.Boolean) ↔ (t ≡ basic boolean)
 is_boolean (basic boolean) c h = (λ e. refl, λ e. h)
-is_boolean (basic byte) c h = (λ e. absurd cc, λ e. absurd cc)
-is_boolean (basic int16) c h = (λ e. absurd cc, λ e. absurd cc)
-is_boolean (basic uint16) c h = (λ e. absurd cc, λ e. absurd cc)
-is_boolean (basic int32) c h = (λ e. absurd cc, λ e. absurd cc)
-is_boolean (basic uint32) c h = (λ e. absurd cc, λ e. absurd cc)
-is_boolean (basic int64) c h = (λ e. absurd cc, λ e. absurd cc)
-is_boolean (basic uint64) c h = (λ e. absurd cc, λ e. absurd cc)
-is_boolean (basic handle) c h = (λ e. absurd cc, λ e. absurd cc)
-is_boolean (basic double) c h = (λ e. absurd cc, λ e. absurd cc)
-is_boolean (basic string) c h = (λ e. absurd cc, λ e. absurd cc)
-is_boolean (basic path) c h = (λ e. absurd cc, λ e. absurd cc)
-is_boolean (basic signature) c h = (λ e. absurd cc, λ e. absurd cc)
-is_boolean variant c h = (λ e. absurd cc, λ e. absurd cc)
-is_boolean (array t) c h = (λ e. absurd cc, λ e. absurd cc)
-is_boolean (maybe t) c h = (λ e. absurd cc, λ e. absurd cc)
-is_boolean (tuple ts) c h = (λ e. absurd cc, λ e. absurd cc)
-is_boolean (entry k t) c h = (λ e. absurd cc, λ e. absurd cc)
+is_boolean _ c h = (λ e. absurd cc, λ e. absurd cc)
 
 pub is_variant : (t : Ty) (c : Class) → c ≡ class_of t → (c ≡ classes.Variant) ↔ (t ≡ variant)
 is_variant variant c h = (λ e. refl, λ e. h)
-is_variant (basic k) c h = (λ e. absurd cc, λ e. absurd cc)
-is_variant (array t) c h = (λ e. absurd cc, λ e. absurd cc)
-is_variant (maybe t) c h = (λ e. absurd cc, λ e. absurd cc)
-is_variant (tuple ts) c h = (λ e. absurd cc, λ e. absurd cc)
-is_variant (entry k t) c h = (λ e. absurd cc, λ e. absurd cc)
+is_variant _ c h = (λ e. absurd cc, λ e. absurd cc)
 
 pub is_byte_array : (t : Ty) (s : List _) → s ≡ spelling t → (s ≡ 97 ∷ 121 ∷ []) ↔ (t ≡ array (basic byte))
 unfolding spelling

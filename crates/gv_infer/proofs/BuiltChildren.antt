@@ -2,7 +2,7 @@
 use Rattle.std.proofs.Common.{◌≡◌, Option, Some, None, Result, Ok, Err, refl, sym, ap, ◌∙◌, subst}
 use Rattle.std.specs.Global.{Vec}
 use Rattle.gv_model.specs.Ty.{Ty, Types, members}
-use Rattle.gv_model.specs.Ty.Ty.{basic, variant, array, maybe, tuple, entry}
+use Rattle.gv_model.specs.Ty.Ty.{basic, maybe, tuple, entry}
 use Rattle.gv_model.specs.Ty.Types.{end, member}
 use Rattle.gv_model.specs.Tree.{Tree, Trees, type_of}
 use Rattle.gv_model.specs.Tree.Tree.{node}
@@ -22,7 +22,8 @@ use Rattle.gv_infer.specs.BareTypes.{AreEntryTypes}
 use Rattle.gv_infer.specs.Building.{BuildsTo, IsBuilt, entry_node}
 use Rattle.gv_infer.specs.Children.{IsBuiltFrom, AllBuildTo, with_last, all_before, AllOfType, IsTupleTypeOf, AreBuilt, IsBuiltSoFar}
 use Rattle.gv_infer.specs.declared.children.BuiltTrees.{BuiltTrees}
-use Rattle.gv_infer.specs.declared.value_fault.ValueFault.{ValueFault}
+use Rattle.refused.specs.declared.Refused.{Refused}
+use Rattle.gv_infer.specs.declared.fault.ValueFlaw.{ValueFlaw}
 use Rattle.gv_infer.proofs.MadeTrees.{fault_as}
 
 before_after : (vs : Trees) (v : Tree) (rest : Result Trees TheFault) → all_before (with_last vs v) rest ≡ all_before vs (with_first (Ok v) rest)
@@ -52,7 +53,7 @@ held_next whole rest left child old new o h e b p = record {
 }
 
 -- a child that has a fault, after others that have none
-pub held_fault : (whole rest left : Result Trees TheFault) (child : Result Tree TheFault) (c : BuiltTrees) (e : ValueFault) → IsBuiltSoFar whole rest c → rest ≡ with_first child left → IsBuilt child (Err e) → AreBuilt whole (Err e)
+pub held_fault : (whole rest left : Result Trees TheFault) (child : Result Tree TheFault) (c : BuiltTrees) (e : Refused ValueFlaw) → IsBuiltSoFar whole rest c → rest ≡ with_first child left → IsBuilt child (Err e) → AreBuilt whole (Err e)
 held_fault whole rest left child c e h is b = fault_as (λ f. child ≡ Err f) (λ f. whole ≡ Err f) e (λ f g. h.more ∙ before_fault h.prefix rest f (is ∙ ap (λ x. with_first x left) g)) b
 
 -- the last child was there
@@ -87,11 +88,7 @@ node_has_type t (Err f) v e = absurd cc
 
 entry_has_type : (f g : Ty → Result Tree TheFault) (t : Ty) (v : Tree) → at_entry f g t ≡ Ok v → type_of v ≡ t
 entry_has_type f g (entry k t) v e = node_has_type (entry k t) (with_first (f (basic k)) (only_one (g t))) v e
-entry_has_type f g (basic k) v e = absurd cc
-entry_has_type f g variant v e = absurd cc
-entry_has_type f g (array t) v e = absurd cc
-entry_has_type f g (maybe t) v e = absurd cc
-entry_has_type f g (tuple ts) v e = absurd cc
+entry_has_type f g _ v e = absurd cc
 
 pub elements_typed : (choose : Syntax → Choice) (xs : Syntaxes) (t : Ty) (us : Trees) → elements choose xs t ≡ Ok us → AllOf t us
 unfolding literal_value
@@ -126,36 +123,24 @@ all_of_type t r None typed b = tt
 pub are_members : (choose : Syntax → Choice) (xs : Syntaxes) (t : Ty) (o : Option (Vec Tree)) → IsTupleOf (Admit xs) t → AreBuilt (members_of choose xs (members t)) (Ok o) → IsTupleTypeOf t o
 are_members choose xs (tuple ts) (Some trees) h b = ap tuple (sym (members_typed choose xs ts b.0 h b.1) ∙ ap types_of b.2)
 are_members choose xs t None h b = tt
-are_members choose xs (basic k) (Some trees) h b = absurd h
-are_members choose xs variant (Some trees) h b = absurd h
-are_members choose xs (array t) (Some trees) h b = absurd h
-are_members choose xs (maybe t) (Some trees) h b = absurd h
-are_members choose xs (entry k t) (Some trees) h b = absurd h
+are_members choose xs _ (Some trees) h b = absurd h
 
 -- a value after `just`
-pub just_built : (f : Ty → Result Tree TheFault) (t u : Ty) (child : Option Tree) (r : Result (Option Tree) ValueFault) → t ≡ maybe u → IsBuilt (f u) (Ok child) → ((v : Tree) → BuildsTo child v → IsBuilt (Ok (node (maybe u) (first v none))) r) → IsBuilt (at_maybe (λ x. only_one (f x)) t) r
+pub just_built : (f : Ty → Result Tree TheFault) (t u : Ty) (child : Option Tree) (r : Result (Option Tree) (Refused ValueFlaw)) → t ≡ maybe u → IsBuilt (f u) (Ok child) → ((v : Tree) → BuildsTo child v → IsBuilt (Ok (node (maybe u) (first v none))) r) → IsBuilt (at_maybe (λ x. only_one (f x)) t) r
 just_built f t u child r e b j = rw e (subst (λ x. IsBuilt (in_node (maybe u) (only_one x)) r) (sym b.1) (j b.0 b.2))
 
 -- an entry of a key and a value that are built
 pub entry_built : (f g : Ty → Result Tree TheFault) (t : Ty) (o : Option (TypeStr × TypeStr)) (p : TypeStr × TypeStr) (key value : Option Tree)
-    (r : Result (Option Tree) ValueFault) → AreEntryTypes t o → o ≡ Some p → IsBuilt (f (ty p.0)) (Ok key) → IsBuilt (g (ty p.1)) (Ok value)
+    (r : Result (Option Tree) (Refused ValueFlaw)) → AreEntryTypes t o → o ≡ Some p → IsBuilt (f (ty p.0)) (Ok key) → IsBuilt (g (ty p.1)) (Ok value)
     → ((u v : Tree) → BuildsTo key u → BuildsTo value v → IsBuilt (Ok (entry_node t u v)) r) → IsBuilt (at_entry f g t) r
 entry_built f g (entry k t) o p key value r h e b d m =
     let types = subst (AreEntryTypes (entry k t)) e h in
     let is_key = ap f (sym types.0) ∙ b.1 in
     let is_value = ap g (sym types.1) ∙ d.1 in
     rw (is_key, is_value) (m b.0 d.0 b.2 d.2)
-entry_built f g (basic k) o p key value r h e b d m = absurd (subst (AreEntryTypes (basic k)) e h)
-entry_built f g variant o p key value r h e b d m = absurd (subst (AreEntryTypes variant) e h)
-entry_built f g (array t) o p key value r h e b d m = absurd (subst (AreEntryTypes (array t)) e h)
-entry_built f g (maybe t) o p key value r h e b d m = absurd (subst (AreEntryTypes (maybe t)) e h)
-entry_built f g (tuple ts) o p key value r h e b d m = absurd (subst (AreEntryTypes (tuple ts)) e h)
+entry_built f g t o p key value r h e b d m = absurd (subst (AreEntryTypes t) e h)
 
 -- what is asked of the entries of a dictionary, of the first and of the others
 pub pair_fits : (k v : Syntax) (ps : Pairs) (t : Ty) → IsEntryOf (KeysAdmit (pair k v ps)) (ValuesAdmit (pair k v ps)) t → IsEntryOf (Admits k) (Admits v) t × IsEntryOf (KeysAdmit ps) (ValuesAdmit ps) t
 pair_fits k v ps (entry a b) h = ((h.0.0, h.1.0), (h.0.1, h.1.1))
-pair_fits k v ps (basic a) h = absurd h
-pair_fits k v ps variant h = absurd h
-pair_fits k v ps (array b) h = absurd h
-pair_fits k v ps (maybe b) h = absurd h
-pair_fits k v ps (tuple ts) h = absurd h
+pair_fits k v ps _ h = absurd h

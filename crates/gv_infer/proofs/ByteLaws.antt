@@ -13,10 +13,10 @@ use Rattle.gv_model.specs.Admits.{IsArrayOf}
 use Rattle.gv_types.specs.TypeStr.{ty, element_of}
 use Rattle.gv_types.specs.declared.type_str.TypeStr.{TypeStr}
 use Rattle.gv_tree.specs.Nodes.{trees_of}
-use Rattle.gv_infer.proofs.BuildLaws.{HoldsAtArray, array_holds}
+use Rattle.gv_infer.proofs.BuildLaws.{HoldsAt, array_holds}
 
 -- the element of an array of bytes
-pub byte_element : (t : Ty) (o : Option TypeStr) (e : TypeStr) → t ≡ array (basic byte) → option_map ty o ≡ element_of t → o ≡ Some e → HoldsAtArray (λ u. u ≡ basic byte) t (ty e)
+pub byte_element : (t : Ty) (o : Option TypeStr) (e : TypeStr) → t ≡ array (basic byte) → option_map ty o ≡ element_of t → o ≡ Some e → HoldsAt array (λ u. u ≡ basic byte) t (ty e)
 byte_element t o e h g s = array_holds (λ u. u ≡ basic byte) t o e (subst (IsArrayOf (λ u. u ≡ basic byte)) (sym h) refl) g s
 
 -- a zero byte comes after the bytes

@@ -47,64 +47,44 @@ pub record Tells (c : Choice) (text : List ℕ) (f : Found) : Type 0 where
   pub one_of_many : is_type text ≡ true → f ≡ Many → c ≡ ambiguous
   pub alone : is_type text ≡ true → f ≡ Least → c ≡ is (type_at text)
 
-least_is_many : Least ≡ Many → ⊥
-least_is_many e = cc
-
-nowhere_is_many : Nowhere ≡ Many → ⊥
-nowhere_is_many e = cc
-
-nowhere_is_least : Nowhere ≡ Least → ⊥
-nowhere_is_least e = cc
-
-many_is_least : Many ≡ Least → ⊥
-many_is_least e = cc
-
-least_is_nowhere : Least ≡ Nowhere → ⊥
-least_is_nowhere e = cc
-
-many_is_nowhere : Many ≡ Nowhere → ⊥
-many_is_nowhere e = cc
+deep_tells : (t : Ty) (f : Found) → nat_le (nesting t) 128 ≡ false → Tells no_common_type (spelling t) f
+deep_tells t f e = record {
+  none_found = λ h. refl;
+  no_type = λ h. refl;
+  one_of_many = λ h m. absurd (no_text t e h);
+  alone = λ h l. absurd (no_text t e h);
+}
 
 least_tells : (t : Ty) → length (spelling t) ≤ 67108864 → Tells (choice_from (least t)) (spelling t) Least
 least_tells t short = go (nat_le (nesting t) 128) refl
   where
     go : (b : Bool) → nat_le (nesting t) 128 ≡ b → Tells (if b then is t else no_common_type) (spelling t) Least
     go true e = let text = text_of_type t (spelling t) refl (limits t (spelling t) e short) in record {
-      none_found = λ h. absurd (least_is_nowhere h);
+      none_found = λ h. absurd cc;
       no_type = λ h. absurd (h text.checked);
-      one_of_many = λ h m. absurd (least_is_many m);
+      one_of_many = λ h m. absurd cc;
       alone = λ h l. ap is (sym text.type);
     }
-    go false e = record {
-      none_found = λ h. refl;
-      no_type = λ h. refl;
-      one_of_many = λ h m. absurd (no_text t e h);
-      alone = λ h l. absurd (no_text t e h);
-    }
+    go false e = deep_tells t Least e
 
 many_tells : (t : Ty) → length (spelling t) ≤ 67108864 → Tells (choice_from (many t)) (spelling t) Many
 many_tells t short = go (nat_le (nesting t) 128) refl
   where
     go : (b : Bool) → nat_le (nesting t) 128 ≡ b → Tells (if b then ambiguous else no_common_type) (spelling t) Many
     go true e = let text = text_of_type t (spelling t) refl (limits t (spelling t) e short) in record {
-      none_found = λ h. absurd (many_is_nowhere h);
+      none_found = λ h. absurd cc;
       no_type = λ h. absurd (h text.checked);
       one_of_many = λ h m. refl;
-      alone = λ h l. absurd (many_is_least l);
+      alone = λ h l. absurd cc;
     }
-    go false e = record {
-      none_found = λ h. refl;
-      no_type = λ h. refl;
-      one_of_many = λ h m. absurd (no_text t e h);
-      alone = λ h l. absurd (no_text t e h);
-    }
+    go false e = deep_tells t Many e
 
 spelled_tells : (l : TheLeast) (text : List ℕ) → Short l 67108864 → Spelled l [] text → Tells (choice_from l) text (found_of l)
 spelled_tells nowhere text short h = record {
   none_found = λ e. refl;
   no_type = λ e. refl;
-  one_of_many = λ e m. absurd (nowhere_is_many m);
-  alone = λ e l. absurd (nowhere_is_least l);
+  one_of_many = λ e m. absurd cc;
+  alone = λ e l. absurd cc;
 }
 spelled_tells (least t) text short h = subst (λ w. Tells (choice_from (least t)) w Least) (sym h) (least_tells t short)
 spelled_tells (many t) text short h = subst (λ w. Tells (choice_from (many t)) w Many) (sym h) (many_tells t short)

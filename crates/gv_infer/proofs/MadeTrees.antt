@@ -1,7 +1,7 @@
 -- What the constructors of trees give, and how deep it is.
 use Rattle.std.proofs.Common.{ℕ, ◌<◌, ◌≤◌, ◌≡◌, ◌++◌, max, List, [], ◌∷◌, Bool, true, false, Option, Some, None, Result, Ok, Err, IfOk, IfErr, refl, sym, ap, ◌∙◌, arith, subst, inl, inr}
 use Rattle.gv_model.specs.Ty.{Ty, Basic, spelling, nesting}
-use Rattle.gv_model.specs.Ty.Ty.{basic, variant, array, maybe, tuple, entry}
+use Rattle.gv_model.specs.Ty.Ty.{basic, variant, maybe, tuple, entry}
 use Rattle.gv_model.specs.TypeText.{is_type, type_at}
 use Rattle.gv_model.specs.Tree.{Tree, Trees, type_of, children, depth, greatest_depth}
 use Rattle.gv_model.specs.Tree.Tree.{node}
@@ -17,6 +17,7 @@ use Rattle.gv_tree.specs.Wholes.{IsWhole, entry_tree, entry_at_key}
 use Rattle.refused.specs.declared.Refused.{Refused}
 use Rattle.refused.specs.declared.Refused.TheVariants.{Fault, Memory}
 use Rattle.refused.specs.Faults.{OfFault}
+use Rattle.refused.proofs.Faults.{OfFault-weaker}
 use Rattle.gv_tree.specs.declared.fault.TreeFlaw.{TreeFlaw}
 use Rattle.gv_tree.proofs.MadeLaws.{size_at_fault}
 use Rattle.gv_tree.specs.declared.fault.TreeFlaw.TheVariants as tree_faults
@@ -25,8 +26,8 @@ use Rattle.gv_infer.specs.ValueFaults.{FaultIs, fault_of}
 use Rattle.gv_infer.specs.Building.{BuildsTo, IsBuilt, IsWithinLimits, IsContainerFault, IsConstructed, IsConstructedOf, IsNoneOrOfType, AreEntryParts, entry_node}
 use Rattle.gv_infer.specs.Children.{AreKeptIf, with_last, AllBuildTo, AllOfType, IsTupleTypeOf}
 use Rattle.std.specs.Global.{Vec}
-use Rattle.std.proofs.lemmas.Option.{IfSome_then, same_Some}
-use Rattle.gv_infer.specs.declared.value_fault.ValueFault.{ValueFault}
+use Rattle.std.proofs.lemmas.Option.{same_Some}
+use Rattle.gv_infer.specs.declared.fault.ValueFlaw.{ValueFlaw}
 
 -- the type of a checked text is within the limits
 pub within_type : (w : List ℕ) → is_type w ≡ true → IsWithinLimits (type_at w)
@@ -43,11 +44,7 @@ container_of w (Err (Fault tree_faults.TooDeep)) h e g (inl f) = record { may = 
 container_of w (Err (Fault tree_faults.TooDeep)) h e g (inr f) = absurd (omega (arith, f, (limits_of _ _ h).0))
 container_of w (Err Memory) h e g f = record { may = tt; made = tt; typed = tt }
 container_of w (Err (Fault tree_faults.TooLarge)) h e g f = absurd (omega (arith, f.long, (limits_of _ _ h).1))
-container_of w (Err (Fault tree_faults.HasNul)) h e g f = absurd f
-container_of w (Err (Fault tree_faults.BadObjectPath)) h e g f = absurd f
-container_of w (Err (Fault tree_faults.BadSignature)) h e g f = absurd f
-container_of w (Err (Fault (tree_faults.WrongType i))) h e g f = absurd f
-container_of w (Err (Fault tree_faults.KeyNotBasic)) h e g f = absurd f
+container_of w (Err _) h e g f = absurd f
 
 pub content_of : (t : Ty) (w : Tree) (made : Result Tree (Refused TreeFlaw)) → AllOf t (children w) → IsWithinLimits (type_of w) → IfOk made (λ u. u ≡ w) → IfOk made IsWhole → IfErr made (IsContentFault t w) → IsContainer w made
 content_of t w (Ok u) a h e g f = container_of w (Ok u) h e g tt
@@ -81,43 +78,31 @@ pub deep_value : (t : Ty) (u v : Tree) → 128 < depth v → 128 < depth (entry_
 unfolding depth
 deep_value t u v h = omega (arith, h)
 
-pub fault_as : (P Q : TheFault → Type 0) (e : ValueFault) → ((f : TheFault) → P f → Q f) → FaultIs P e → FaultIs Q e
-fault_as P Q e h f = IfSome_then (fault_of e) f h
+pub fault_as : (P Q : TheFault → Type 0) (e : Refused ValueFlaw) → ((f : TheFault) → P f → Q f) → FaultIs P e → FaultIs Q e
+fault_as P Q e h f = OfFault-weaker (λ x. P (fault_of x)) (λ x. Q (fault_of x)) (λ x. h (fault_of x)) e f
 
-pub maybe_built : (f : Ty → Result Tree TheFault) (t u : Ty) (child : Option Tree) (r : Result (Option Tree) ValueFault) → t ≡ maybe u → IsBuilt (at_maybes f u) (Ok child) → ((v : Tree) → BuildsTo child v → IsBuilt (Ok (node (maybe u) (first v none))) r) → IsBuilt (at_maybes f t) r
+pub maybe_built : (f : Ty → Result Tree TheFault) (t u : Ty) (child : Option Tree) (r : Result (Option Tree) (Refused ValueFlaw)) → t ≡ maybe u → IsBuilt (at_maybes f u) (Ok child) → ((v : Tree) → BuildsTo child v → IsBuilt (Ok (node (maybe u) (first v none))) r) → IsBuilt (at_maybes f t) r
 maybe_built f t u child r e b j = rw e (subst (λ x. IsBuilt (in_node (maybe u) (only_one x)) r) (sym b.1) (j b.0 b.2))
 
-pub maybe_fault : (f : Ty → Result Tree TheFault) (t u : Ty) (e : ValueFault) → t ≡ maybe u → IsBuilt (at_maybes f u) (Err e) → IsBuilt (at_maybes f t) (Err e)
+pub maybe_fault : (f : Ty → Result Tree TheFault) (t u : Ty) (e : Refused ValueFlaw) → t ≡ maybe u → IsBuilt (at_maybes f u) (Err e) → IsBuilt (at_maybes f t) (Err e)
 maybe_fault f t u e h b = rw h (fault_as (λ x. at_maybes f u ≡ Err x) (λ x. at_maybes f (maybe u) ≡ Err x) e (λ x g. ap (λ y. in_node (maybe u) (only_one y)) g) b)
 
 lower : (t : Ty) → nesting (bare_type t) ≤ nesting t
 unfolding nesting
 lower (maybe t) = omega (arith, lower t)
-lower (basic k) = omega arith
-lower variant = omega arith
-lower (array t) = omega arith
-lower (tuple ts) = omega arith
-lower (entry k t) = omega arith
+lower _ = omega arith
 
 no_less : (t : Ty) → maybe t ≡ bare_type t → ⊥
 unfolding nesting
 no_less t e = omega (arith, lower t, ap nesting e)
 
-pub not_maybe_built : (f : Ty → Result Tree TheFault) (t : Ty) (r : Result (Option Tree) ValueFault) → t ≡ bare_type t → IsBuilt (f (bare_type t)) r → IsBuilt (at_maybes f t) r
+pub not_maybe_built : (f : Ty → Result Tree TheFault) (t : Ty) (r : Result (Option Tree) (Refused ValueFlaw)) → t ≡ bare_type t → IsBuilt (f (bare_type t)) r → IsBuilt (at_maybes f t) r
 not_maybe_built f (maybe t) r e b = absurd (no_less t e)
-not_maybe_built f (basic k) r e b = b
-not_maybe_built f variant r e b = b
-not_maybe_built f (array t) r e b = b
-not_maybe_built f (tuple ts) r e b = b
-not_maybe_built f (entry k t) r e b = b
+not_maybe_built f _ r e b = b
 
 pub entry_key : (t : Ty) (key value : Option Tree) (u v : Tree) → key ≡ Some u → value ≡ Some v → AreEntryParts t key value → (k : Basic) × (t ≡ entry k (type_of v)) × (type_of u ≡ basic k)
 entry_key (entry k t) key value u v e g h = let typed = typed_some t value v g h.1 in (k, ap (entry k) (sym typed), typed_some (basic k) key u e h.0)
-entry_key (basic k) key value u v e g h = absurd h
-entry_key variant key value u v e g h = absurd h
-entry_key (array t) key value u v e g h = absurd h
-entry_key (maybe t) key value u v e g h = absurd h
-entry_key (tuple ts) key value u v e g h = absurd h
+entry_key _ key value u v e g h = absurd h
 
 -- what making an entry gives
 pub entry_made : (t : Ty) (k : Basic) (u v : Tree) (made : Result Tree (Refused TreeFlaw)) → t ≡ entry k (type_of v) → type_of u ≡ basic k → IsWithinLimits t → IfOk made (λ w. Some w ≡ entry_tree u v) → IfOk made IsWhole → IfErr made (IsEntryFault (entry_tree u v)) → IsContainer (entry_node t u v) made

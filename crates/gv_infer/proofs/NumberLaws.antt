@@ -2,7 +2,7 @@
 use Rattle.std.proofs.Common.{ℕ, ◌≡◌, Bool, Option, Some, None, Result, Ok, sym, ap, ◌∙◌}
 use Rattle.gv_model.specs.Ty.{Ty, Basic}
 use Rattle.gv_model.specs.Ty.Ty.{basic}
-use Rattle.gv_model.specs.Ty.Basic.{boolean, byte, int16, uint16, int32, uint32, int64, uint64, handle, double, string, path, signature}
+use Rattle.gv_model.specs.Ty.Basic.{double}
 use Rattle.gv_model.specs.Tree.{Tree, type_of}
 use Rattle.gv_model.specs.Tree.Tree.{number}
 use Rattle.gv_model.specs.Literals.{ValueFault, integer_at, or_out_of_range}
@@ -26,18 +26,7 @@ ranged k None v e = absurd cc
 
 pub number_is : (k : Basic) (negative : Bool) (n : ℕ) (v : Tree) → integer_at k negative n ≡ Ok v → IsNumberTree k (integer_at k negative n) v
 number_is double negative n v e = absurd cc
-number_is boolean negative n v e = ranged boolean _ v e
-number_is byte negative n v e = ranged byte _ v e
-number_is int16 negative n v e = ranged int16 _ v e
-number_is uint16 negative n v e = ranged uint16 _ v e
-number_is int32 negative n v e = ranged int32 _ v e
-number_is uint32 negative n v e = ranged uint32 _ v e
-number_is int64 negative n v e = ranged int64 _ v e
-number_is uint64 negative n v e = ranged uint64 _ v e
-number_is handle negative n v e = ranged handle _ v e
-number_is string negative n v e = ranged string _ v e
-number_is path negative n v e = ranged path _ v e
-number_is signature negative n v e = ranged signature _ v e
+number_is k negative n v e = ranged k _ v e
 
 pub basic_class : (t : Ty) (c : Class) (b : BasicType) → c ≡ class_of t → c ≡ classes.Basic b → t ≡ basic (basic_of b)
 basic_class t c b h e = basic_of_class t b (sym e ∙ h)

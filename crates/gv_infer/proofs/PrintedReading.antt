@@ -6,21 +6,22 @@ use Rattle.gv_model.specs.Printed.{printed}
 use Rattle.gv_model.specs.Syntax.{Syntax}
 use Rattle.gv_model.specs.Parsing.{IsTree}
 use Rattle.gv_model.specs.Chosen.{Choice}
-use Rattle.gv_model.specs.Chosen.Choice.{is, no_common_type, ambiguous}
+use Rattle.gv_model.specs.Chosen.Choice.{is}
 use Rattle.gv_model.specs.Literals.{ValueFault as TheFault}
-use Rattle.gv_model.specs.Literals.ValueFault.{no_common, not_clear, out_of_range, bad_object_path, bad_signature, double_text, too_deep}
 use Rattle.gv_model.specs.TextValues.{HasChoice, HasValue}
 use Rattle.gv_model.specs.PrintedLaws.{ReadsBack}
 use Rattle.gv_model.proofs.TextOutcomes.{one_outcome, tree_no_fault}
 use Rattle.gv_model.proofs.PrintedReadBack.{reads_back}
-use Rattle.refused.specs.declared.Refused.TheVariants as texts
+use Rattle.refused.proofs.Faults.{only_memory}
 use Rattle.gv_syntax.specs.ModelTokens.{fault_at_span}
-use Rattle.gv_infer.specs.declared.fault.TypingFault.TheVariants as types
-use Rattle.gv_infer.specs.declared.value_fault.ValueFault.TheVariants as values
-use Rattle.gv_infer.specs.declared.read_fault.ReadFault.{ReadFault}
-use Rattle.gv_infer.specs.declared.read_fault.ReadFault.TheVariants.{Text, Typing, Value}
-use Rattle.gv_infer.specs.Reads.{Reads, IsReadFault}
-use Rattle.gv_infer.specs.PrintedTexts.{IsWantOfMemory, PrintedIsRead}
+use Rattle.gv_infer.specs.Typings.{choice_of}
+use Rattle.gv_infer.specs.ValueFaults.{fault_of}
+use Rattle.gv_infer.specs.declared.fault.TypingFlaw.{TypingFlaw}
+use Rattle.gv_infer.specs.declared.fault.TypingFlaw.TheVariants.{NoCommonType, Ambiguous}
+use Rattle.gv_infer.specs.declared.fault.ReadFlaw.{ReadFlaw}
+use Rattle.gv_infer.specs.declared.fault.ReadFlaw.TheVariants.{Text, Typing, Value}
+use Rattle.gv_infer.specs.Reads.{Reads, IsReadFlaw}
+use Rattle.gv_infer.specs.PrintedTexts.{PrintedIsRead}
 
 -- a text has one syntax tree, and then no fault
 one_tree : (text : List ℕ) (x y : Syntax) → IsTree text x → IsTree text y → x ≡ y
@@ -42,31 +43,16 @@ value_is t v b r h =
 value_reads : (t : Ty) (v : Tree) (b : ReadsBack t v) (r : Result Tree TheFault) → r ≡ Ok v → Reads (printed v true) r
 value_reads t v b r e = record { syntax = b.syntax; tree = b.parses; type = t; chosen = (b.choice (is t)).1 refl; value = (b.value r).1 e }
 
-no_value_fault : (t : Ty) (v : Tree) (b : ReadsBack t v) (f : TheFault) → Reads (printed v true) (Err f) → ⊥
-no_value_fault t v b f h = let same : Err f ≡ Ok v = value_is t v b (Err f) h in absurd (cc)
+no_type_fault : (t : Ty) (f : TypingFlaw) → choice_of f ≡ is t → ⊥
+no_type_fault t NoCommonType e = cc
+no_type_fault t Ambiguous e = cc
 
-no_type_fault : (t : Ty) (v : Tree) (b : ReadsBack t v) (x : Syntax) → IsTree (printed v true) x → HasChoice x no_common_type → ⊥
-no_type_fault t v b x tree h = let same : no_common_type ≡ is t = choice_is t v b x no_common_type tree h in absurd (cc)
-
-not_ambiguous : (t : Ty) (v : Tree) (b : ReadsBack t v) (x : Syntax) → IsTree (printed v true) x → HasChoice x ambiguous → ⊥
-not_ambiguous t v b x tree h = let same : ambiguous ≡ is t = choice_is t v b x ambiguous tree h in absurd (cc)
-
-fault_is : (t : Ty) (v : Tree) (b : ReadsBack t v) (e : ReadFault) → IsReadFault (printed v true) e → IsWantOfMemory e
-fault_is t v b (Text (texts.Fault f)) h = absurd (tree_no_fault (printed v true) b.syntax (fault_at_span f.cause f.span) b.parses h)
-fault_is t v b (Text texts.Memory) h = refl
-fault_is t v b (Typing types.NoCommonType) h = absurd (no_type_fault t v b h.syntax h.tree h.fault)
-fault_is t v b (Typing types.Ambiguous) h = absurd (not_ambiguous t v b h.syntax h.tree h.fault)
-fault_is t v b (Typing types.Memory) h = refl
-fault_is t v b (Value values.NoCommonType) h = absurd (no_value_fault t v b no_common h)
-fault_is t v b (Value values.Ambiguous) h = absurd (no_value_fault t v b not_clear h)
-fault_is t v b (Value values.OutOfRange) h = absurd (no_value_fault t v b out_of_range h)
-fault_is t v b (Value values.BadObjectPath) h = absurd (no_value_fault t v b bad_object_path h)
-fault_is t v b (Value values.BadSignature) h = absurd (no_value_fault t v b bad_signature h)
-fault_is t v b (Value values.DoubleText) h = absurd (no_value_fault t v b double_text h)
-fault_is t v b (Value values.TooDeep) h = absurd (no_value_fault t v b too_deep h)
-fault_is t v b (Value values.Memory) h = refl
+no_fault : (t : Ty) (v : Tree) (b : ReadsBack t v) (f : ReadFlaw) → IsReadFlaw (printed v true) f → ⊥
+no_fault t v b (Text f) h = tree_no_fault (printed v true) b.syntax (fault_at_span f.cause f.span) b.parses h
+no_fault t v b (Typing f) h = no_type_fault t f (choice_is t v b h.syntax (choice_of f) h.tree h.chosen)
+no_fault t v b (Value f) h = let same : Err (fault_of f) ≡ Ok v = value_is t v b (Err (fault_of f)) h in absurd cc
 
 pub printed_read : PrintedIsRead
 printed_read t v h limits single shallow =
     let b = reads_back t v h limits single shallow in
-    record { value = λ r. (value_is t v b r, value_reads t v b r); fault = fault_is t v b }
+    record { value = λ r. (value_is t v b r, value_reads t v b r); fault = only_memory (IsReadFlaw (printed v true)) (no_fault t v b) }

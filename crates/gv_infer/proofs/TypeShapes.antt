@@ -2,7 +2,7 @@
 use Rattle.std.proofs.Common.{◌≡◌, ◌≢◌, ◌<◌, ◌↔◌, List, [], ◌∷◌, Option, Some, refl, arith}
 use Rattle.std.specs.Prelude.{option_map}
 use Rattle.gv_model.specs.Ty.{Ty, nesting, type_list, members}
-use Rattle.gv_model.specs.Ty.Ty.{basic, variant, array, maybe, tuple, entry}
+use Rattle.gv_model.specs.Ty.Ty.{array, maybe, entry}
 use Rattle.gv_model.specs.Admits.{AlsoMaybe}
 use Rattle.gv_types.specs.Classes.{class_of}
 use Rattle.gv_types.specs.TypeStr.{ty, element_of, key_of}
@@ -23,20 +23,12 @@ array_of _ c e u h g m s = absurd cc
 
 pub bare_none : (t : Ty) → class_of t ≢ classes.Maybe → t ≡ bare_type t
 bare_none (maybe t) h = absurd (h refl)
-bare_none (basic k) h = refl
-bare_none variant h = refl
-bare_none (array t) h = refl
-bare_none (tuple ts) h = refl
-bare_none (entry k t) h = refl
+bare_none _ h = refl
 
 -- a type and its maybes are alike
 pub also_bare : (P : Ty → Type 0) (t : Ty) → AlsoMaybe P t ↔ P (bare_type t)
 also_bare P (maybe t) = also_bare P t
-also_bare P (basic k) = (λ h. h, λ h. h)
-also_bare P variant = (λ h. h, λ h. h)
-also_bare P (array t) = (λ h. h, λ h. h)
-also_bare P (tuple ts) = (λ h. h, λ h. h)
-also_bare P (entry k t) = (λ h. h, λ h. h)
+also_bare P _ = (λ h. h, λ h. h)
 
 pub less_than_maybe : (t u : Ty) → t ≡ maybe u → nesting u < nesting t
 unfolding nesting

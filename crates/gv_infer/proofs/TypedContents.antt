@@ -6,11 +6,11 @@ use Rattle.gv_model.specs.Ty.Types.{end, member}
 use Rattle.gv_model.specs.Tree.{Tree, Trees}
 use Rattle.gv_model.specs.Tree.Trees.{none as no_tree}
 use Rattle.gv_model.specs.Syntax.{Syntax, Syntaxes, Pairs}
-use Rattle.gv_model.specs.Syntax.Syntax.{truth, integer, quoted, bytes, list, tuple_of, dictionary, lone, boxed, just, nothing, at_type, keyword}
+use Rattle.gv_model.specs.Syntax.Syntax.{list, tuple_of, dictionary, lone, boxed, just, at_type, keyword}
 use Rattle.gv_model.specs.Syntax.Syntaxes.{none, first}
 use Rattle.gv_model.specs.Syntax.Pairs.{no_pair, pair}
 use Rattle.gv_model.specs.Chosen.{Choice}
-use Rattle.gv_model.specs.Chosen.Choice.{is, no_common_type, ambiguous}
+use Rattle.gv_model.specs.Chosen.Choice.{is}
 use Rattle.gv_model.specs.LeastTypes.{choice}
 use Rattle.gv_model.specs.Literals.{ValueFault as TheFault}
 use Rattle.gv_model.specs.TextValues.{with_first, in_node, only_one, at_maybes, at_array, at_variant, at_tuple, at_entry, at_maybe, chosen_or, literal_value, elements, members_of, entries, contents, all_contents, pairs_contents}
@@ -41,11 +41,7 @@ GivesAtOne f = (u : Ty) × Gives (f u)
 
 maybes_give : (f : Ty → Result Tree TheFault) (t : Ty) → Gives (at_maybes f t) → GivesAtOne f
 maybes_give f (maybe t) h = maybes_give f t (one_gives (maybe t) (at_maybes f t) h)
-maybes_give f (basic k) h = (basic k, h)
-maybes_give f variant h = (variant, h)
-maybes_give f (array t) h = (array t, h)
-maybes_give f (tuple ts) h = (tuple ts, h)
-maybes_give f (entry k t) h = (entry k t, h)
+maybes_give f t h = (t, h)
 
 array_gives : (f : Ty → Result Trees TheFault) (t : Ty) → Gives (at_array f t) → GivesAtOne f
 array_gives f (array t) h = (t, in_node_gives (array t) (f t) h)
@@ -71,17 +67,12 @@ maybe_gives f _ h = absurd h
 
 choice_gives : (f : Ty → Result Tree TheFault) (c : Choice) → Gives (chosen_or f c) → (t : Ty) × (c ≡ is t) × Gives (f t)
 choice_gives f (is t) h = (t, refl, h)
-choice_gives f no_common_type h = absurd h
-choice_gives f ambiguous h = absurd h
+choice_gives f _ h = absurd h
 
 mutual
   unfolding literal_value contents
 
   given_typed : (x : Syntax) (t : Ty) → Gives (literal_value choice x t) → AreTyped (contents x)
-  given_typed (truth b) t h = none_typed
-  given_typed (integer negative n) t h = none_typed
-  given_typed (quoted s) t h = none_typed
-  given_typed (bytes s) t h = none_typed
   given_typed (list xs) t h = (let a = maybes_give (at_array (elements choice xs)) t h in let b = array_gives (elements choice xs) a.0 a.1 in elements_typed xs b.0 b.1)
   given_typed (tuple_of xs) t h = (let a = maybes_give (at_tuple (members_of choice xs)) t h in let b = tuple_gives (members_of choice xs) a.0 a.1 in members_typed xs b.0 b.1)
   given_typed (dictionary ps) t h = (let a = maybes_give (at_array (entries choice ps)) t h in let b = array_gives (entries choice ps) a.0 a.1 in entries_typed ps b.0 b.1)
@@ -97,9 +88,9 @@ mutual
   given_typed (just x) t h =
       let a = maybe_gives (λ u. only_one (literal_value choice x u)) t h in
       given_typed x a.0 (both_give (literal_value choice x a.0) (Ok no_tree) a.1).0
-  given_typed nothing t h = none_typed
   given_typed (at_type u x) t h = given_typed x t h
   given_typed (keyword k x) t h = given_typed x t h
+  given_typed _ t h = none_typed
 
   elements_typed : (xs : Syntaxes) (t : Ty) → Gives (elements choice xs t) → AreTyped (all_contents xs)
   elements_typed none t h = none_typed

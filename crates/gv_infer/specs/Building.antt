@@ -13,14 +13,14 @@ use Rattle.refused.specs.Faults.{OfFault}
 use Rattle.gv_tree.specs.declared.fault.TreeFlaw.{TreeFlaw}
 use Rattle.gv_tree.specs.declared.fault.TreeFlaw.TheVariants.{TooDeep}
 use Rattle.gv_infer.specs.ValueFaults.{FaultIs}
-use Rattle.gv_infer.specs.declared.value_fault.ValueFault.{ValueFault}
+use Rattle.gv_infer.specs.declared.fault.ValueFlaw.{ValueFlaw}
 
 -- the tree, or None for one of over 128 levels
 abbrev pub BuildsTo : Option Tree → Tree → Type 0
 BuildsTo (Some t) v = (v ≡ t) × (depth t ≤ 128)
 BuildsTo None v = 128 < depth v
 
-abbrev pub IsBuilt : Result Tree TheFault → Result (Option Tree) ValueFault → Type 0
+abbrev pub IsBuilt : Result Tree TheFault → Result (Option Tree) (Refused ValueFlaw) → Type 0
 IsBuilt v (Ok built) = (t : Tree) × (v ≡ Ok t) × BuildsTo built t
 IsBuilt v (Err e) = FaultIs (λ f. v ≡ Err f) e
 
@@ -39,7 +39,7 @@ abbrev pub IsNoneOrOfType : Ty → Option Tree → Type 0
 IsNoneOrOfType t (Some v) = type_of v ≡ t
 IsNoneOrOfType t None = Unit {0}
 
-abbrev pub IsOfType : Ty → Result (Option Tree) ValueFault → Type 0
+abbrev pub IsOfType : Ty → Result (Option Tree) (Refused ValueFlaw) → Type 0
 IsOfType t (Ok built) = IsNoneOrOfType t built
 IsOfType t (Err e) = Unit {0}
 

@@ -9,8 +9,9 @@ use Rattle.gv_model.specs.Typed.{AllOf, types_of}
 use Rattle.gv_model.specs.Literals.{ValueFault as TheFault}
 use Rattle.gv_model.specs.TextValues.{with_first}
 use Rattle.gv_tree.specs.Nodes.{trees_of}
+use Rattle.refused.specs.declared.Refused.{Refused}
 use Rattle.gv_infer.specs.ValueFaults.{FaultIs}
-use Rattle.gv_infer.specs.declared.value_fault.ValueFault.{ValueFault}
+use Rattle.gv_infer.specs.declared.fault.ValueFlaw.{ValueFlaw}
 use Rattle.gv_infer.specs.declared.children.BuiltTrees.{BuiltTrees}
 
 -- these trees, unless one of them is too deep
@@ -44,7 +45,7 @@ IsTupleTypeOf t (Some trees) = t ≡ tuple (types_of (trees_of trees.items))
 IsTupleTypeOf t None = Unit {0}
 
 -- what building children gives, of which none has a fault
-abbrev pub AreBuilt : Result Trees TheFault → Result (Option (Vec Tree)) ValueFault → Type 0
+abbrev pub AreBuilt : Result Trees TheFault → Result (Option (Vec Tree)) (Refused ValueFlaw) → Type 0
 AreBuilt vs (Ok built) = (us : Trees) × (vs ≡ Ok us) × AllBuildTo built us
 AreBuilt vs (Err e) = FaultIs (λ f. vs ≡ Err f) e
 

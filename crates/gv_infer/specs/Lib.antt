@@ -8,5 +8,4 @@ pub mod BareTypes
 pub mod Leaves
 pub mod Reads
 pub mod PrintedTexts
-pub mod TypingValues
 pub mod Within

@@ -6,25 +6,17 @@ use Rattle.gv_model.specs.Tree.{Tree, depth}
 use Rattle.gv_model.specs.Typed.{HasType}
 use Rattle.gv_model.specs.Printed.{printed, holds_double}
 use Rattle.gv_model.specs.Literals.{ValueFault as TheFault}
-use Rattle.refused.specs.declared.Refused.TheVariants as texts
-use Rattle.gv_infer.specs.declared.fault.TypingFault.TheVariants as types
-use Rattle.gv_infer.specs.declared.value_fault.ValueFault.TheVariants as values
-use Rattle.gv_infer.specs.declared.read_fault.ReadFault.{ReadFault}
-use Rattle.gv_infer.specs.declared.read_fault.ReadFault.TheVariants.{Text, Typing, Value}
+use Rattle.refused.specs.declared.Refused.{Refused}
+use Rattle.refused.specs.declared.Refused.TheVariants.{Memory}
+use Rattle.gv_infer.specs.declared.fault.ReadFlaw.{ReadFlaw}
 use Rattle.gv_infer.specs.Reads.{Reads, IsReadFault}
-
--- a growth was refused, and the text is not at fault
-abbrev pub IsWantOfMemory : ReadFault → Type 0
-IsWantOfMemory (Text e) = e ≡ texts.Memory
-IsWantOfMemory (Typing e) = e ≡ types.Memory
-IsWantOfMemory (Value e) = e ≡ values.Memory
 
 -- What `read_value` promises of the text comes to v. `value`: what the text reads as is v, and no
 -- other value and no fault. `fault`: no fault that it may have is one of the text, so that only want
 -- of memory is left.
 pub record IsReadAs (text : List ℕ) (v : Tree) : Type 0 where
   pub value : (r : Result Tree TheFault) → Reads text r ↔ (r ≡ Ok v)
-  pub fault : (e : ReadFault) → IsReadFault text e → IsWantOfMemory e
+  pub fault : (e : Refused ReadFlaw) → IsReadFault text e → e ≡ Memory
 
 -- what is printed for a value is read as that value, where its type is within the limits, it holds
 -- no double and is at most 127 deep

@@ -14,9 +14,9 @@ ghost use Rattle.gv_infer.specs.Within.{AreWithin, PairsWithin};
 use crate::bare::{bare, entry_types};
 use crate::children::BuiltTrees;
 use crate::containers::{array, entry, in_maybes, just, nothing, tuple, variant};
+use crate::fault::ValueFault;
 use crate::literal::{byte_string_at, number_tree, text_tree, truth_tree};
 use crate::typing::type_of_node;
-use crate::value_fault::ValueFault;
 use gv_syntax::{SyntaxKind, SyntaxNode};
 use gv_tree::Tree;
 use gv_types::TypeStr;
@@ -89,9 +89,13 @@ fn build_variant(alloc: Global, node: &SyntaxNode) -> Result<Option<Tree>, Value
         result }
     ensures typed { IsOfType variant result }
 {
-    let of = type_of_node(alloc, node)?;
-    let child = build(alloc, node, of.as_type())?;
-    variant(alloc, child)
+    match type_of_node(alloc, node) {
+        Ok(of) => {
+            let child = build(alloc, node, of.as_type())?;
+            variant(alloc, child)
+        }
+        Err(fault) => Err(fault.into_fault()),
+    }
 }
 
 /// An array, at an array's type.

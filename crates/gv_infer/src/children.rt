@@ -1,11 +1,9 @@
 //! The children of a container while they are built: none are kept where one of them is too deep.
-ghost use Rattle.std.specs.Prelude.{◌≡◌, IfOk};
+ghost use Rattle.std.specs.Prelude.{IfOk, OnOk};
 ghost use Rattle.gv_model.specs.Tree.{Tree as Value, Trees, Trees.none};
-ghost use Rattle.gv_infer.specs.declared.value_fault.ValueFault.TheVariants.{Memory};
 
-use crate::value_fault::ValueFault;
 use gv_tree::Tree;
-use std::alloc::Global;
+use std::alloc::{AllocError, Global};
 
 /// Trees, one after the other, or nothing where one of them would have over 128 levels.
 #[derive(Drop)]
@@ -15,13 +13,12 @@ pub(crate) struct BuiltTrees {
 }
 
 impl BuiltTrees {
-    ghost use Rattle.std.specs.Prelude.{MatchResult};
     ghost use Rattle.gv_infer.specs.Building.{BuildsTo};
     ghost use Rattle.gv_infer.specs.Children.{IsBuiltFrom, AllBuildTo, with_last};
 
     /// No children, with room for so many.
-    pub(crate) fn with_capacity(alloc: Global, count: usize) -> Result<BuiltTrees, ValueFault>
-        ensures { MatchResult result (λ children. IsBuiltFrom children none) (λ e. e ≡ Memory) }
+    pub(crate) fn with_capacity(alloc: Global, count: usize) -> Result<BuiltTrees, AllocError>
+        ensures { IfOk result (λ children. IsBuiltFrom children none) }
     {
         Ok(BuiltTrees {
             trees: Vec::with_capacity(alloc, count)?,
@@ -30,10 +27,9 @@ impl BuiltTrees {
     }
 
     /// One child more, or None for one that is too deep.
-    pub(crate) fn push(&mut self, child: Option<Tree>) -> Result<(), ValueFault>
-        ensures { MatchResult result
-            (λ _. (vs : Trees) (v : Value) → IsBuiltFrom self.old vs → BuildsTo child v → IsBuiltFrom self.new (with_last vs v))
-            (λ e. e ≡ Memory) }
+    pub(crate) fn push(&mut self, child: Option<Tree>) -> Result<(), AllocError>
+        ensures { OnOk result
+            ((vs : Trees) (v : Value) → IsBuiltFrom self.old vs → BuildsTo child v → IsBuiltFrom self.new (with_last vs v)) }
     {
         match child {
             Some(tree) => self.trees.push(tree)?,

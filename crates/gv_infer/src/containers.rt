@@ -10,7 +10,7 @@ ghost use Rattle.gv_infer.specs.BareTypes.{bare_type};
 ghost use Rattle.gv_infer.specs.Building.{BuildsTo, IsBuilt, IsWithinLimits, IsContainerFault, IsConstructed, IsConstructedOf, IsNoneOrOfType, IsOfType, AreEntryParts, entry_node};
 ghost use Rattle.gv_infer.specs.Children.{AllBuildTo, AllOfType, IsTupleTypeOf};
 
-use crate::value_fault::ValueFault;
+use crate::fault::ValueFault;
 use gv_tree::{Tree, TreeFault, TreeFlaw};
 use gv_types::{Class, TypeStr};
 use std::alloc::Global;

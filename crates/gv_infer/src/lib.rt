@@ -22,15 +22,11 @@ mod plain;
 mod plain_literal;
 mod printed;
 mod read;
-mod read_fault;
 mod typing;
 mod value;
-mod value_fault;
 
-pub use fault::TypingFault;
+pub use fault::{ReadFault, ReadFlaw, TypingFault, TypingFlaw, ValueFault, ValueFlaw};
 pub use printed::printed_is_read;
 pub use read::read_value;
-pub use read_fault::ReadFault;
 pub use typing::type_of;
 pub use value::value_at;
-pub use value_fault::ValueFault;

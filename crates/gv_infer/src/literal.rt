@@ -1,5 +1,5 @@
 //! What literals are at a basic type (GLib, "GVariant Text Format", Numeric Types; Strings).
-ghost use Rattle.std.specs.Prelude.{◌≡◌, ◌<◌, ◌≤◌, ◌^◌, ◌++◌, [], ◌∷◌, false, Some, None, Ok, MatchResult};
+ghost use Rattle.std.specs.Prelude.{◌≡◌, ◌<◌, ◌≤◌, ◌^◌, ◌++◌, [], ◌∷◌, false, Some, None, Ok, Err, MatchResult, OnOk};
 ghost use Rattle.gv_model.specs.Ty.{Ty.basic, Ty.array, Basic.boolean, Basic.byte as byte_type};
 ghost use Rattle.gv_model.specs.Tree.{type_of, Tree.number, Tree.node};
 ghost use Rattle.gv_model.specs.TextValues.{at_basic};
@@ -11,21 +11,23 @@ ghost use Rattle.gv_model.specs.Literals.{number_bits, integer_at, text_at, byte
 ghost use Rattle.gv_types.specs.Classes.{basic_of};
 ghost use Rattle.gv_tree.specs.Basics.{basic_tree, truth_bits};
 ghost use Rattle.gv_tree.specs.Faults.{has_zero};
-ghost use Rattle.gv_infer.specs.ValueFaults.{IsNumberFault};
-ghost use Rattle.gv_infer.specs.declared.value_fault.ValueFault.TheVariants.{OutOfRange, Memory};
+ghost use Rattle.gv_infer.specs.ValueFaults.{fault_of};
+ghost use Rattle.gv_infer.specs.declared.fault.ValueFlaw.TheVariants.{OutOfRange};
+ghost use Rattle.refused.specs.declared.Refused.TheVariants.{Fault};
+ghost use Rattle.refused.specs.Faults.{OfFaultAlone};
 
 use crate::containers::array;
-use crate::value_fault::ValueFault;
+use crate::fault::{ValueFault, ValueFlaw};
 use gv_tree::{Basic, Tree, TreeFault, TreeFlaw};
 use gv_types::{BasicType, Class, TypeStr};
-use std::alloc::Global;
+use std::alloc::{AllocError, Global};
 
 /// The number that an integer is at a number type. It is never wrapped.
 fn number_at(of: BasicType, negative: bool, magnitude: u128) -> Result<Basic, ValueFault>
     requires { IsNumberType (basic (basic_of of)) }
     ensures { MatchResult result
         (λ value. integer_at (basic_of of) negative magnitude ≡ Ok (basic_tree value))
-        (IsNumberFault (integer_at (basic_of of) negative magnitude)) }
+        (OfFaultAlone (λ f. integer_at (basic_of of) negative magnitude ≡ Err (fault_of f))) }
 {
     Ok(match of {
         BasicType::Byte => Basic::Byte(unsigned(8, negative, magnitude)? as u8),
@@ -38,7 +40,7 @@ fn number_at(of: BasicType, negative: bool, magnitude: u128) -> Result<Basic, Va
         BasicType::Handle => Basic::HandleNo(
             (signed(32, negative, magnitude)? as u32).cast_signed(),
         ),
-        BasicType::Double => return Err(ValueFault::DoubleText),
+        BasicType::Double => return Err(ValueFault::Fault(ValueFlaw::DoubleText)),
         BasicType::Boolean | BasicType::Text | BasicType::ObjectPath | BasicType::Signature =>
             unreachable!(),
     })
@@ -49,10 +51,10 @@ fn unsigned(bits: u32, negative: bool, magnitude: u128) -> Result<u128, ValueFau
     requires { bits ≤ 64 }
     ensures { MatchResult result
         (λ n. (number_bits None bits negative magnitude ≡ Some n) × (n < 2 ^ bits))
-        (λ e. (number_bits None bits negative magnitude ≡ None) × (e ≡ OutOfRange)) }
+        (λ e. (number_bits None bits negative magnitude ≡ None) × (e ≡ Fault OutOfRange)) }
 {
     if negative || magnitude >= 2u128.pow(bits) {
-        return Err(ValueFault::OutOfRange);
+        return Err(ValueFault::Fault(ValueFlaw::OutOfRange));
     }
     Ok(magnitude)
 }
@@ -62,14 +64,14 @@ fn signed(bits: u32, negative: bool, magnitude: u128) -> Result<u128, ValueFault
     requires { (1 ≤ bits) × (bits ≤ 64) }
     ensures { MatchResult result
         (λ n. (number_bits (Some bits) 64 negative magnitude ≡ Some n) × (n < 2 ^ bits))
-        (λ e. (number_bits (Some bits) 64 negative magnitude ≡ None) × (e ≡ OutOfRange)) }
+        (λ e. (number_bits (Some bits) 64 negative magnitude ≡ None) × (e ≡ Fault OutOfRange)) }
 {
     let half = 2u128.pow(bits - 1);
     match negative {
         true if magnitude == 0 => Ok(0),
         true if magnitude <= half => Ok(2 * half - magnitude),
         false if magnitude < half => Ok(magnitude),
-        _ => Err(ValueFault::OutOfRange),
+        _ => Err(ValueFault::Fault(ValueFlaw::OutOfRange)),
     }
 }
 
@@ -136,10 +138,8 @@ pub(crate) fn byte_string_at(
 }
 
 /// One byte more.
-fn push_byte(alloc: Global, byte: u8, trees: &mut Vec<Tree>) -> Result<(), ValueFault>
-    ensures { MatchResult result
-        (λ _. trees.new.items ≡ trees.old.items ++ number byte_type byte ∷ [])
-        (λ e. e ≡ Memory) }
+fn push_byte(alloc: Global, byte: u8, trees: &mut Vec<Tree>) -> Result<(), AllocError>
+    ensures { OnOk result (trees.new.items ≡ trees.old.items ++ number byte_type byte ∷ []) }
 {
     match Tree::basic(alloc, Basic::Byte(byte)) {
         Ok(tree) => Ok(trees.push(tree)?),
@@ -155,8 +155,12 @@ fn leaf(alloc: Global, value: Basic) -> Result<Option<Tree>, ValueFault>
 {
     match Tree::basic(alloc, value) {
         Ok(tree) => Ok(Some(tree)),
-        Err(TreeFault::Fault(TreeFlaw::BadObjectPath)) => Err(ValueFault::BadObjectPath),
-        Err(TreeFault::Fault(TreeFlaw::BadSignature)) => Err(ValueFault::BadSignature),
+        Err(TreeFault::Fault(TreeFlaw::BadObjectPath)) => Err(ValueFault::Fault(
+            ValueFlaw::BadObjectPath,
+        )),
+        Err(TreeFault::Fault(TreeFlaw::BadSignature)) => Err(ValueFault::Fault(
+            ValueFlaw::BadSignature,
+        )),
         Err(_) => unreachable!(),
     }
 }

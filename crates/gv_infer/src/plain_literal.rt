@@ -1,23 +1,20 @@
 //! Plain literals, which are read at sight: a text that is what is printed for a value reads as that value.
 #![tactic(auto, unfolding(gv_model::specs::Printed::text_of, gv_model::specs::Printed::holds_double, gv_model::specs::Tree::depth))]
 
-ghost use Rattle.std.specs.Prelude.{◌≡◌, ◌≢◌, ◌≤◌, ◌-◌, IfOk, IfErr, IfSome, IsTrue, Ok, decimal, get_or, length};
+ghost use Rattle.std.specs.Prelude.{◌≡◌, ◌≢◌, ◌≤◌, ◌-◌, IfOk, IfSome, IsTrue, Ok, decimal, get_or, length};
 ghost use Rattle.gv_model.specs.Quoted.{quoted};
 ghost use Rattle.gv_tree.specs.Basics.{basic_tree};
 ghost use Rattle.gv_infer.specs.PrintedTexts.{IsPrintedFor};
 ghost use Rattle.gv_infer.specs.Reads.{Reads};
-ghost use Rattle.gv_infer.specs.declared.value_fault.ValueFault.TheVariants.{Memory};
 
-use crate::value_fault::ValueFault;
 use gv_syntax::is_plain;
 use gv_tree::{Basic, Tree};
-use std::alloc::Global;
+use std::alloc::{AllocError, Global};
 
 /// The value of a truth value, of an `i` or a `u` that is printed so and has no minus sign, or of a string in `'` whose
 /// characters stand for themselves. None says nothing of the text.
-pub(crate) fn read_plain(alloc: Global, text: &str) -> Result<Option<Tree>, ValueFault>
-    ensures value { IfOk result (λ found. IfSome found (λ v. Reads text.now (Ok v))) }
-    ensures fault { IfErr result (λ e. e ≡ Memory) }
+pub(crate) fn read_plain(alloc: Global, text: &str) -> Result<Option<Tree>, AllocError>
+    ensures { IfOk result (λ found. IfSome found (λ v. Reads text.now (Ok v))) }
 {
     match plain_value(alloc, text)? {
         Some(value) => Ok(Tree::basic(alloc, value).ok()),
@@ -26,9 +23,8 @@ pub(crate) fn read_plain(alloc: Global, text: &str) -> Result<Option<Tree>, Valu
 }
 
 /// The value that the text is printed for, as its first byte promises.
-fn plain_value(alloc: Global, text: &str) -> Result<Option<Basic>, ValueFault>
-    ensures value { IfOk result (λ found. IfSome found (λ value. IsPrintedFor text.now (basic_tree value))) }
-    ensures fault { IfErr result (λ e. e ≡ Memory) }
+fn plain_value(alloc: Global, text: &str) -> Result<Option<Basic>, AllocError>
+    ensures { IfOk result (λ found. IfSome found (λ value. IsPrintedFor text.now (basic_tree value))) }
 {
     match text.as_bytes().first() {
         Some(b'\'') => string(alloc, text),
@@ -41,9 +37,8 @@ fn plain_value(alloc: Global, text: &str) -> Result<Option<Basic>, ValueFault>
 }
 
 /// A string in `'`.
-fn string(alloc: Global, text: &str) -> Result<Option<Basic>, ValueFault>
-    ensures value { IfOk result (λ found. IfSome found (λ value. IsPrintedFor text.now (basic_tree value))) }
-    ensures fault { IfErr result (λ e. e ≡ Memory) }
+fn string(alloc: Global, text: &str) -> Result<Option<Basic>, AllocError>
+    ensures { IfOk result (λ found. IfSome found (λ value. IsPrintedFor text.now (basic_tree value))) }
 {
     match between_quotes(text) {
         Some(inner) => Ok(Some(Basic::Text(String::from_str(alloc, inner)?))),

@@ -9,11 +9,10 @@ ghost use Rattle.gv_infer.specs.Reads.{Reads, IsReadFault};
 
 use crate::build::build;
 use crate::contents::check_contents;
+use crate::fault::{ReadFault, ReadFlaw, ValueFlaw};
 use crate::plain::plain_type;
 use crate::plain_literal::read_plain;
-use crate::read_fault::ReadFault;
 use crate::typing::type_of_root;
-use crate::value_fault::ValueFault;
 use gv_syntax::{SyntaxNode, parse};
 use gv_tree::Tree;
 use gv_types::TypeStr;
@@ -23,7 +22,7 @@ use std::alloc::Global;
 ///
 /// It gives the text's first fault: `Text` where it has no syntax; `Typing` where that has no type of its own, or what
 /// is in one of its `<..>` has none; and `Value` where a literal is no value of the type that it gets, or the value
-/// would have over 128 levels. Each of them may also be running out of memory.
+/// would have over 128 levels. `Memory` says that a growth was refused.
 ///
 /// A truth value, an `i` or a `u` that is printed so and has no minus sign, and a string in `'` of printable ASCII without a
 /// backslash are read at sight: in time linear in the text, with memory for the string alone. Any other text it types once as a
@@ -38,8 +37,10 @@ pub fn read_value(alloc: Global, text: &str) -> Result<Tree, ReadFault>
     if let Some(value) = read_plain(alloc, text)? {
         return Ok(value);
     }
-    let syntax = parse(alloc, text)?;
-    value_of(alloc, syntax.root())
+    match parse(alloc, text) {
+        Ok(syntax) => value_of(alloc, syntax.root()),
+        Err(fault) => Err(fault.into_fault()),
+    }
 }
 
 /// The value of a text, whose syntax that is, by its own type.
@@ -51,8 +52,10 @@ fn value_of(alloc: Global, root: &SyntaxNode) -> Result<Tree, ReadFault>
     if let Some(of) = plain_type(root) {
         return value_at_own(alloc, root, of);
     }
-    let of = type_of_root(alloc, root)?;
-    value_at_own(alloc, root, of.as_type())
+    match type_of_root(alloc, root) {
+        Ok(of) => value_at_own(alloc, root, of.as_type()),
+        Err(fault) => Err(fault.into_fault()),
+    }
 }
 
 /// The value of a text, whose syntax that is, at its own type.
@@ -63,10 +66,10 @@ fn value_at_own(alloc: Global, root: &SyntaxNode, of: TypeStr<'_>) -> Result<Tre
     ensures fault { (text : List ℕ) → IsTree text root.now → IfErr result (IsReadFault text) }
 {
     match build(alloc, root, of) {
-        Ok(built) => built.ok_or(ReadFault::Value(ValueFault::TooDeep)),
-        Err(fault) => {
-            check_contents(alloc, root)?;
-            Err(ReadFault::Value(fault))
-        }
+        Ok(built) => built.ok_or(ReadFault::Fault(ReadFlaw::Value(ValueFlaw::TooDeep))),
+        Err(fault) => match check_contents(alloc, root) {
+            Ok(()) => Err(fault.into_fault()),
+            Err(fault) => Err(fault.into_fault()),
+        },
     }
 }

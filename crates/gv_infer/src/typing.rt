@@ -8,7 +8,7 @@ ghost use Rattle.gv_syntax.specs.TypeTexts.{type_of_owned};
 ghost use Rattle.gv_infer.specs.Typings.{IsTypingFault, IsChoiceFault};
 
 use crate::contents::check_contents;
-use crate::fault::TypingFault;
+use crate::fault::{TypingFault, TypingFlaw};
 use gv_patterns::{Found, write_least_type};
 use gv_syntax::{Syntax, SyntaxNode, TypeText};
 use gv_types::TypeStr;
@@ -54,11 +54,11 @@ pub(crate) fn type_of_node(alloc: Global, node: &SyntaxNode) -> Result<TypeText,
     let mut text = String::new(alloc);
     let found = write_least_type(alloc, node, &mut text)?;
     if TypeStr::parse(text.as_str()).is_err() {
-        return Err(TypingFault::NoCommonType);
+        return Err(TypingFault::Fault(TypingFlaw::NoCommonType));
     }
     match found {
-        Found::Nowhere => Err(TypingFault::NoCommonType),
-        Found::Many => Err(TypingFault::Ambiguous),
+        Found::Nowhere => Err(TypingFault::Fault(TypingFlaw::NoCommonType)),
+        Found::Many => Err(TypingFault::Fault(TypingFlaw::Ambiguous)),
         Found::Least => Ok(TypeText::of_checked(text)),
     }
 }

@@ -7,7 +7,7 @@ ghost use Rattle.gv_infer.specs.Values.{IsValueFault};
 use crate::admits::admits;
 use crate::build::build;
 use crate::contents::check_contents;
-use crate::value_fault::ValueFault;
+use crate::fault::{ValueFault, ValueFlaw};
 use gv_syntax::Syntax;
 use gv_tree::Tree;
 use gv_types::TypeStr;
@@ -26,13 +26,13 @@ pub fn value_at(alloc: Global, syntax: &Syntax, of: TypeStr<'_>) -> Result<Tree,
 {
     let root = syntax.root();
     if !admits(root, of) {
-        return Err(ValueFault::NoCommonType);
+        return Err(ValueFault::Fault(ValueFlaw::NoCommonType));
     }
     match build(alloc, root, of) {
-        Ok(built) => built.ok_or(ValueFault::TooDeep),
-        Err(fault) => {
-            check_contents(alloc, root)?;
-            Err(fault)
-        }
+        Ok(built) => built.ok_or(ValueFault::Fault(ValueFlaw::TooDeep)),
+        Err(fault) => match check_contents(alloc, root) {
+            Ok(()) => Err(fault),
+            Err(fault) => Err(fault.into_fault()),
+        },
     }
 }

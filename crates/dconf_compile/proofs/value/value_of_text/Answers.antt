@@ -1,9 +1,8 @@
-use Rattle.dconf_compile.proofs.TextMeanings.{stops_reading, value_read}
+use Rattle.dconf_compile.proofs.TextMeanings.{fault_read, value_read}
 use Rattle.dconf_compile.proofs.value.value_of_text.Goals as goal
 
-pub returns-in_err-read_value-clause-fault : goal.returns-in_err-read_value-clause-fault
-returns-in_err-read_value-clause-fault c =
-    stops_reading c.args.text.now c.in_err-read_value.field-0.0 c.from_residual.result c.in_err-read_value.ensures.fault c.from_residual.ensures.1
+pub returns-in-Ok-clause-value : goal.returns-in-Ok-clause-value
+returns-in-Ok-clause-value c = value_read c.args.text.now _ c.in-Ok.ensures.value
 
-pub returns-clause-value : goal.returns-clause-value
-returns-clause-value c = value_read c.args.text.now _ c.in_ok-read_value.ensures.value
+pub returns-in-Err-Fault-clause-fault : goal.returns-in-Err-Fault-clause-fault
+returns-in-Err-Fault-clause-fault c = fault_read c.args.text.now c.in-Err-Fault.flaw (rw c.in-Err-Fault.field-0-is at c.in-Err-Fault.ensures.fault)

@@ -28,6 +28,7 @@ use Rattle.gv_infer.proofs.BuildLaws.{fits_bare, truth_value, maybe_holds, array
 use Rattle.gv_infer.proofs.MadeTrees.{within_type}
 use Rattle.gv_infer.proofs.BuiltChildren.{held_none, held_next, held_fault, held_all, elements_typed, entries_typed, all_of_type, are_members, just_built, entry_built, pair_fits}
 use Rattle.gv_infer.proofs.WithinLaws.{list_within, tuple_within, dictionary_within, entry_within, box_within, just_within, of_type_within, keyword_within}
+use Rattle.gv_infer.proofs.ValueLaws.{variant_fault}
 use Rattle.gv_infer.proofs.build.+build.Goals as goal
 
 pub build-in_maybes-requires : goal.build-in_maybes-requires
@@ -427,5 +428,8 @@ build_tuple-tuple-requires t c = are_members choice (nodes_of c.args.nodes.now) 
 pub build_variant-build-requires : goal.build_variant-build-requires
 build_variant-build-requires t c =
     let type = c.as_type.ensures in
-    let chosen = subst (Chooses c.args.node.now) c.in_ok-of.ensures.chosen (choice_right c.args.node.now) in
+    let chosen = subst (Chooses c.args.node.now) c.in-Ok.ensures.chosen (choice_right c.args.node.now) in
     (omega (arith, c.decreases), (rw type chosen.among.admits, c.requires))
+
+pub build_variant-returns-in-Err-clause-built : goal.build_variant-returns-in-Err-clause-built
+build_variant-returns-in-Err-clause-built t c = variant_fault c.args.node.now c.in-Err.fault c.into_fault.result c.in-Err.ensures.fault c.into_fault.ensures

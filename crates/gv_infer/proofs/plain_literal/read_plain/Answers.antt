@@ -4,7 +4,7 @@ use Rattle.gv_infer.specs.PrintedTexts.{IsPrintedFor}
 use Rattle.gv_infer.proofs.PlainReading.{tree_read}
 use Rattle.gv_infer.proofs.plain_literal.read_plain.Goals as goal
 
-pub returns-in-Some-clause-value : goal.returns-in-Some-clause-value
-returns-in-Some-clause-value c =
+pub returns-in-Some : goal.returns-in-Some
+returns-in-Some c =
     tree_read c.args.text.now (basic_tree c.in-Some.value) c.basic.result c.ok.result
-    (subst (λ found. IfSome found (λ value. IsPrintedFor c.args.text.now (basic_tree value))) c.in-Some.is c.in_ok-value.ensures.value) c.basic.ensures.made c.basic.ensures.whole c.ok.ensures.value
+    (subst (λ found. IfSome found (λ value. IsPrintedFor c.args.text.now (basic_tree value))) c.in-Some.is c.in_ok-value.ensures) c.basic.ensures.made c.basic.ensures.whole c.ok.ensures.value

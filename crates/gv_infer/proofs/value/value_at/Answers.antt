@@ -1,5 +1,4 @@
 use Rattle.std.proofs.Common.{Ok, Err, IfOk, IfErr, sym, subst}
-use Rattle.std.proofs.lemmas.Result.{err_from_is_err_and}
 use Rattle.std.proofs.lemmas.Bool.{both_ways}
 use Rattle.gv_model.specs.Admits.{Admits}
 use Rattle.gv_model.specs.LeastTypes.{choice}
@@ -16,19 +15,18 @@ pub returns-then-not-admits-clause-fault : goal.returns-then-not-admits-clause-f
 returns-then-not-admits-clause-fault c =
     not_admitted c.args.syntax.now (ty c.args.of) (λ a. both_ways c.admits.result c.if-not-admits.true (c.admits.ensures.1 (subst (λ x. Admits x (ty c.args.of)) (sym c.root-root.ensures.root) a)))
 
-pub returns-in_err-check_contents-in-Err-clause-fault : goal.returns-in_err-check_contents-in-Err-clause-fault
-returns-in_err-check_contents-in-Err-clause-fault c =
+pub returns-in-Err-check_contents-clause-fault : goal.returns-in-Err-check_contents-clause-fault
+returns-in-Err-check_contents-clause-fault c =
     let root = c.root-root.ensures.root in
     let fits = subst (λ x. Admits x (ty c.args.of)) root (c.admits.ensures.0 c.if-not-admits.false) in
-    let fault = subst (λ x. IsFirstChoiceFault (contents x) c.in_err-check_contents-in-Err.field-0.0) root c.in_err-check_contents-in-Err.ensures.fault in
-    let p = err_from_is_err_and c.from_residual.result c.from_residual.ensures.1 in
-    rw (p.1, p.2) (contents_fault c.args.syntax.now (ty c.args.of) c.in_err-check_contents-in-Err.field-0.0 fits fault)
+    let fault = subst (λ x. IsFirstChoiceFault (contents x) c.in-Err-check_contents.fault) root c.in-Err-check_contents.ensures.fault in
+    contents_fault c.args.syntax.now (ty c.args.of) c.in-Err-check_contents.fault c.into_fault.result fits fault c.into_fault.ensures
 
-pub returns-in_ok-check_contents-in-Err-clause-fault : goal.returns-in_ok-check_contents-in-Err-clause-fault
-returns-in_ok-check_contents-in-Err-clause-fault c =
+pub returns-in-Ok-check_contents-clause-fault : goal.returns-in-Ok-check_contents-clause-fault
+returns-in-Ok-check_contents-clause-fault c =
     let root = c.root-root.ensures.root in
     let fits = subst (λ x. Admits x (ty c.args.of)) root (c.admits.ensures.0 c.if-not-admits.false) in
-    let typed = subst (λ x. AreTyped (contents x)) root c.in_ok-check_contents-in-Err.ensures.typed in
+    let typed = subst (λ x. AreTyped (contents x)) root c.in-Ok-check_contents.ensures.typed in
     let built = subst (λ x. IsBuilt (literal_value choice x (ty c.args.of)) (Err c.in-Err.fault)) root c.in-Err.ensures.built in
     literal_fault c.args.syntax.now (ty c.args.of) c.in-Err.fault fits typed built
 
