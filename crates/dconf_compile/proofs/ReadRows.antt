@@ -24,13 +24,11 @@ group_inside s = go (ends_in 93 s) (take (length s - 2) (drop 1 s)) (is_group (t
   where
     go : (a : Bool) (inside : List ℕ) (b : Bool) → is_group inside ≡ b → IsGroup (cond (a && b) (Some inside) None)
     go true inside true e = e
-    go true inside false e = tt
-    go false inside b e = tt
+    go _ inside _ e = tt
 
 group_of_line : (k : LineKind) (s : List ℕ) → IsGroup (group_named k s)
-group_of_line empty s = tt
 group_of_line bracket s = group_inside s
-group_of_line entry s = tt
+group_of_line _ s = tt
 
 last_is_group : (o : Option (List ℕ)) (lines : List (List ℕ)) → IsGroup o → IsGroup (last_or o (filter_map named lines))
 last_is_group o [] h = h
@@ -132,8 +130,7 @@ RowsIfOk (Err f) = Unit {0}
 put_good : (line : ℕ) (r : LineReading Row) (rest : Result (List Row) LineFault) → IsRowLine r → RowsIfOk rest → RowsIfOk (put_first line r rest)
 put_good line nothing rest h k = k
 put_good line (found row) (Ok rows) h k = (h, k)
-put_good line (found row) (Err f) h k = tt
-put_good line (wrong c) rest h k = tt
+put_good line _ _ h k = tt
 
 lines_good : (earlier lines : List (List ℕ)) → AreShort longest_text lines → RowsIfOk (read_after read_one earlier lines)
 lines_good earlier [] h = tt
@@ -150,9 +147,8 @@ file_good bytes = go (nat_lt longest_text (length bytes)) refl (not (is_utf8 byt
     go : (b : Bool) → nat_lt longest_text (length bytes) ≡ b → (c : Bool) →
         RowsIfOk (unless_fault (cond b (Some (record { line = 0; cause = too_big })) (cond c (Some (record { line = bad_line_of bytes; cause = not_utf8 })) None))
         (read_after read_one [] (lines_of bytes)))
-    go true e c = tt
-    go false e true = tt
     go false e false = lines_good [] (lines_of bytes) (longer (length bytes) longest_text (lines_of bytes) (ltb-false longest_text (length bytes) e) (lines_short bytes))
+    go _ e _ = tt
 
 pub rows_are_read : (bytes : List ℕ) (rows : List Row) → rows_of bytes ≡ Ok rows → AllByRecursion IsReadRow rows
 rows_are_read bytes rows e = subst RowsIfOk e (file_good bytes)

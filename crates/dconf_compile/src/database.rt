@@ -10,7 +10,7 @@ use crate::locks::add_lock_files;
 use crate::order::{Numbered, first_file, in_order};
 use crate::source::Source;
 use gvdb_write::{Map, MapBuilder, TooBig, WriteFault, write};
-use std::alloc::Global;
+use std::alloc::{AllocError, Global};
 
 /// The bytes of the database that keyfiles and lock files give, or their first fault.
 ///
@@ -39,7 +39,7 @@ pub fn compile(
             0,
             CompileCause::TooBig,
         )),
-        Err(WriteFault::Memory) => Err(CompileFault::memory()),
+        Err(WriteFault::Memory) => Err(CompileFault::from(AllocError)),
     }
 }
 

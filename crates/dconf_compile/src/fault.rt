@@ -58,24 +58,13 @@ pub struct CompileFault {
 }
 
 impl CompileFault {
-    /// A growth was refused.
-    pub(crate) fn memory() -> CompileFault
-        ensures { result ≡ no_memory }
-    {
-        CompileFault {
-            file: FileRef::Whole,
-            line: 0,
-            cause: CompileCause::Memory,
-        }
-    }
-
     /// A fault of a file, unless it is that a growth was refused.
     pub(crate) fn at(file: FileRef, line: usize, cause: CompileCause) -> CompileFault
         ensures fault { fault_of result ≡ fault_at (file_of file) line (cause_of cause) }
         ensures memory { cause_of cause ≡ None → result ≡ no_memory }
     {
         match cause {
-            CompileCause::Memory => CompileFault::memory(),
+            CompileCause::Memory => CompileFault::from(AllocError),
             _ => CompileFault { file, line, cause },
         }
     }
@@ -166,6 +155,10 @@ impl From<AllocError> for CompileFault {
     ghost from_gives = { λ _ fault. fault ≡ no_memory };
 
     fn from(_error: AllocError) -> CompileFault {
-        CompileFault::memory()
+        CompileFault {
+            file: FileRef::Whole,
+            line: 0,
+            cause: CompileCause::Memory,
+        }
     }
 }

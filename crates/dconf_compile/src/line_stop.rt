@@ -21,18 +21,6 @@ pub struct LineStop {
     pub cause: CompileCause,
 }
 
-impl LineStop {
-    /// A growth was refused.
-    fn memory() -> LineStop
-        ensures { line_fault_of result ≡ None }
-    {
-        LineStop {
-            line: 0,
-            cause: CompileCause::Memory,
-        }
-    }
-}
-
 impl fmt::Display for LineStop {
     ghost use Rattle.dconf_compile.specs.CompileFaults.{compile_cause_text};
 
@@ -54,7 +42,7 @@ impl From<KeyfileFault> for LineStop {
                 line,
                 cause: CompileCause::from(cause),
             },
-            KeyfileFault::Memory => LineStop::memory(),
+            KeyfileFault::Memory => LineStop::from(AllocError),
         }
     }
 }
@@ -85,7 +73,7 @@ impl From<LocksFault> for LineStop {
                 line,
                 cause: CompileCause::LockNotKey,
             },
-            LocksFault::Memory => LineStop::memory(),
+            LocksFault::Memory => LineStop::from(AllocError),
         }
     }
 }
@@ -94,7 +82,10 @@ impl From<AllocError> for LineStop {
     ghost from_gives = { λ _ stop. line_fault_of stop ≡ None };
 
     fn from(_error: AllocError) -> LineStop {
-        LineStop::memory()
+        LineStop {
+            line: 0,
+            cause: CompileCause::Memory,
+        }
     }
 }
 
@@ -102,6 +93,6 @@ impl<T: Drop> From<AllocFailed<T>> for LineStop {
     ghost from_gives = { λ _ stop. line_fault_of stop ≡ None };
 
     fn from(_error: AllocFailed<T>) -> LineStop {
-        LineStop::memory()
+        LineStop::from(AllocError)
     }
 }

@@ -40,10 +40,7 @@ fn add_lock_file(alloc: Global, bytes: &[u8], settings: &mut MapBuilder) -> Resu
     ensures added { OnOk result (AddsLocks (read_file locks_in bytes.now) settings.old settings.new) }
     ensures fault { IfErr result (λ stop. IfSome (line_fault_of stop) (λ fault. read_file locks_in bytes.now ≡ Err fault)) }
 {
-    match settings_text(bytes) {
-        Ok(text) => add_locks(alloc, text, settings),
-        Err(fault) => Err(LineStop::from(fault)),
-    }
+    add_locks(alloc, settings_text(bytes)?, settings)
 }
 
 /// Puts the locks of a text among settings.
