@@ -51,8 +51,8 @@ impl<'a> StoreFiles<'a> {
         let files = lent(alloc, &self.databases)?;
         match open_layers(alloc, &files) {
             Ok(layers) => Ok(layers),
+            Err(EngineFault::Fault(bad)) => Err(refused(alloc, bad)),
             Err(EngineFault::Memory) => Err(Refusal::NoMemory),
-            Err(fault) => Err(refused(alloc, fault)),
         }
     }
 
@@ -65,8 +65,8 @@ impl<'a> StoreFiles<'a> {
         let files = lent(alloc, &self.databases)?;
         match Engine::open(alloc, &self.profile, &files) {
             Ok(engine) => Ok(engine),
+            Err(EngineFault::Fault(bad)) => Err(refused(alloc, bad)),
             Err(EngineFault::Memory) => Err(Refusal::NoMemory),
-            Err(fault) => Err(refused(alloc, fault)),
         }
     }
 }

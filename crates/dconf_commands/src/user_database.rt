@@ -8,12 +8,13 @@ ghost use Rattle.dconf_model.specs.Profiles.{user_file};
 ghost use Rattle.dconf_model.specs.Settings.{Settings};
 ghost use Rattle.gvdb_write.specs.Limits.{IsRefusal};
 ghost use Rattle.dconf_path.specs.Profiles.{databases_of};
+ghost use Rattle.refused.specs.Faults.{fault_in};
 ghost use Rattle.dconf_engine.specs.ChangeFaults.{refusal_of};
 ghost use Rattle.dconf_streams.specs.Answers.{GivesOutcome};
 ghost use Rattle.dconf_commands.specs.Refusals.{IsLockedPath, RefusedFor};
 
 use crate::store_files::file_name;
-use dconf_engine::{ChangeFault, Engine};
+use dconf_engine::{ChangeFault, ChangeFlaw, Engine};
 use dconf_path::Profile;
 use dconf_streams::{Answer, Refusal, refused};
 use gvdb_write::WriteFault;
@@ -53,13 +54,13 @@ pub(crate) fn saved_saying(
 
 /// The refusal of a change. The path is the locked one, where one is.
 pub(crate) fn change_refused(alloc: Global, fault: ChangeFault, path: &str) -> Refusal
-    ensures { (paths : List (List ℕ)) → IsLockedPath paths (refusal_of fault) path.now → GivesOutcome (Err result) (RefusedFor paths (refusal_of fault)) }
+    ensures { (paths : List (List ℕ)) → IsLockedPath paths (fault_in refusal_of fault) path.now → GivesOutcome (Err result) (RefusedFor paths (fault_in refusal_of fault)) }
 {
     match fault {
-        ChangeFault::Locked(_) => refused(alloc, format_args!("Locked {path}")),
+        ChangeFault::Fault(ChangeFlaw::Locked(_)) => refused(alloc, format_args!("Locked {path}")),
+        ChangeFault::Fault(ChangeFlaw::NotWritable) => refused(alloc, fault),
+        ChangeFault::Fault(ChangeFlaw::TooLarge) => refused(alloc, fault),
         ChangeFault::Memory => Refusal::NoMemory,
-        ChangeFault::NotWritable => refused(alloc, fault),
-        ChangeFault::TooLarge => refused(alloc, fault),
     }
 }
 

@@ -1,5 +1,5 @@
 -- Changes of the first layer: what they give where they are accepted, and by the changes beside it.
-use Rattle.std.proofs.Common.{ℕ, ◌≡◌, ◌+◌, Bool, true, false, cond, List, [], ◌∷◌, Option, Some, None, Result, Ok, Err, map, option_map, refl, sym, ◌∙◌, ap, IfSome, ◌&&◌}
+use Rattle.std.proofs.Common.{ℕ, ◌≡◌, ◌+◌, Bool, true, false, cond, List, [], ◌∷◌, Option, Some, None, Result, Ok, Err, map, option_map, refl, sym, ◌∙◌, ap, ◌&&◌}
 use Rattle.std.specs.FinMap.{insert, remove}
 use Rattle.gv_model.specs.Tree.{Tree}
 use Rattle.dconf_model.specs.Layers.{Layers, is_locked}
@@ -9,7 +9,10 @@ use Rattle.dconf_model.specs.Changes.{Values, Refusal, apply, changed, with_all,
 use Rattle.dconf_model.specs.Changes.Change.{set_value, reset_value, load_values}
 use Rattle.dconf_model.specs.Changes.Refusal.{not_writable, locked, too_large}
 use Rattle.dconf_model.proofs.ParentLaws.{by_bool}
-use Rattle.dconf_engine.specs.declared.change_fault.ChangeFault.{ChangeFault}
+use Rattle.refused.specs.Faults.{OfFault}
+use Rattle.refused.specs.declared.Refused.{Refused}
+use Rattle.refused.specs.declared.Refused.TheVariants.{Fault, Memory}
+use Rattle.dconf_engine.specs.declared.change_fault.ChangeFlaw.{ChangeFlaw}
 use Rattle.dconf_layers.specs.declared.layer.Layer.{Layer}
 use Rattle.dconf_engine.specs.EngineLayers.{layers_of}
 use Rattle.dconf_layers.specs.LayerSettings.{settings_of}
@@ -103,30 +106,20 @@ first_row : (o : Option ℕ) (x : Result Layers Refusal) (r : Refusal) → optio
 first_row None x r e = absurd cc
 first_row (Some n) x r e = ap (err_of x) e
 
-load_refused_as : (l : Layers) (rows : List Assigned) (force : Bool) (r : Refusal) → rows_refusal l rows force ≡ Some r → apply l (load_values rows force) ≡ Err r
-load_refused_as l rows force r e = go l.writable force e
+-- what is refused before anything is done
+pub load_refused : (l : Layers) (rows : List Assigned) (force : Bool) (r : Refusal) → rows_refusal l rows force ≡ Some r → apply l (load_values rows force) ≡ Err r
+load_refused l rows force r e = go l.writable force e
   where
     go : (w f : Bool) → cond w (cond f None (option_map locked (first_locked l 0 (paths_of rows)))) (Some not_writable) ≡ Some r → cond w (load_all l rows f) (Err not_writable) ≡ Err r
     go true true h = absurd cc
     go true false h = first_row (first_locked l 0 (paths_of rows)) (set_all l rows) r h
     go false f h = ap (err_of (Err not_writable)) h
 
--- what is refused before anything is done
-pub load_refused : (l : Layers) (rows : List Assigned) (force : Bool) (fault : ChangeFault) → rows_refusal l rows force ≡ refusal_of fault → Refuses (apply l (load_values rows force)) fault
-load_refused l rows force fault e = go (refusal_of fault) refl
-  where
-    go : (o : Option Refusal) → refusal_of fault ≡ o → IfSome o (λ r. apply l (load_values rows force) ≡ Err r)
-    go None is = tt
-    go (Some r) is = load_refused_as l rows force r (e ∙ is)
-
 -- what is refused while the rows' bytes are made
-pub load_too_large_as : (l : Layers) (rows : List Assigned) (force : Bool) (fault : ChangeFault) → rows_refusal l rows force ≡ None →
-    IfSome (refusal_of fault) (λ r. (r ≡ too_large) × (all_storable (not_locked l rows) ≡ false)) → Refuses (apply l (load_values rows force)) fault
-load_too_large_as l rows force fault e h = go (refusal_of fault) h
-  where
-    go : (o : Option Refusal) → IfSome o (λ r. (r ≡ too_large) × (all_storable (not_locked l rows) ≡ false)) → IfSome o (λ r. apply l (load_values rows force) ≡ Err r)
-    go None k = tt
-    go (Some r) k = load_too_large l rows force e k.1 ∙ ap (λ (q : Refusal). Err q) (sym k.0)
+pub load_too_large_as : (l : Layers) (rows : List Assigned) (force : Bool) (fault : Refused ChangeFlaw) → rows_refusal l rows force ≡ None →
+    OfFault (λ flaw. (refusal_of flaw ≡ too_large) × (all_storable (not_locked l rows) ≡ false)) fault → Refuses (apply l (load_values rows force)) fault
+load_too_large_as l rows force (Fault flaw) e k = load_too_large l rows force e k.1 ∙ ap (λ (q : Refusal). Err q) (sym k.0)
+load_too_large_as l rows force Memory e k = tt
 
 pub first_locked_at : (l : Layers) (n : ℕ) (rows : List (KeyPath × Tree)) → position_from (λ (row : KeyPath × Tree). is_locked l (key_text row.0)) n rows ≡ first_locked l n (paths_of (rows_of rows))
 first_locked_at l n [] = refl

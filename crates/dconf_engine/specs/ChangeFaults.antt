@@ -1,34 +1,27 @@
 -- Which refusal of the model a fault of a change is, and how it is printed.
 use Rattle.std.specs.Prelude.{ℕ, List, codes, Option, Some, None, Result, Err, ◌≡◌, IfSome, if◌then◌else◌, Bool, option_map}
+use Rattle.refused.specs.Faults.{fault_in}
 use Rattle.refused.specs.declared.Refused.{Refused}
-use Rattle.refused.specs.declared.Refused.TheVariants as built
 use Rattle.dconf_model.specs.Layers.{Layers, is_locked}
 use Rattle.dconf_model.specs.Changes.{Refusal, first_locked, paths_of}
 use Rattle.dconf_model.specs.Sources.{Assigned}
 use Rattle.dconf_model.specs.Changes.Refusal.{not_writable, locked, too_large}
-use Rattle.dconf_engine.specs.declared.change_fault.ChangeFault.{ChangeFault}
-use Rattle.dconf_engine.specs.declared.change_fault.ChangeFault.TheVariants.{NotWritable, Locked, TooLarge, Memory}
+use Rattle.dconf_engine.specs.declared.change_fault.ChangeFlaw.{ChangeFlaw}
+use Rattle.dconf_engine.specs.declared.change_fault.ChangeFlaw.TheVariants.{NotWritable, Locked, TooLarge}
 
--- its refusal; a growth that is refused is none of the model's
-abbrev pub refusal_of : ChangeFault → Option Refusal
-refusal_of NotWritable = Some not_writable
-refusal_of (Locked row) = Some (locked row)
-refusal_of TooLarge = Some too_large
-refusal_of Memory = None
+abbrev pub refusal_of : ChangeFlaw → Refusal
+refusal_of NotWritable = not_writable
+refusal_of (Locked row) = locked row
+refusal_of TooLarge = too_large
 
 -- what a fault says of what a change gives: its refusal, or nothing where a growth was refused
-abbrev pub Refuses : Result Layers Refusal → ChangeFault → Type 0
-Refuses given fault = IfSome (refusal_of fault) (λ r. given ≡ Err r)
+abbrev pub Refuses : Result Layers Refusal → Refused ChangeFlaw → Type 0
+Refuses given fault = IfSome (fault_in refusal_of fault) (λ r. given ≡ Err r)
 
-abbrev pub fault_of_build : {F : Type 0} → Refused F → ChangeFault
-fault_of_build (built.Fault f) = TooLarge
-fault_of_build built.Memory = Memory
-
-abbrev pub change_fault_text : ChangeFault → List ℕ
+abbrev pub change_fault_text : ChangeFlaw → List ℕ
 change_fault_text NotWritable = codes "NotWritable"
 change_fault_text (Locked row) = codes "Locked"
 change_fault_text TooLarge = codes "TooLarge"
-change_fault_text Memory = codes "Memory"
 
 -- why a path may not be changed
 abbrev pub path_refusal : Layers → List ℕ → Option Refusal

@@ -1,4 +1,3 @@
-pub mod Faults
 pub mod EngineLayers
 pub mod ChangeFaults
 pub mod Loads

@@ -1,5 +1,6 @@
 //! The layers of a profile's databases, and what is seen through them.
 ghost use Rattle.std.specs.Prelude.{◌≡◌, IfErr, IfOk, IfSome, List, None, Some, length, map, option_map, drop, true, ℕ};
+ghost use Rattle.refused.specs.Faults.{OfFault};
 ghost use Rattle.gv_view.specs.Views.{value};
 ghost use Rattle.gvdb_read.specs.Lookups.{ShowsHeld};
 ghost use Rattle.dconf_model.specs.Databases.{AreLayers, IsFirstBad};
@@ -7,12 +8,12 @@ ghost use Rattle.dconf_model.specs.Layers.{first_from, is_locked, origin, place_
 ghost use Rattle.dconf_model.specs.Profiles.{has_writable};
 ghost use Rattle.dconf_path.specs.Paths.{key_text};
 ghost use Rattle.dconf_path.specs.Profiles.{databases_of};
-ghost use Rattle.dconf_engine.specs.Faults.{bad_of};
 ghost use Rattle.dconf_layers.specs.Files.{bytes_of_files};
 ghost use Rattle.dconf_layers.specs.LayerSettings.{settings_of};
+ghost use Rattle.dconf_layers.specs.Verdicts.{verdict_of};
 
 use crate::changes::Changes;
-use crate::fault::EngineFault;
+use crate::fault::{BadDatabase, EngineFault};
 use dconf_layers::{Layer, LentLayers};
 use dconf_path::{DatabaseKind, KeyPath, Profile};
 use gv_view::View;
@@ -69,7 +70,7 @@ impl<'a> Engine<'a> {
         requires { length files.now ≡ length (databases_of profile.now) }
         ensures layers { IfOk result (λ engine. AreLayers (bytes_of_files files.now) engine.layers) }
         ensures writable { IfOk result (λ engine. engine.writable ≡ has_writable (databases_of profile.now)) }
-        ensures fault { IfErr result (λ e. IfSome (bad_of e) (λ bad. IsFirstBad (bytes_of_files files.now) bad.0 bad.1)) }
+        ensures fault { IfErr result (OfFault (λ bad. IsFirstBad (bytes_of_files files.now) bad.0 (verdict_of bad.1))) }
     {
         let layers = open_layers(alloc, files)?;
         Ok(Engine::of_opened(alloc, is_of_user(profile), layers))
@@ -207,13 +208,13 @@ pub fn open_layers<'a>(
     files: &[Option<&'a [u8]>],
 ) -> Result<Vec<Layer<'a>>, EngineFault>
     ensures layers { IfOk result (λ layers. AreLayers (bytes_of_files files.now) (map settings_of layers.items)) }
-    ensures fault { IfErr result (λ e. IfSome (bad_of e) (λ bad. IsFirstBad (bytes_of_files files.now) bad.0 bad.1)) }
+    ensures fault { IfErr result (OfFault (λ bad. IsFirstBad (bytes_of_files files.now) bad.0 (verdict_of bad.1))) }
 {
     let mut layers = Vec::with_capacity(alloc, files.len())?;
     for (i, file) in files.iter().enumerate() {
         match Layer::open(*file) {
             Ok(layer) => layers.push(layer)?,
-            Err(fault) => return Err(EngineFault::BadDatabase(i, fault)),
+            Err(fault) => return Err(EngineFault::Fault(BadDatabase(i, fault))),
         }
     }
     Ok(layers)

@@ -31,7 +31,7 @@ mod stored_bytes;
 mod user_database;
 mod write;
 
-pub use change_fault::ChangeFault;
+pub use change_fault::{ChangeFault, ChangeFlaw};
 pub use dconf_layers::DatabaseFault;
 pub use engine::{Engine, open_layers};
-pub use fault::EngineFault;
+pub use fault::{BadDatabase, EngineFault};

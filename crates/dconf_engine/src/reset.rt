@@ -8,7 +8,7 @@ ghost use Rattle.dconf_engine.specs.Cleared.{changed_paths, cleared, first_paths
 ghost use Rattle.dconf_layers.specs.LayerRows.{layer_paths};
 ghost use Rattle.dconf_engine.specs.Unsaved.{and_resets};
 
-use crate::change_fault::ChangeFault;
+use crate::change_fault::{ChangeFault, ChangeFlaw};
 use crate::changes::Changes;
 use crate::engine::Engine;
 use dconf_layers::{Layer, is_under};
@@ -26,7 +26,7 @@ impl<'a> Engine<'a> {
         ensures err { OnErr result (self.new ≡ self.old) }
     {
         if !self.is_writable() {
-            return Err(ChangeFault::NotWritable);
+            return Err(ChangeFault::Fault(ChangeFlaw::NotWritable));
         }
         let mut changes = self.changes.try_copy()?;
         self.reset_changed(&self.changes, directory, &mut changes)?;

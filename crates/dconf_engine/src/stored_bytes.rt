@@ -1,5 +1,6 @@
 //! The bytes of values as they are stored.
-ghost use Rattle.std.specs.Prelude.{◌≡◌, true, false, IfOk, IfErr, IfSome, OnOk};
+ghost use Rattle.std.specs.Prelude.{◌≡◌, true, false, IfOk, IfErr, OnOk};
+ghost use Rattle.refused.specs.Faults.{OfFault};
 ghost use Rattle.gv_tree.specs.Wholes.{IsWhole};
 ghost use Rattle.dconf_model.specs.Changes.{Refusal.too_large};
 ghost use Rattle.dconf_model.specs.Values.{stored, is_storable};
@@ -8,6 +9,7 @@ ghost use Rattle.dconf_engine.specs.ChangeFaults.{refusal_of};
 use crate::change_fault::ChangeFault;
 use gv_build::variant_bytes;
 use gv_tree::Tree;
+use refused::Refused;
 use std::alloc::Global;
 
 /// The bytes of a value as it is stored: those of a variant that holds it.
@@ -17,8 +19,7 @@ pub(crate) fn stored_bytes(alloc: Global, value: &Tree) -> Result<Vec<u8>, Chang
     ensures bytes { IfOk result (λ bytes. bytes.items ≡ stored value.now) }
     ensures whole { OnOk result (IsWhole value.now) }
     ensures storable { OnOk result (is_storable value.now ≡ true) }
-    ensures fault { IfErr result (λ e. IfSome (refusal_of e) (λ r. (r ≡ too_large) × (is_storable value.now ≡ false))) }
+    ensures fault { IfErr result (OfFault (λ e. (refusal_of e ≡ too_large) × (is_storable value.now ≡ false))) }
 {
-    let bytes = variant_bytes(alloc, value)?;
-    Ok(bytes)
+    variant_bytes(alloc, value).map_err(Refused::into_fault)
 }

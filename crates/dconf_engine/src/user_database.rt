@@ -1,5 +1,6 @@
 //! The user's database.
-ghost use Rattle.std.specs.Prelude.{◌≡◌, true, false, IfOk, IfErr, IfSome, OnOk, map};
+ghost use Rattle.std.specs.Prelude.{◌≡◌, true, false, IfOk, IfErr, OnOk, map};
+ghost use Rattle.refused.specs.Faults.{OfFault};
 ghost use Rattle.dconf_model.specs.Changes.{Change.load_values, Refusal.too_large, all_storable, apply, saved, with_first_layer};
 ghost use Rattle.dconf_model.specs.Databases.{IsDatabaseOf, IsTooBig};
 ghost use Rattle.gvdb_write.specs.Limits.{IsRefusal};
@@ -78,7 +79,7 @@ impl<'a> Engine<'a> {
     ) -> Result<(), ChangeFault>
         ensures ok { OnOk result (values.new ≡ with_rows (not_locked self.now (rows_of rows.now)) values.old) }
         ensures storable { OnOk result (all_storable (not_locked self.now (rows_of rows.now)) ≡ true) }
-        ensures fault { IfErr result (λ e. IfSome (refusal_of e) (λ r. (r ≡ too_large) × (all_storable (not_locked self.now (rows_of rows.now)) ≡ false))) }
+        ensures fault { IfErr result (OfFault (λ e. (refusal_of e ≡ too_large) × (all_storable (not_locked self.now (rows_of rows.now)) ≡ false))) }
     {
         for (path, value) in rows {
             if !self.is_locked(*path) {

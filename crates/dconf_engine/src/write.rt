@@ -1,5 +1,6 @@
 //! Changes of the first layer.
-ghost use Rattle.std.specs.Prelude.{◌≡◌, true, false, Ok, Err, Some, None, OnOk, OnErr, IfOk, IfErr, IfSome};
+ghost use Rattle.std.specs.Prelude.{◌≡◌, true, false, Ok, Err, Some, None, OnOk, OnErr, IfOk, IfErr};
+ghost use Rattle.refused.specs.Faults.{OfFault};
 ghost use Rattle.gv_tree.specs.Wholes.{IsWhole};
 ghost use Rattle.dconf_path.specs.Paths.{key_text, directory_text};
 ghost use Rattle.dconf_model.specs.Changes.{apply, Change.set_value, Change.reset_value, Change.load_values, Change.reset_below_directory, first_locked, paths_of, all_storable, Refusal.too_large};
@@ -7,7 +8,7 @@ ghost use Rattle.dconf_engine.specs.ChangeFaults.{refusal_of, Refuses, path_refu
 ghost use Rattle.dconf_engine.specs.Loads.{rows_of, not_locked};
 ghost use Rattle.dconf_engine.specs.Unsaved.{and_rows};
 
-use crate::change_fault::ChangeFault;
+use crate::change_fault::{ChangeFault, ChangeFlaw};
 use crate::changes::Changes;
 use crate::engine::Engine;
 use crate::stored_bytes::stored_bytes;
@@ -47,15 +48,15 @@ impl<'a> Engine<'a> {
     }
 
     /// Refuses a path that may not be changed.
-    fn check_path(&self, path: KeyPath<'_>) -> Result<(), ChangeFault>
+    fn check_path(&self, path: KeyPath<'_>) -> Result<(), ChangeFlaw>
         ensures ok { OnOk result (path_refusal self.now (key_text path.entry) ≡ None) }
-        ensures fault { IfErr result (λ e. path_refusal self.now (key_text path.entry) ≡ refusal_of e) }
+        ensures fault { IfErr result (λ e. path_refusal self.now (key_text path.entry) ≡ Some (refusal_of e)) }
     {
         if !self.is_writable() {
-            return Err(ChangeFault::NotWritable);
+            return Err(ChangeFlaw::NotWritable);
         }
         if self.is_locked(path) {
-            return Err(ChangeFault::Locked(0));
+            return Err(ChangeFlaw::Locked(0));
         }
         Ok(())
     }
@@ -82,15 +83,15 @@ impl<'a> Engine<'a> {
         &self,
         rows: &[(KeyPath<'_>, Tree)],
         force: bool,
-    ) -> Result<(), ChangeFault>
+    ) -> Result<(), ChangeFlaw>
         ensures ok { OnOk result (rows_refusal self.now (rows_of rows.now) force ≡ None) }
-        ensures fault { IfErr result (λ e. rows_refusal self.now (rows_of rows.now) force ≡ refusal_of e) }
+        ensures fault { IfErr result (λ e. rows_refusal self.now (rows_of rows.now) force ≡ Some (refusal_of e)) }
     {
         if !self.is_writable() {
-            return Err(ChangeFault::NotWritable);
+            return Err(ChangeFlaw::NotWritable);
         }
         if !force && let Some(row) = self.first_locked(rows) {
-            return Err(ChangeFault::Locked(row));
+            return Err(ChangeFlaw::Locked(row));
         }
         Ok(())
     }
@@ -110,7 +111,7 @@ impl<'a> Engine<'a> {
     ) -> Result<(), ChangeFault>
         ensures ok { OnOk result (changes.new ≡ and_rows (not_locked self.now (rows_of rows.now)) changes.old) }
         ensures storable { OnOk result (all_storable (not_locked self.now (rows_of rows.now)) ≡ true) }
-        ensures fault { IfErr result (λ e. IfSome (refusal_of e) (λ r. (r ≡ too_large) × (all_storable (not_locked self.now (rows_of rows.now)) ≡ false))) }
+        ensures fault { IfErr result (OfFault (λ e. (refusal_of e ≡ too_large) × (all_storable (not_locked self.now (rows_of rows.now)) ≡ false))) }
     {
         for (path, value) in rows {
             if !self.is_locked(*path) {

@@ -1,5 +1,5 @@
 -- What is seen of a store that was changed, saved and opened again.
-use Rattle.std.specs.Prelude.{◌≡◌, ◌↔◌, ℕ, Bool, List, [], ◌∷◌, ◌++◌, map, Option, Some, Result, Ok, Err, IfOk, IfErr, IfSome, Contains, refl}
+use Rattle.std.specs.Prelude.{◌≡◌, ◌↔◌, ℕ, Bool, List, [], ◌∷◌, ◌++◌, map, Option, Some, Result, Ok, Err, IfOk, IfErr, IsErrAnd, MatchResult, Contains, refl}
 use Rattle.std.proofs.Common.{◌∙◌, ap, sym, subst}
 use Rattle.gv_model.specs.Tree.{Tree}
 use Rattle.dconf_model.specs.Bytes.{MaybeBytes}
@@ -11,13 +11,12 @@ use Rattle.dconf_model.specs.Sources.{Given, last_value}
 use Rattle.dconf_model.specs.Paths.{first_part}
 use Rattle.dconf_model.specs.Stores.{Deed, DidDeeds, Does, FilesGive, changes_of, value_given, own_after, IsNamed}
 use Rattle.dconf_model.specs.Stores.Deed.{changed, reopened}
-use Rattle.dconf_engine.specs.declared.fault.EngineFault.{EngineFault}
-use Rattle.dconf_engine.specs.declared.fault.EngineFault.TheVariants as opened_as
+use Rattle.refused.specs.Faults.{IsCarried, OfFault}
+use Rattle.refused.specs.declared.Refused.{Refused}
+use Rattle.refused.proofs.Faults.{IfErr-carried}
+use Rattle.dconf_engine.specs.declared.fault.BadDatabase.{BadDatabase}
 use Rattle.dconf_layers.specs.Verdicts.{verdict_of}
-use Rattle.dconf_engine.specs.Faults.{bad_of}
-use Rattle.dconf_store.specs.declared.fault.StoreFault.{StoreFault}
-use Rattle.dconf_store.specs.declared.fault.StoreFault.TheVariants.{BadDatabase, Refused, TooBig, TooLarge, Memory}
-use Rattle.dconf_store.specs.Faults.{IsNoValue, IsReadFault, fault_of_engine}
+use Rattle.dconf_store.specs.declared.fault.StoreFlaw.{StoreFlaw}
 use Rattle.dconf_store.specs.Seen.{AreChildrenAfter, AreOpened, IsSavedAfter, IsValueAfter}
 use Rattle.dconf_store.specs.Files.{with_first_file}
 use Rattle.dconf_store.proofs.Applied.{did_all}
@@ -83,23 +82,28 @@ none_bad (first ∷ others) writable cs file made i v bad = no_bad_one made.1.0.
     no_bad_one (s ∷ ss) i v h bad = none_is_bad file (saved made.0.layers) others ss i v made.2 h.1 bad
 
 -- an engine of what was saved has no fault but want of memory
-pub reopen_fault : (files : List MaybeBytes) (writable : Bool) (cs : List Change) (file : List ℕ) (f : EngineFault) → IsSavedAfter files writable cs file →
-    IfSome (bad_of f) (λ bad. IsFirstBad (with_first_file file files) bad.0 bad.1) → fault_of_engine f ≡ Memory
-reopen_fault files writable cs file (opened_as.BadDatabase i fault) made bad = absurd (none_bad files writable cs file made i (verdict_of fault) bad)
-reopen_fault files writable cs file opened_as.Memory made bad = refl
+pub reopen_fault : {T : Type 0} (gives : BadDatabase → StoreFlaw → Type 0) (files : List MaybeBytes) (writable : Bool) (cs : List Change) (file : List ℕ) (P : StoreFlaw → Type 0)
+    (r : Result T (Refused BadDatabase)) (d : Refused StoreFlaw) → IsSavedAfter files writable cs file → MatchResult r (λ x. Err d ≡ Ok x) (λ e. IsCarried gives e d) →
+    IfErr r (OfFault (λ bad. IsFirstBad (with_first_file file files) bad.0 (verdict_of bad.1))) → OfFault P d
+reopen_fault gives files writable cs file P r d made is h =
+    IfErr-carried gives (λ bad. IsFirstBad (with_first_file file files) bad.0 (verdict_of bad.1)) P
+    (λ bad flaw was first. absurd (none_bad files writable cs file made bad.0 (verdict_of bad.1) first)) r (Err d) is h
 
-pub read_fault : (files : List MaybeBytes) (writable : Bool) (cs : List Change) (path : List ℕ) (v : Option Tree) (fault : StoreFault) → IsValueAfter files cs path v →
-    IsReadFault v fault → IsNoValue files writable cs path fault
-read_fault files writable cs path v TooLarge is h = (v, is, h)
-read_fault files writable cs path v Memory is h = tt
-read_fault files writable cs path v (BadDatabase i f) is h = absurd h
-read_fault files writable cs path v (Refused i f) is h = absurd h
-read_fault files writable cs path v TooBig is h = absurd h
+-- where `map_err` carries the errors of a result, a value stays
+pub ok_carried : {T E F : Type 0} (gives : E → F → Type 0) (P : T → Type 0) (r : Result T E) (s : Result T F) → MatchResult r (λ x. s ≡ Ok x) (λ e. IsErrAnd s (gives e)) → IfOk r P → IfOk s P
+ok_carried gives P r (Err d) is p = tt
+ok_carried gives P (Ok x) (Ok y) is p =
+    let same : x ≡ y = cc in
+    subst P same p
+ok_carried gives P (Err e) (Ok y) is p = absurd is
 
-pub ok_then : {A E : Type 0} (P Q : A → Type 0) (r : Result A E) → ((v : A) → P v → Q v) → IfOk r P → IfOk r Q
-ok_then P Q (Ok v) f h = f v h
-ok_then P Q (Err e) f h = tt
+abbrev ok_layers : Layers → Result Layers (Refused StoreFlaw)
+ok_layers m = Ok m
 
-pub err_then : {A E : Type 0} (P Q : E → Type 0) (r : Result A E) → ((e : E) → P e → Q e) → IfErr r P → IfErr r Q
-err_then P Q (Ok v) f h = tt
-err_then P Q (Err e) f h = f e h
+-- an engine of what was saved has its files' layers
+pub opened_again : (files items : List MaybeBytes) (writable : Bool) (file : List ℕ) (r : Result Layers (Refused BadDatabase)) (m : Layers) → items ≡ with_first_file file files →
+    MatchResult r (λ x. ok_layers m ≡ Ok x) (λ e. ⊥) → IfOk r (λ l. AreLayers items l.layers) → IfOk r (λ l. l.writable ≡ writable) → AreOpened (with_first_file file files) writable m
+opened_again files items writable file r m same is layers writes = record {
+  layers = ok_carried (λ e d. ⊥) (λ l. AreLayers (with_first_file file files) l.layers) r (ok_layers m) is (subst (λ items. IfOk r (λ l. AreLayers items l.layers)) same layers);
+  writable = ok_carried (λ e d. ⊥) (λ l. l.writable ≡ writable) r (ok_layers m) is writes;
+}

@@ -1,46 +1,44 @@
 //! Why a store has no answer.
 ghost use Rattle.std.specs.Prelude.{◌≡◌};
-ghost use Rattle.dconf_store.specs.declared.fault.StoreFault.TheVariants.{Memory};
+ghost use Rattle.dconf_store.specs.Faults.{store_fault_of};
+ghost use Rattle.dconf_store.specs.declared.fault.StoreFlaw.TheVariants as flaws;
 
-use dconf_engine::{ChangeFault, EngineFault};
+use dconf_engine::{BadDatabase, ChangeFault, ChangeFlaw};
 use dconf_layers::DatabaseFault;
-use gv_view::ViewFault;
-use gvdb_write::WriteFault;
-use std::alloc::{AllocError, AllocFailed};
+use gv_view::TooLarge;
+use gvdb_write::TooBig;
+use refused::Refused;
 use std::error::Error;
 use std::fmt;
 
-/// Why a store has no answer: the first of these that it has, in this order. A fault is printed as its name, with the index
+/// Why a store has no answer.
+pub type StoreFault = Refused<StoreFlaw>;
+
+/// What is at fault in a store: the first of these that is so, in this order. It is printed as its name, with the index
 /// of what is at fault and why.
 #[derive(Clone, Copy, Debug, PartialEq, Eq)]
-pub enum StoreFault {
+pub enum StoreFlaw {
     /// The database of this index, counted from 0, is no sound one.
     BadDatabase(usize, DatabaseFault),
     /// The change of this index, counted from 0, is refused.
-    Refused(usize, ChangeFault),
+    Refused(usize, ChangeFlaw),
     /// The user's database would have over 4,294,967,295 bytes.
     TooBig,
     /// The value is more than 128 levels deep.
     TooLarge,
-    /// A growth was refused.
-    Memory,
 }
 
-impl StoreFault {
-    ghost use Rattle.dconf_store.specs.Faults.{store_fault_of};
-
-    /// That of a change of this index.
-    pub(crate) fn of_change(i: usize, fault: ChangeFault) -> StoreFault
-        ensures { result ≡ store_fault_of i fault }
-    {
-        match fault {
-            ChangeFault::Memory => StoreFault::Memory,
-            refusal => StoreFault::Refused(i, refusal),
-        }
+/// That of a change of this index.
+pub(crate) fn of_change(i: usize, fault: ChangeFault) -> StoreFault
+    ensures { result ≡ store_fault_of i fault }
+{
+    match fault {
+        Refused::Fault(flaw) => Refused::Fault(StoreFlaw::Refused(i, flaw)),
+        Refused::Memory => Refused::Memory,
     }
 }
 
-impl fmt::Display for StoreFault {
+impl fmt::Display for StoreFlaw {
     ghost use Rattle.std.specs.Prelude.{Some};
     ghost use Rattle.dconf_store.specs.Faults.{store_fault_text};
 
@@ -48,68 +46,36 @@ impl fmt::Display for StoreFault {
 
     fn fmt<W: fmt::Write>(&self, f: &mut fmt::Formatter<W>) -> fmt::Result {
         match self {
-            StoreFault::BadDatabase(i, fault) => write!(f, "BadDatabase {i}: {fault}"),
-            StoreFault::Refused(i, fault) => write!(f, "Refused {i}: {fault}"),
-            StoreFault::TooBig => f.write_str("TooBig"),
-            StoreFault::TooLarge => f.write_str("TooLarge"),
-            StoreFault::Memory => f.write_str("Memory"),
+            StoreFlaw::BadDatabase(i, fault) => write!(f, "BadDatabase {i}: {fault}"),
+            StoreFlaw::Refused(i, fault) => write!(f, "Refused {i}: {fault}"),
+            StoreFlaw::TooBig => f.write_str("TooBig"),
+            StoreFlaw::TooLarge => f.write_str("TooLarge"),
         }
     }
 }
 
-impl Error for StoreFault {}
+impl Error for StoreFlaw {}
 
-impl From<EngineFault> for StoreFault {
-    ghost use Rattle.dconf_store.specs.Faults.{fault_of_engine};
+impl From<BadDatabase> for StoreFlaw {
+    ghost from_gives = { λ bad flaw. flaw ≡ flaws.BadDatabase bad.0 bad.1 };
 
-    ghost from_gives = { λ fault e. e ≡ fault_of_engine fault };
-
-    fn from(fault: EngineFault) -> StoreFault {
-        match fault {
-            EngineFault::BadDatabase(i, fault) => StoreFault::BadDatabase(i, fault),
-            EngineFault::Memory => StoreFault::Memory,
-        }
+    fn from(bad: BadDatabase) -> StoreFlaw {
+        StoreFlaw::BadDatabase(bad.0, bad.1)
     }
 }
 
-impl From<WriteFault> for StoreFault {
-    ghost use Rattle.dconf_store.specs.Faults.{fault_of_write};
+impl From<TooBig> for StoreFlaw {
+    ghost from_gives = { λ _ flaw. flaw ≡ flaws.TooBig };
 
-    ghost from_gives = { λ fault e. e ≡ fault_of_write fault };
-
-    fn from(fault: WriteFault) -> StoreFault {
-        match fault {
-            WriteFault::Fault(_) => StoreFault::TooBig,
-            WriteFault::Memory => StoreFault::Memory,
-        }
+    fn from(_fault: TooBig) -> StoreFlaw {
+        StoreFlaw::TooBig
     }
 }
 
-impl From<ViewFault> for StoreFault {
-    ghost use Rattle.dconf_store.specs.Faults.{fault_of_view};
+impl From<TooLarge> for StoreFlaw {
+    ghost from_gives = { λ _ flaw. flaw ≡ flaws.TooLarge };
 
-    ghost from_gives = { λ fault e. e ≡ fault_of_view fault };
-
-    fn from(fault: ViewFault) -> StoreFault {
-        match fault {
-            ViewFault::Fault(_) => StoreFault::TooLarge,
-            ViewFault::Memory => StoreFault::Memory,
-        }
-    }
-}
-
-impl From<AllocError> for StoreFault {
-    ghost from_gives = { λ _ e. e ≡ Memory };
-
-    fn from(_error: AllocError) -> StoreFault {
-        StoreFault::Memory
-    }
-}
-
-impl<T: Drop> From<AllocFailed<T>> for StoreFault {
-    ghost from_gives = { λ _ e. e ≡ Memory };
-
-    fn from(_error: AllocFailed<T>) -> StoreFault {
-        StoreFault::Memory
+    fn from(_fault: TooLarge) -> StoreFlaw {
+        StoreFlaw::TooLarge
     }
 }

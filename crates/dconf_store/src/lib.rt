@@ -23,5 +23,5 @@ mod fault;
 mod store;
 
 pub use change::Change;
-pub use fault::StoreFault;
+pub use fault::{StoreFault, StoreFlaw};
 pub use store::{children_after, user_file_after, value_after};

@@ -1,5 +1,6 @@
 //! What is saved of a store after changes, and what is seen when that is opened again.
 ghost use Rattle.std.specs.Prelude.{◌≡◌, [], IfErr, IfOk, IsOk, None, OnErr, OnOk, length, map, string_bytes};
+ghost use Rattle.refused.specs.Faults.{OfFault};
 ghost use Rattle.dconf_model.specs.Databases.{IsDatabaseOf};
 ghost use Rattle.dconf_model.specs.Changes.{saved};
 ghost use Rattle.dconf_model.specs.Layers.{Layers, visible};
@@ -8,15 +9,17 @@ ghost use Rattle.dconf_path.specs.Paths.{directory_text, key_text};
 ghost use Rattle.dconf_path.specs.Profiles.{databases_of};
 ghost use Rattle.dconf_layers.specs.Files.{bytes_of_file, bytes_of_files};
 ghost use Rattle.dconf_store.specs.Changes.{asked_of};
-ghost use Rattle.dconf_store.specs.Faults.{IsFaultOf, IsNoValue, IsReadFault, IsRefusedAt};
+ghost use Rattle.dconf_store.specs.Faults.{IsFaultOf, IsNoValue, IsRefusedAt, IsTooLarge};
 ghost use Rattle.dconf_store.specs.Files.{with_first_file};
 ghost use Rattle.dconf_store.specs.Seen.{AreAccepted, AreChanged, AreChildrenAfter, HaveChanged, IsSavedAfter, IsValueAfter};
 
 use crate::change::Change;
-use crate::fault::StoreFault;
+use crate::fault::{StoreFault, of_change};
 use dconf_engine::Engine;
 use dconf_path::{DirPath, KeyPath, Profile};
 use gv_tree::Tree;
+use gv_view::ViewFault;
+use refused::Refused;
 use std::alloc::{AllocError, Global};
 
 /// The bytes of the first database after changes, each made in turn: those of its file's values and of the changes, without
@@ -33,11 +36,11 @@ pub fn user_file_after(
 ) -> Result<Vec<u8>, StoreFault>
     requires { length files.now ≡ length (databases_of profile.now) }
     ensures file { IfOk result (λ file. IsSavedAfter (bytes_of_files files.now) (has_writable (databases_of profile.now)) (asked_of changes.now) file.items) }
-    ensures fault { IfErr result (IsFaultOf (bytes_of_files files.now) (has_writable (databases_of profile.now)) (asked_of changes.now)) }
+    ensures fault { IfErr result (OfFault (IsFaultOf (bytes_of_files files.now) (has_writable (databases_of profile.now)) (asked_of changes.now))) }
 {
-    let mut engine = Engine::open(alloc, profile, files)?;
+    let mut engine = Engine::open(alloc, profile, files).map_err(Refused::into_fault)?;
     make_all(&mut engine, changes)?;
-    Ok(engine.into_saved()?)
+    engine.into_saved().map_err(Refused::into_fault)
 }
 
 /// The value that is seen at a path where the changes were made, saved, and opened again: None where none is seen.
@@ -56,12 +59,12 @@ pub fn value_after(
     ensures value { IfOk result (λ v. IsValueAfter (bytes_of_files files.now) (asked_of changes.now) (key_text path.entry) v) }
     ensures none { length files.now ≡ 0 → IfOk result (λ v. v ≡ None) }
     ensures accepted { IsOk result → AreAccepted (bytes_of_files files.now) (has_writable (databases_of profile.now)) (asked_of changes.now) }
-    ensures fault { IfErr result (IsNoValue (bytes_of_files files.now) (has_writable (databases_of profile.now)) (asked_of changes.now) (key_text path.entry)) }
+    ensures fault { IfErr result (OfFault (IsNoValue (bytes_of_files files.now) (has_writable (databases_of profile.now)) (asked_of changes.now) (key_text path.entry))) }
 {
     let saved = user_file_after(alloc, profile, files, changes)?;
     let again = replaced(alloc, files, &saved)?;
-    let engine = Engine::open(alloc, profile, &again)?;
-    seen(alloc, &engine, path)
+    let engine = Engine::open(alloc, profile, &again).map_err(Refused::into_fault)?;
+    seen(alloc, &engine, path).map_err(Refused::into_fault)
 }
 
 /// The names of what a directory has where the changes were made, saved, and opened again: a key's name, and a directory's
@@ -80,22 +83,22 @@ pub fn children_after(
     ensures names { IfOk result (λ names. AreChildrenAfter (bytes_of_files files.now) (asked_of changes.now) (directory_text directory.entry) (map string_bytes names.items)) }
     ensures none { length files.now ≡ 0 → IfOk result (λ names. names.items ≡ []) }
     ensures accepted { IsOk result → AreAccepted (bytes_of_files files.now) (has_writable (databases_of profile.now)) (asked_of changes.now) }
-    ensures fault { IfErr result (IsFaultOf (bytes_of_files files.now) (has_writable (databases_of profile.now)) (asked_of changes.now)) }
+    ensures fault { IfErr result (OfFault (IsFaultOf (bytes_of_files files.now) (has_writable (databases_of profile.now)) (asked_of changes.now))) }
 {
     let file = user_file_after(alloc, profile, files, changes)?;
     let again = replaced(alloc, files, &file)?;
-    let engine = Engine::open(alloc, profile, &again)?;
+    let engine = Engine::open(alloc, profile, &again).map_err(Refused::into_fault)?;
     Ok(engine.list(alloc, directory)?)
 }
 
 /// Makes each change in turn, up to the first that is refused.
 fn make_all(engine: &mut Engine<'_>, changes: &[Change<'_>]) -> Result<(), StoreFault>
     ensures made { OnOk result (HaveChanged engine.old (asked_of changes.now) engine.new) }
-    ensures fault { IfErr result (IsRefusedAt engine.old (asked_of changes.now)) }
+    ensures fault { IfErr result (OfFault (IsRefusedAt engine.old (asked_of changes.now))) }
 {
     for (i, change) in changes.iter().enumerate() {
         if let Err(fault) = change.make(engine) {
-            return Err(StoreFault::of_change(i, fault));
+            return Err(of_change(i, fault));
         }
     }
     Ok(())
@@ -121,9 +124,9 @@ fn replaced<'a, 'f: 'a>(
 }
 
 /// The value that is seen at a path, if there is one.
-fn seen(alloc: Global, engine: &Engine<'_>, path: KeyPath<'_>) -> Result<Option<Tree>, StoreFault>
+fn seen(alloc: Global, engine: &Engine<'_>, path: KeyPath<'_>) -> Result<Option<Tree>, ViewFault>
     ensures value { IfOk result (λ v. v ≡ visible engine.now (key_text path.entry)) }
-    ensures fault { IfErr result (IsReadFault (visible engine.now (key_text path.entry))) }
+    ensures fault { IfErr result (OfFault (λ _. IsTooLarge (visible engine.now (key_text path.entry)))) }
 {
     match engine.read(path) {
         Some(view) => Ok(Some(view.to_tree(alloc)?)),

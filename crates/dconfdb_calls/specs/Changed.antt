@@ -1,7 +1,9 @@
 -- The changes that C asks for, and the user's database with them.
 use Rattle.std.specs.Prelude.{◌≡◌, ◌⊎◌, ℕ, List, [], ◌∷◌, Result, Ok, Err, Some, Bool, true, false, IsTrue, slice_get, take, if◌then◌else◌}
-use Rattle.dconf_engine.specs.declared.change_fault.ChangeFault.{ChangeFault}
-use Rattle.dconf_engine.specs.declared.change_fault.ChangeFault.TheVariants as refused
+use Rattle.refused.specs.declared.Refused.{Refused}
+use Rattle.refused.specs.declared.Refused.TheVariants as refused
+use Rattle.dconf_engine.specs.declared.change_fault.ChangeFlaw.{ChangeFlaw}
+use Rattle.dconf_engine.specs.declared.change_fault.ChangeFlaw.TheVariants as flaws
 use Rattle.gv_model.specs.Printed.{is_too_large}
 use Rattle.gv_model.specs.Tree.{Tree}
 use Rattle.gv_model.specs.TypeText.{type_at}
@@ -52,10 +54,10 @@ pub record IsChanged (l : Layers) (changes : List DconfdbChange) (file : List �
 -- ---- refusals
 
 -- the fault of a change that the engine refuses
-abbrev pub fault_of_change : ChangeFault → Fault
-fault_of_change refused.NotWritable = NotWritable
-fault_of_change (refused.Locked row) = Locked
-fault_of_change refused.TooLarge = TooLarge
+abbrev pub fault_of_change : Refused ChangeFlaw → Fault
+fault_of_change (refused.Fault flaws.NotWritable) = NotWritable
+fault_of_change (refused.Fault (flaws.Locked row)) = Locked
+fault_of_change (refused.Fault flaws.TooLarge) = TooLarge
 fault_of_change refused.Memory = Memory
 
 -- the index that is told of a change's fault: an allocation that failed is no change's
@@ -63,7 +65,7 @@ abbrev pub at_of : Fault → ℕ → ℕ
 at_of Memory at = 0
 at_of _ at = at
 
-abbrev pub with_fault : Result (Unit {0}) ChangeFault → Result (Unit {0}) Fault
+abbrev pub with_fault : Result (Unit {0}) (Refused ChangeFlaw) → Result (Unit {0}) Fault
 with_fault (Ok u) = Ok u
 with_fault (Err e) = Err (fault_of_change e)
 

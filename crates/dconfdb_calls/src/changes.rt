@@ -13,11 +13,11 @@ ghost use Rattle.dconfdb_calls.specs.Seen.{layers_of};
 
 use crate::fault::Fault;
 use crate::given::{directory_path, key_path, view_of};
-use dconf_engine::{ChangeFault, Engine};
+use dconf_engine::{ChangeFault, ChangeFlaw, Engine};
 use dconf_layers::Layer;
 use dconf_path::KeyPath;
 use gv_normal::is_normal;
-use gv_view::{View, ViewFault};
+use gv_view::{TooLarge, View, ViewFault};
 use gvdb_write::{TooBig, WriteFault};
 use std::alloc::Global;
 
@@ -163,7 +163,7 @@ fn set(
 {
     match view.to_tree(alloc) {
         Ok(tree) => or_fault(engine.write(path, &tree)),
-        Err(ViewFault::Fault(_)) => Err(Fault::TooLarge),
+        Err(ViewFault::Fault(TooLarge)) => Err(Fault::TooLarge),
         Err(ViewFault::Memory) => Err(Fault::Memory),
     }
 }
@@ -174,9 +174,9 @@ fn or_fault(made: Result<(), ChangeFault>) -> Result<(), Fault>
 {
     match made {
         Ok(()) => Ok(()),
-        Err(ChangeFault::NotWritable) => Err(Fault::NotWritable),
-        Err(ChangeFault::Locked(_)) => Err(Fault::Locked),
-        Err(ChangeFault::TooLarge) => Err(Fault::TooLarge),
+        Err(ChangeFault::Fault(ChangeFlaw::NotWritable)) => Err(Fault::NotWritable),
+        Err(ChangeFault::Fault(ChangeFlaw::Locked(_))) => Err(Fault::Locked),
+        Err(ChangeFault::Fault(ChangeFlaw::TooLarge)) => Err(Fault::TooLarge),
         Err(ChangeFault::Memory) => Err(Fault::Memory),
     }
 }

@@ -9,6 +9,7 @@ ghost use Rattle.dconf_model.specs.Sources.{loaded};
 ghost use Rattle.dconf_path.specs.Paths.{directory_text};
 ghost use Rattle.dconf_compile.specs.Loading.{rows_loaded};
 ghost use Rattle.dconf_compile.specs.LineStops.{line_fault_of};
+ghost use Rattle.refused.specs.Faults.{fault_in};
 ghost use Rattle.dconf_engine.specs.ChangeFaults.{refusal_of};
 ghost use Rattle.dconf_engine.specs.Loads.{IsLoaded, rows_of};
 ghost use Rattle.dconf_streams.specs.Answers.{GivesOutcome, RefusesFor};
@@ -23,7 +24,7 @@ use crate::store_files::StoreFiles;
 use crate::user_database::{change_refused, saved_saying};
 use dconf_compile::{CompileCause, LineStop, Loaded, RowsBelow};
 use dconf_disk::Folder;
-use dconf_engine::{ChangeFault, Engine};
+use dconf_engine::{ChangeFault, ChangeFlaw, Engine};
 use dconf_path::{DirPath, KeyPath};
 use dconf_streams::{
     Answer, Counted, InputFault, Refusal, named_file, read_input, refused, refused_at,
@@ -179,10 +180,10 @@ fn line_refused(alloc: Global, stop: LineStop) -> Refusal
 
 /// The path of the row that is locked, or no text where the fault is another.
 fn locked_path<'a>(rows: &[(KeyPath<'a>, Tree)], fault: ChangeFault) -> &'a str
-    ensures { IsLockedPath (paths_of (rows_of rows.now)) (refusal_of fault) result.now }
+    ensures { IsLockedPath (paths_of (rows_of rows.now)) (fault_in refusal_of fault) result.now }
 {
     match fault {
-        ChangeFault::Locked(row) => match rows.get(row) {
+        ChangeFault::Fault(ChangeFlaw::Locked(row)) => match rows.get(row) {
             Some(row) => row.0.as_str(),
             None => "",
         },

@@ -1,5 +1,6 @@
 use Rattle.std.proofs.Common.{◌∷◌, [], Err, subst, sym}
 use Rattle.dconf_path.specs.Paths.{key_text}
+use Rattle.refused.specs.Faults.{fault_in}
 use Rattle.dconf_engine.specs.ChangeFaults.{refusal_of}
 use Rattle.dconf_commands.specs.Refusals.{IsLockedPath}
 use Rattle.dconf_commands.proofs.ChangeLaws.{refuses_change, set_locks}
@@ -8,7 +9,7 @@ use Rattle.dconf_commands.proofs.commands.write.with_value.Goals as goal
 pub returns-in-Err : goal.returns-in-Err
 returns-in-Err c =
     let path = key_text c.args.key in
-    let why = refusal_of c.in-Err.fault in
+    let why = fault_in refusal_of c.in-Err.fault in
     refuses_change (Err c.change_refused.result) (path ∷ []) _ _ why c.in-Err.ensures.fault
     (c.change_refused.ensures (path ∷ []) (subst (λ name. IsLockedPath (path ∷ []) why name) (sym c.as_str.ensures)
     (set_locks c.args.engine path c.args.value.now why c.in-Err.ensures.fault)))
