@@ -1,7 +1,6 @@
 //! Why one file is refused, its name aside.
 ghost use Rattle.std.specs.Prelude.{◌≡◌, None, Some};
-ghost use Rattle.dconf_path.specs.LineFaults.{locks_fault_of};
-ghost use Rattle.dconf_path.specs.SettingsTexts.{text_fault_of};
+ghost use Rattle.dconf_path.specs.Faults.{locks_fault_of, text_fault_of};
 ghost use Rattle.keyfile_core.specs.KeyfileFaults.{fault_of};
 ghost use Rattle.refused.specs.Faults.{fault_in};
 ghost use Rattle.dconf_compile.specs.LineStops.{line_fault_of};

@@ -12,7 +12,7 @@ use Rattle.dconf_path.specs.declared.profiles.DatabaseKind.{DatabaseKind}
 use Rattle.dconf_path.specs.declared.profiles.DatabaseKind.TheVariants.{User, System, File}
 use Rattle.dconf_path.specs.declared.profiles.Database.{Database}
 use Rattle.dconf_path.specs.declared.profiles.Profile.{Profile}
-use Rattle.dconf_path.specs.LineFaults.{profile_fault_of}
+use Rattle.dconf_path.specs.Faults.{profile_fault_of}
 
 abbrev pub kind_of : DatabaseKind → Kind
 kind_of User = user_db

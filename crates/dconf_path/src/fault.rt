@@ -19,35 +19,22 @@ pub enum PathFault {
     TooLong,
 }
 
-impl PathFault {
-    ghost use Rattle.std.specs.Prelude.{◌≡◌};
+impl fmt::Display for PathFault {
+    ghost use Rattle.std.specs.Prelude.{Some};
     ghost use Rattle.dconf_model.specs.FaultTexts.{path_fault_text};
-    ghost use Rattle.dconf_path.specs.PathFaults.{path_fault_of};
+    ghost use Rattle.dconf_path.specs.Faults.{path_fault_of};
 
-    /// The name by which it is printed.
-    fn name(self) -> &'static str
-        ensures { result.now ≡ path_fault_text (path_fault_of self) }
-    {
-        match self {
+    ghost output = { λ fault. Some (path_fault_text (path_fault_of fault)) };
+
+    fn fmt<W: fmt::Write>(&self, f: &mut fmt::Formatter<W>) -> fmt::Result {
+        f.write_str(match self {
             PathFault::NotAbsolute => "NotAbsolute",
             PathFault::HasNul => "HasNul",
             PathFault::DoubleSlash => "DoubleSlash",
             PathFault::EndsInSlash => "EndsInSlash",
             PathFault::NoEndSlash => "NoEndSlash",
             PathFault::TooLong => "TooLong",
-        }
-    }
-}
-
-impl fmt::Display for PathFault {
-    ghost use Rattle.std.specs.Prelude.{Some};
-    ghost use Rattle.dconf_model.specs.FaultTexts.{path_fault_text};
-    ghost use Rattle.dconf_path.specs.PathFaults.{path_fault_of};
-
-    ghost output = { λ fault. Some (path_fault_text (path_fault_of fault)) };
-
-    fn fmt<W: fmt::Write>(&self, f: &mut fmt::Formatter<W>) -> fmt::Result {
-        f.write_str(self.name())
+        })
     }
 }
 

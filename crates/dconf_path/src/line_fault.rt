@@ -1,7 +1,7 @@
 //! Why a lock file or a profile is refused.
 ghost use Rattle.std.specs.Prelude.{◌≡◌, Some};
 ghost use Rattle.dconf_model.specs.FaultTexts.{cause_text};
-ghost use Rattle.dconf_path.specs.LineFaults.{locks_fault_of, profile_fault_of};
+ghost use Rattle.dconf_path.specs.Faults.{locks_fault_of, profile_fault_of};
 
 use refused::Refused;
 use std::error::Error;

@@ -3,9 +3,8 @@
 ghost use Rattle.std.specs.Prelude.{◌≡◌, ◌↔◌, Some, IfOk, IfErr, IsOk, IsTrue};
 ghost use Rattle.dconf_model.specs.Paths.{is_path};
 ghost use Rattle.dconf_model.specs.Locks.{lock_fault, covers};
-ghost use Rattle.dconf_path.specs.PathFaults.{path_fault_of};
-ghost use Rattle.dconf_path.specs.Paths.{key_text};
-ghost use Rattle.dconf_path.specs.LockPaths.{lock_text};
+ghost use Rattle.dconf_path.specs.Faults.{path_fault_of};
+ghost use Rattle.dconf_path.specs.Paths.{key_text, lock_text};
 
 use crate::fault::PathFault;
 use crate::path::{DirPath, KeyPath};

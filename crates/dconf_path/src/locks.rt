@@ -2,8 +2,8 @@
 ghost use Rattle.std.specs.Prelude.{◌≡◌, map, Ok, Err, IfOk, IfErr};
 ghost use Rattle.refused.specs.Faults.{OfFault};
 ghost use Rattle.dconf_model.specs.Locks.{locks_in};
-ghost use Rattle.dconf_path.specs.LineFaults.{locks_fault_of};
-ghost use Rattle.dconf_path.specs.Locks.{lock_line_of};
+ghost use Rattle.dconf_path.specs.Faults.{locks_fault_of};
+ghost use Rattle.dconf_path.specs.Paths.{lock_line_of};
 
 use crate::line_fault::{LockNotKey, LocksFault};
 use crate::lock_path::LockPath;

@@ -2,7 +2,7 @@
 //! `/`; a directory's does.
 ghost use Rattle.std.specs.Prelude.{◌≡◌, ◌↔◌, Some, None, IfOk, IfErr, IfSome, IsOk, IsSome, IsUtf8, OnOk, IsTrue};
 ghost use Rattle.dconf_model.specs.Paths.{is_key_path, is_directory_path, key_fault, directory_fault, first_path_fault, questions_of_bytes};
-ghost use Rattle.dconf_path.specs.PathFaults.{path_fault_of};
+ghost use Rattle.dconf_path.specs.Faults.{path_fault_of};
 
 use crate::fault::PathFault;
 use crate::plain::is_plain_key;

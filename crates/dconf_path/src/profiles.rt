@@ -7,7 +7,7 @@ ghost use Rattle.std.specs.Prelude.{◌≡◌, ◌==◌, is_some, length, nat_lt
 ghost use Rattle.refused.specs.Faults.{OfFault};
 ghost use Rattle.dconf_model.specs.Lines.LineReading.{found};
 ghost use Rattle.dconf_model.specs.Profiles.{databases_in, entry_line, entry_of_line, is_name, database_line};
-ghost use Rattle.dconf_path.specs.LineFaults.{profile_fault_of};
+ghost use Rattle.dconf_path.specs.Faults.{profile_fault_of};
 ghost use Rattle.dconf_path.specs.Profiles.{database_of, databases_of, named_in, reading_of, IsFaultAt};
 
 use crate::line_fault::{ProfileFault, ProfileFlaw};

@@ -2,7 +2,7 @@
 //! whether it is UTF-8.
 ghost use Rattle.std.specs.Prelude.{◌≡◌, ◌≤◌, ◌+◌, ◌==◌, None, Some, IfErr, IfOk, length, take, count_by};
 ghost use Rattle.dconf_model.specs.Lines.{longest_text, settings_text_fault};
-ghost use Rattle.dconf_path.specs.SettingsTexts.{text_fault_of};
+ghost use Rattle.dconf_path.specs.Faults.{text_fault_of};
 
 use std::error::Error;
 use std::fmt;

@@ -2,7 +2,7 @@
 ghost use Rattle.std.specs.Prelude.{◌≡◌, Err, IfErr, IfOk, map};
 ghost use Rattle.refused.specs.Faults.{OfFault};
 ghost use Rattle.dconf_model.specs.Profiles.{databases_in};
-ghost use Rattle.dconf_path.specs.LineFaults.{profile_fault_of};
+ghost use Rattle.dconf_path.specs.Faults.{profile_fault_of};
 ghost use Rattle.dconf_path.specs.Profiles.{database_of, kind_of};
 ghost use Rattle.dconfdb_calls.specs.Named.{AreNamesIn, IsNoProfile, cause_number, kind_number, named, told};
 ghost use Rattle.dconfdb_calls.specs.Numbers.{number_of};

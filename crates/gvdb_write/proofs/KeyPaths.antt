@@ -14,8 +14,7 @@ use Rattle.std.specs.Result.{IsOk, IfOk, result_ok}
 use Rattle.dconf_path.specs.declared.lock_path.LockPath.{LockPath}
 use Rattle.dconf_path.specs.declared.lock_path.LockPath.TheVariants.{Key, Directory}
 use Rattle.dconf_path.specs.declared.fault.PathFault.{PathFault}
-use Rattle.dconf_path.specs.Paths.{key_text, directory_text}
-use Rattle.dconf_path.specs.LockPaths.{lock_text}
+use Rattle.dconf_path.specs.Paths.{key_text, directory_text, lock_text}
 use Rattle.std.specs.String.{string_bytes}
 use Rattle.std.specs.BTreeMap.{BTreeMap}
 use Rattle.std.specs.BTreeSet.{BTreeSet}

@@ -21,7 +21,7 @@ use Rattle.std.specs.Option.{MatchOption}
 use Rattle.std.proofs.lemmas.Str.{IsUtf8-from_ascii}
 use Rattle.dconf_model.specs.Bytes.{hash_of}
 use Rattle.dconf_path.specs.declared.lock_path.LockPath.{LockPath}
-use Rattle.dconf_path.specs.LockPaths.{lock_text}
+use Rattle.dconf_path.specs.Paths.{lock_text}
 use Rattle.gvdb_write.specs.Maps.{AreKeyPaths}
 use Rattle.gvdb_write.proofs.Adding.{prefix_before, not_last, directory_pushed}
 

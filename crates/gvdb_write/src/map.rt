@@ -3,8 +3,7 @@ ghost use Rattle.std.specs.Prelude.{◌≡◌, IsTrue, IfOk, OnOk, OnErr, option
 ghost use Rattle.std.specs.FinMap.{contains_key, get, keys, len};
 ghost use Rattle.dconf_model.specs.Paths.{is_key_path};
 ghost use Rattle.dconf_model.specs.Settings.{no_settings, with_value, with_lock};
-ghost use Rattle.dconf_path.specs.Paths.{key_text};
-ghost use Rattle.dconf_path.specs.LockPaths.{lock_text};
+ghost use Rattle.dconf_path.specs.Paths.{key_text, lock_text};
 ghost use Rattle.gvdb_write.specs.Maps.{AreKeyPaths, AreLocked, ArePaths, locks_of, texts};
 
 use crate::entries::listed;
@@ -207,7 +206,7 @@ impl<'a> Locks<'a> {
 
 impl<'a> Iterator for Locks<'a> {
     ghost use Rattle.std.specs.Iterator.{YieldsFirstBy, item_count};
-    ghost use Rattle.dconf_path.specs.LockPaths.{lock_text};
+    ghost use Rattle.dconf_path.specs.Paths.{lock_text};
     ghost use Rattle.gvdb_write.specs.PathsLeft.{locks_left};
 
     type Item = LockPath<'a>;

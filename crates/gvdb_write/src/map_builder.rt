@@ -3,7 +3,7 @@ ghost use Rattle.std.specs.Prelude.{◌≡◌, IsTrue, IfErr, IfOk, OnOk, OnErr,
 ghost use Rattle.dconf_model.specs.Databases.{IsDatabaseOf};
 ghost use Rattle.dconf_model.specs.Paths.{is_key_path};
 ghost use Rattle.dconf_model.specs.Settings.{no_settings, with_lock, with_value};
-ghost use Rattle.dconf_path.specs.LockPaths.{lock_text};
+ghost use Rattle.dconf_path.specs.Paths.{lock_text};
 ghost use Rattle.gvdb_write.specs.Limits.{IsRefusal};
 
 use crate::database::write_sorted;

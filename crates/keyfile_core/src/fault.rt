@@ -1,6 +1,6 @@
 //! Why bytes are refused as a keyfile.
 ghost use Rattle.std.specs.Prelude.{◌≡◌};
-ghost use Rattle.dconf_path.specs.SettingsTexts.{text_fault_of};
+ghost use Rattle.dconf_path.specs.Faults.{text_fault_of};
 ghost use Rattle.keyfile_core.specs.KeyfileFaults.{fault_of};
 
 use dconf_path::TextFault;

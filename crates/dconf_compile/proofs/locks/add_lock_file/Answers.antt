@@ -2,7 +2,7 @@ use Rattle.std.proofs.Common.{◌≡◌, Err, IfErr, IfSome, OnOk, sym, ap, subs
 use Rattle.std.proofs.lemmas.Result.{err_from_is_err_and}
 use Rattle.dconf_model.specs.Lines.{read_file}
 use Rattle.dconf_model.specs.Locks.{locks_in}
-use Rattle.dconf_path.specs.SettingsTexts.{text_fault_of}
+use Rattle.dconf_path.specs.Faults.{text_fault_of}
 use Rattle.dconf_path.proofs.TextFaults.{reads_lines, reads_no_lines}
 use Rattle.dconf_compile.specs.Added.{AddsLocks}
 use Rattle.dconf_compile.specs.LineStops.{line_fault_of}

@@ -1,5 +1,5 @@
 use Rattle.std.proofs.Common.{◌≡◌, map, take}
-use Rattle.dconf_path.specs.Locks.{lock_line_of}
+use Rattle.dconf_path.specs.Paths.{lock_line_of}
 use Rattle.dconf_compile.specs.Added.{with_locks}
 use Rattle.dconf_compile.proofs.locks.add_locks.Given as goal
 

@@ -1,6 +1,6 @@
 use Rattle.std.proofs.Common.{length, map}
 use Rattle.dconf_model.specs.Locks.{lock_line}
-use Rattle.dconf_path.specs.Locks.{lock_line_of}
+use Rattle.dconf_path.specs.Paths.{lock_line_of}
 use Rattle.dconf_path.proofs.LineSteps.{HasRead, parts_of}
 use Rattle.dconf_path.proofs.locks.read_locks.Given as goal
 

@@ -1,5 +1,5 @@
 use Rattle.std.proofs.Common.{ap, inr}
-use Rattle.dconf_path.specs.LineFaults.{profile_fault_of}
+use Rattle.dconf_path.specs.Faults.{profile_fault_of}
 use Rattle.dconfdb_calls.specs.GoodLines.{of_profile}
 use Rattle.dconfdb_calls.proofs.lines.own_name.Goals as goal
 

@@ -1,5 +1,5 @@
 use Rattle.std.proofs.Common.{inr, subst, ℕ, List}
-use Rattle.dconf_path.specs.LineFaults.{profile_fault_of}
+use Rattle.dconf_path.specs.Faults.{profile_fault_of}
 use Rattle.dconfdb_calls.specs.Named.{IsNoProfile}
 use Rattle.dconfdb_calls.specs.Numbers.{number_of}
 use Rattle.dconfdb_calls.proofs.profiles.profile_databases.Goals as goal

@@ -1,5 +1,5 @@
 use Rattle.std.proofs.Common.{◌≡◌, ℕ, List, ◌∷◌, refl, sym, ◌∙◌, subst}
-use Rattle.dconf_path.specs.LockPaths.{lock_text}
+use Rattle.dconf_path.specs.Paths.{lock_text}
 use Rattle.gvdb_write.specs.declared.names.Named.{Named}
 use Rattle.gvdb_write.specs.Names.{IsLockNamed}
 use Rattle.gvdb_write.specs.PathsLeft.{locks_left}

@@ -5,7 +5,7 @@ use Rattle.dconf_model.specs.Names.{HasName}
 use Rattle.dconf_model.specs.Paths.{is_path}
 use Rattle.dconf_model.proofs.LaidNames.{one_name}
 use Rattle.dconf_model.proofs.NameSteps.{is_item}
-use Rattle.dconf_path.specs.LockPaths.{lock_text}
+use Rattle.dconf_path.specs.Paths.{lock_text}
 use Rattle.gvdb_read.specs.Tables.{region}
 use Rattle.gvdb_write.specs.Salvaged.{SpellsLock, TakesLock}
 use Rattle.gvdb_write.proofs.KeyPaths.{lock_is_path}

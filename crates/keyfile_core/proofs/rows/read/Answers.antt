@@ -2,7 +2,7 @@ use Rattle.std.proofs.Common.{◌≡◌, Ok, Err, IfOk, IfErr, map, sym, ap, sub
 use Rattle.std.specs.List.{slice_split}
 use Rattle.refused.specs.Faults.{OfFault}
 use Rattle.dconf_model.specs.Keyfiles.{rows_of}
-use Rattle.dconf_path.specs.SettingsTexts.{text_fault_of}
+use Rattle.dconf_path.specs.Faults.{text_fault_of}
 use Rattle.keyfile_core.specs.Feeds.{is_feed}
 use Rattle.keyfile_core.specs.KeyfileFaults.{fault_of}
 use Rattle.keyfile_core.specs.Readings.{read_below}

@@ -1,5 +1,5 @@
 use Rattle.dconf_model.specs.Paths.{is_path}
-use Rattle.dconf_path.specs.LockPaths.{lock_text}
+use Rattle.dconf_path.specs.Paths.{lock_text}
 use Rattle.gvdb_write.proofs.KeyPaths.{rest_pass, taken_as_path}
 use Rattle.gvdb_write.proofs.map.LocksIterator.next.Goals as goal
 
