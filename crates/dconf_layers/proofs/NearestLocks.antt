@@ -12,7 +12,7 @@ use Rattle.dconf_model.specs.Explains.{lock_of, lock_within}
 use Rattle.dconf_model.specs.Locks.{covers}
 use Rattle.dconf_model.specs.Paths.{is_key_path}
 use Rattle.gvdb_read.specs.declared.table.Table.{Table}
-use Rattle.gvdb_read.specs.Directories.{IsCover}
+use Rattle.gvdb_read.specs.Lookups.{IsCover}
 use Rattle.gvdb_read.specs.Tables.{region}
 use Rattle.gvdb_read.proofs.CoveredPaths.{covering_start}
 use Rattle.dconf_layers.specs.SoundTables.{AreOfSoundDatabase}

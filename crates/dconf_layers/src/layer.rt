@@ -7,7 +7,7 @@ ghost use Rattle.dconf_model.specs.Opening.{IsDatabase, root_of};
 ghost use Rattle.dconf_model.specs.Settings.{no_settings};
 ghost use Rattle.dconf_model.specs.Sound.{IsFirstFault, IsSound};
 ghost use Rattle.dconf_path.specs.Paths.{key_text};
-ghost use Rattle.gvdb_read.specs.Directories.{HasDirectoryValue};
+ghost use Rattle.gvdb_read.specs.Lookups.{HasDirectoryValue};
 ghost use Rattle.gvdb_read.specs.Tables.{region};
 ghost use Rattle.gvdb_check.specs.Unsounds.{rule_of};
 ghost use Rattle.dconf_layers.specs.Verdicts.{verdict_of};
@@ -38,7 +38,7 @@ pub struct Layer<'a> {
 impl<'a> Layer<'a> {
     ghost use Rattle.dconf_layers.specs.LayerSettings.{has_locks, locks_of, settings_of};
     ghost use Rattle.dconf_layers.specs.Files.{bytes_of_file};
-    ghost use Rattle.gvdb_read.specs.HashedNames.{name_text};
+    ghost use Rattle.gvdb_read.specs.Lookups.{name_text};
 
     /// Opens the bytes of a file, or None where there is no file: that is an empty database. Bytes
     /// that open as no database, or as one that isn't sound, are refused.

@@ -27,7 +27,7 @@ pub struct LentLayers<'a, 'l> {
 
 impl<'a, 'l> LentLayers<'a, 'l> {
     ghost use Rattle.dconf_layers.specs.LayerSettings.{seen_in};
-    ghost use Rattle.gvdb_read.specs.HashedNames.{name_text};
+    ghost use Rattle.gvdb_read.specs.Lookups.{name_text};
 
     /// These layers. Where `writable`, the first is the user's.
     pub fn new(writable: bool, layers: &'l [Layer<'a>]) -> LentLayers<'a, 'l>

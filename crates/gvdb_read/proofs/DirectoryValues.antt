@@ -10,8 +10,7 @@ use Rattle.dconf_model.specs.Paths.{ends_with_slash}
 use Rattle.dconf_model.specs.Table.{Table as Region}
 use Rattle.dconf_model.specs.Table.{key, value_kind}
 use Rattle.dconf_model.proofs.PathLaws.{ends_in}
-use Rattle.gvdb_read.specs.Directories.{HasDirectoryValue}
-use Rattle.gvdb_read.specs.Lookups.{IsFound}
+use Rattle.gvdb_read.specs.Lookups.{HasDirectoryValue, IsFound}
 use Rattle.gvdb_read.proofs.CoveredPaths.{IsPrefixAt, HasCovering, covering, covers_itself}
 
 -- the last byte is a slash

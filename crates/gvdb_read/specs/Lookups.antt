@@ -1,16 +1,21 @@
--- What a search of a table answers.
-use Rattle.std.specs.Prelude.{ℕ, ◌≡◌, List, Some, slice_get}
+-- What a search of a table answers; values whose names end in a slash, as those of directories do.
+use Rattle.std.specs.Prelude.{ℕ, ◌≡◌, List, Some, slice_get, ◌<◌, ◌≤◌, IsTrue, length, take}
 use Rattle.gv_model.specs.Ty.Ty.{variant}
 use Rattle.gv_model.specs.Tree.{children, tree_at}
 use Rattle.gv_model.specs.Decode.{cut, decode}
 use Rattle.gv_view.specs.declared.view.View.{View}
 use Rattle.gv_view.specs.Views.{Lends, value}
-use Rattle.dconf_model.specs.Table.{Table as Region}
-use Rattle.dconf_model.specs.Table.{bytes_of, item as item_of, value_kind, list_kind, table_kind, table_of, Opens}
+use Rattle.dconf_model.specs.Table.{Table as Region, bytes_of, item as item_of, value_kind, list_kind, table_kind, table_of, Opens, item, key}
 use Rattle.dconf_model.specs.Search.{Finds}
-use Rattle.dconf_model.specs.Listed.{keys_in_list}
+use Rattle.dconf_model.specs.Listed.{keys_in_list, listed_keys}
 use Rattle.dconf_model.specs.Sound.{list_length}
 use Rattle.gvdb_read.specs.declared.item_list.ItemList.{ItemList}
+use Rattle.gvdb_read.specs.Tables.{region}
+use Rattle.gvdb_read.specs.declared.names.Names.{Names}
+use Rattle.gvdb_read.specs.declared.hashed_name.HashedName.{HashedName}
+use Rattle.dconf_model.specs.Locks.{covers}
+use Rattle.dconf_model.specs.Names.{IsItem}
+use Rattle.dconf_model.specs.Paths.{ends_with_slash}
 
 -- a search finds an item
 abbrev pub IsFound : Region → List ℕ → ℕ → Type 0
@@ -44,3 +49,25 @@ pub record IsItemListOf (t : Region) (name : List ℕ) (list : ItemList) : Type 
 -- the table that is found, and opens
 abbrev pub IsTableAt : Region → List ℕ → Region → Type 0
 IsTableAt t name u = (i : ℕ) × Finds t name table_kind (Some i) × Opens (table_of t i) × (u ≡ table_of t i)
+
+abbrev pub names_left : Names → List (List ℕ)
+names_left n = listed_keys (region n.table) n.at n.left
+
+abbrev pub name_text : HashedName → List ℕ
+name_text name = name.bytes.now
+
+-- the item is a value's, and its key, which the name ends with, ends in a slash
+pub record IsDirectoryValue (t : Region) (i : ℕ) : Type 0 where
+  pub is_item : IsItem t i
+  pub of_kind : (item t i).kind ≡ value_kind
+  pub ends : IsTrue (ends_with_slash (key t i))
+
+abbrev pub HasDirectoryValue : Region → Type 0
+HasDirectoryValue t = (i : ℕ) × IsDirectoryValue t i
+
+-- the first n bytes of the path, of which there are some, cover it and are the name of a value
+pub record IsCover (t : Region) (path : List ℕ) (n : ℕ) : Type 0 where
+  pub some : 0 < n
+  pub within : n ≤ length path
+  pub covering : IsTrue (covers (take n path) path)
+  pub found : IsFound t (take n path) value_kind

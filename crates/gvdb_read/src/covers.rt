@@ -3,8 +3,7 @@ ghost use Rattle.std.specs.Prelude.{◌≡◌, ◌+◌, ◌<◌, ◌↔◌, ℕ,
 ghost use Rattle.dconf_model.specs.Bytes.{hash_of};
 ghost use Rattle.dconf_model.specs.Locks.{covers};
 ghost use Rattle.dconf_model.specs.Table.{item_count, value_kind};
-ghost use Rattle.gvdb_read.specs.Directories.{HasDirectoryValue, IsCover, IsDirectoryValue};
-ghost use Rattle.gvdb_read.specs.Lookups.{IsFound};
+ghost use Rattle.gvdb_read.specs.Lookups.{HasDirectoryValue, IsCover, IsDirectoryValue, IsFound};
 
 use crate::table::Table;
 use gv_types::Steps;

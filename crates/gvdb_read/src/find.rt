@@ -14,8 +14,7 @@ use gv_view::View;
 use gvdb_format::{Kind, NUMBER_LEN};
 
 impl<'a> Table<'a> {
-    ghost use Rattle.gvdb_read.specs.HashedNames.{name_text};
-    ghost use Rattle.gvdb_read.specs.NamesLeft.{names_left};
+    ghost use Rattle.gvdb_read.specs.Lookups.{name_text, names_left};
     ghost use Rattle.gvdb_read.specs.Tables.{region};
 
     /// The value of this name. None where the search finds none.
@@ -62,7 +61,8 @@ impl<'a> Table<'a> {
         ensures grows { steps.old ≤ steps.new }
         ensures spared { ¬ PassesBloom (region self.entry) (hash_of name.now) → steps.new ≡ steps.old }
     {
-        let bytes = self.bytes_counted(name, steps)?;
+        let i = self.find_item(name.as_bytes(), Kind::Value, steps)?;
+        let bytes = self.raw.pointed_at(i, Kind::Value)?;
         Some(View::of_variant(bytes))
     }
 
@@ -111,21 +111,5 @@ impl<'a> Table<'a> {
         let mut steps = Steps::new();
         let i = self.find_item(name.as_bytes(), Kind::Table, &mut steps)?;
         self.table_at(i)
-    }
-
-    /// The bytes of the value of this name.
-    #[inline(always)]
-    fn bytes_counted(self, name: &str, steps: &mut Steps) -> Option<&'a [u8]>
-        requires { PassesBloom (region self) (hash_of name.now)
-            → steps.old + span_size (region self) (hash_of name.now) * (length name.now + 1) < 2 ^ 128 }
-        ensures found { IfSome result (λ bytes. IsValueOf (region self.entry) name.now bytes.now) }
-        ensures none { IfNone result (Finds (region self.entry) name.now value_kind None) }
-        ensures cost { steps.new ≤ steps.old
-            + span_size (region self.entry) (hash_of name.now) * (length name.now + 1) }
-        ensures grows { steps.old ≤ steps.new }
-        ensures spared { ¬ PassesBloom (region self.entry) (hash_of name.now) → steps.new ≡ steps.old }
-    {
-        let i = self.find_item(name.as_bytes(), Kind::Value, steps)?;
-        self.raw.pointed_at(i, Kind::Value)
     }
 }

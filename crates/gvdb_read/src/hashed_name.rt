@@ -13,7 +13,7 @@ pub struct HashedName<'n> {
 }
 
 impl<'n> HashedName<'n> {
-    ghost use Rattle.gvdb_read.specs.HashedNames.{name_text};
+    ghost use Rattle.gvdb_read.specs.Lookups.{name_text};
 
     /// Hashes the bytes of a name. It looks at each byte once.
     #[inline(always)]

@@ -21,7 +21,7 @@ impl<'a> Iterator for Names<'a> {
     type Item = &'a [u8];
 
     ghost use Rattle.std.specs.Iterator.{YieldsFirstRef, item_count};
-    ghost use Rattle.gvdb_read.specs.NamesLeft.{names_left};
+    ghost use Rattle.gvdb_read.specs.Lookups.{names_left};
 
     ghost next_gives = { YieldsFirstRef names_left };
 

@@ -51,21 +51,6 @@ impl<'a> Table<'a> {
         if !self.raw.passes_bloom(hash) {
             return None;
         }
-        self.find_in_span(hash, name, kind, steps)
-    }
-
-    /// As `find_hashed`, where the bloom words don't rule the hash out.
-    #[inline(always)]
-    fn find_in_span(self, hash: u32, name: &[u8], kind: Kind, steps: &mut Steps) -> Option<u32>
-        requires hash_is { hash ≡ hash_of name.now }
-        requires passes { PassesBloom (region self) (hash_of name.now) }
-        requires room { steps.old + span_size (region self) (hash_of name.now) * (length name.now + 1) < 2 ^ 128 }
-        ensures found { IfSome result (IsLeast (region self.entry) name.now (letter_of kind)) }
-        ensures none { IfNone result ((i : ℕ) → ¬ Fits (region self.entry) name.now (letter_of kind) i) }
-        ensures cost { steps.new ≤ steps.old
-            + span_size (region self.entry) (hash_of name.now) * (length name.now + 1) }
-        ensures grows { steps.old ≤ steps.new }
-    {
         let (first, end) = self.raw.span(hash);
         for i in first..end {
             if self.is_wanted(i, hash, name, kind, steps) {

@@ -1,5 +1,5 @@
 use Rattle.dconf_layers.specs.LayerSettings.{locks_of}
-use Rattle.gvdb_read.specs.HashedNames.{name_text}
+use Rattle.gvdb_read.specs.Lookups.{name_text}
 use Rattle.dconf_layers.proofs.SoundLayers.{found_in}
 use Rattle.dconf_layers.proofs.layer.Layer.get_hashed.Goals as goal
 

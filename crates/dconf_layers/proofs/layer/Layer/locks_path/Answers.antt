@@ -4,8 +4,7 @@ use Rattle.dconf_model.specs.Locks.{covers}
 use Rattle.dconf_model.specs.Table.{value_kind}
 use Rattle.dconf_path.specs.Paths.{key_text}
 use Rattle.gvdb_read.specs.declared.table.Table.{Table}
-use Rattle.gvdb_read.specs.Directories.{HasDirectoryValue}
-use Rattle.gvdb_read.specs.Lookups.{IsFound}
+use Rattle.gvdb_read.specs.Lookups.{HasDirectoryValue, IsFound}
 use Rattle.gvdb_read.specs.Tables.{region}
 use Rattle.gvdb_read.proofs.DirectoryValues.{itself_alone}
 use Rattle.dconf_layers.specs.SoundTables.{AreOfSoundDatabase}

@@ -1,7 +1,7 @@
 use Rattle.std.proofs.Common.{◌∙◌, ap}
 use Rattle.std.specs.FinMap.{get}
 use Rattle.dconf_model.specs.Settings.{Settings}
-use Rattle.gvdb_read.specs.HashedNames.{name_text}
+use Rattle.gvdb_read.specs.Lookups.{name_text}
 use Rattle.dconf_layers.proofs.Levels.{layer_lent}
 use Rattle.dconf_layers.proofs.lent.LentLayers.bytes_at.Goals as goal
 

@@ -1,7 +1,7 @@
 use Rattle.std.proofs.Common.{◌≡◌, drop}
 use Rattle.dconf_model.specs.Layers.{first_from}
 use Rattle.dconf_layers.specs.LayerSettings.{seen_in}
-use Rattle.gvdb_read.specs.HashedNames.{name_text}
+use Rattle.gvdb_read.specs.Lookups.{name_text}
 use Rattle.dconf_layers.proofs.lent.LentLayers.place_named.Given as goal
 
 -- no layer before this one has the path

@@ -1,5 +1,5 @@
 use Rattle.std.proofs.Common.{◌<◌, ℕ}
-use Rattle.gvdb_read.specs.Directories.{IsDirectoryValue}
+use Rattle.gvdb_read.specs.Lookups.{IsDirectoryValue}
 use Rattle.gvdb_read.specs.Tables.{region}
 use Rattle.gvdb_read.proofs.table.Table.has_directory_value.Given as goal
 

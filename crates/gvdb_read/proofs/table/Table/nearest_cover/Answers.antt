@@ -2,7 +2,7 @@ use Rattle.std.proofs.Common.{◌≡◌, ◌+◌, ◌<◌, ◌≤◌, ◌∙◌,
 use Rattle.std.specs.Prelude.{IfSome, unwrap_or}
 use Rattle.std.proofs.lemmas.Bool.{cases_lt}
 use Rattle.dconf_model.proofs.PathMaps.{no_truth}
-use Rattle.gvdb_read.specs.Directories.{IsCover}
+use Rattle.gvdb_read.specs.Lookups.{IsCover}
 use Rattle.gvdb_read.specs.Tables.{region}
 use Rattle.gvdb_read.proofs.CoveredPaths.{hash_goes_on}
 use Rattle.gvdb_read.proofs.table.Table.nearest_cover.Goals as goal

@@ -1,7 +1,7 @@
 use Rattle.std.proofs.Common.{◌≡◌, ◌<◌, ◌≤◌, ℕ, take}
 use Rattle.std.specs.Prelude.{IfSome, unwrap_or}
 use Rattle.dconf_model.specs.Bytes.{hash_of}
-use Rattle.gvdb_read.specs.Directories.{IsCover}
+use Rattle.gvdb_read.specs.Lookups.{IsCover}
 use Rattle.gvdb_read.specs.Tables.{region}
 use Rattle.gvdb_read.proofs.table.Table.nearest_cover.Given as goal
 

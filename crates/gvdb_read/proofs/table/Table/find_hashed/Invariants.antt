@@ -3,7 +3,7 @@ use Rattle.dconf_model.specs.Bytes.{hash_of}
 use Rattle.dconf_model.specs.Search.{Fits, span_start, span_size}
 use Rattle.gvdb_format.specs.Kinds.{letter_of}
 use Rattle.gvdb_read.specs.Tables.{region}
-use Rattle.gvdb_read.proofs.table.Table.find_in_span.Given as goal
+use Rattle.gvdb_read.proofs.table.Table.find_hashed.Given as goal
 
 -- no item before this one fits
 abbrev pub invariant-loop-i : goal.invariant-loop-i
