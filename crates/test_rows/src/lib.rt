@@ -13,5 +13,5 @@ mod rows;
 mod samples;
 
 pub use bytes::bytes_of;
-pub use rows::{Question, is_so, script, table};
+pub use rows::{Question, is_so, number, script, table};
 pub use samples::sample;

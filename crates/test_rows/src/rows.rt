@@ -8,6 +8,11 @@ pub trait Question {
     fn answer(&mut self, alloc: Global, asked: &str, found: &mut String) -> Result<(), Fail>;
 }
 
+/// The number that a word is, and 0 where it is none.
+pub fn number(word: &str) -> u32 {
+    word.parse().unwrap_or(0)
+}
+
 /// An error says what was found, if it isn't what is wanted.
 pub fn is_so(alloc: Global, asked: &str, found: &str, wanted: &str) -> Result<(), Fail> {
     if found == wanted {
