@@ -7,6 +7,7 @@ use dconfdb_calls::{
     open_layer, open_layer_after, profile_databases, read, read_default, read_own, user_file,
 };
 use std::alloc::Global;
+use std::fmt::Write;
 use std::test::Fail;
 use test_rows::sample;
 
@@ -63,65 +64,48 @@ fn are_listed(alloc: Global, layers: &[Layer<'_>]) -> bool {
     are_names(directory_names(alloc, layers, b"/"), Some(b"k\0"))
         && are_names(directory_locks(alloc, layers, b"/"), Some(b"/k\0"))
         && are_names(differing_keys(alloc, layers, &[], 2), Some(b"/k\0"))
-        && are_told_apart(alloc, layers)
         && are_names(directory_names(alloc, layers, b"/k"), None)
         && are_names(directory_locks(alloc, layers, b"k/"), None)
 }
 
 /// Whether it is told what another first layer changes: nothing below a lock, and nothing if it has the same.
-fn are_told_apart(alloc: Global, layers: &[Layer<'_>]) -> bool {
-    let (Ok(none), [user, _]) = (open_layer(b"", false), layers) else {
+fn are_told_apart(alloc: Global, user: Layer<'_>, site: Layer<'_>) -> bool {
+    let Ok(none) = open_layer(b"", false) else {
         return false;
     };
-    let alone = [*user];
-    are_names(keys_differing_first(alloc, layers, &none), Some(b""))
-        && are_names(keys_differing_first(alloc, &alone, &none), Some(b"/k\0"))
-        && are_names(keys_differing_first(alloc, &[], user), Some(b"/k\0"))
-        && are_names(keys_differing_first(alloc, &alone, user), Some(b""))
+    are_names(keys_differing_first(alloc, &[user, site], &none), Some(b""))
+        && are_names(keys_differing_first(alloc, &[user], &none), Some(b"/k\0"))
+        && are_names(keys_differing_first(alloc, &[], &user), Some(b"/k\0"))
+        && are_names(keys_differing_first(alloc, &[user], &user), Some(b""))
 }
 
-/// The first bytes of a file.
-fn first_of_plain(len: usize) -> &'static [u8] {
-    sample("plain").get(..len).unwrap_or(&[])
-}
-
-/// Whether it is told at which of two changes something else is seen, here by a lock.
-fn are_told_since(alloc: Global, layers: &[Layer<'_>]) -> bool {
+/// At which of two changes something else is seen, here by a lock; 7 stands for a fault.
+fn changed_since(alloc: Global, layers: &[Layer<'_>], now: &[Layer<'_>]) -> Option<usize> {
     let changes = [change(b"/j", false), change(b"/k", false)];
-    let [user, site] = layers else {
-        return false;
-    };
-    let (alone, same) = ([*user], [*user, *site]);
-    matches!(
-        first_changed_since(alloc, &alone, layers, &changes),
-        Ok(Some(1))
-    ) && matches!(
-        first_changed_since(alloc, &same, layers, &changes),
-        Ok(None)
-    )
+    first_changed_since(alloc, layers, now, &changes).unwrap_or(Some(7))
 }
 
-/// Whether a file opens alike with the help of a layer and without.
-fn opens_alike(old: Layer<'_>, file: &[u8]) -> bool {
-    match (open_layer(file, true), open_layer_after(&old, file, true)) {
+/// Whether a file opens alike with the help of a layer and without, by what is wrong with it.
+pub(crate) fn opened(file: &[u8], old: &str, found: &mut String) -> Result<(), Fail> {
+    let old = layer(sample(old))?;
+    let is_alike = match (open_layer(file, true), open_layer_after(&old, file, true)) {
         (Ok(_), Ok(_)) => true,
         (Err(one), Err(other)) => {
             one.fault == other.fault && one.unsound.rule == other.unsound.rule
         }
         _ => false,
-    }
+    };
+    Ok(write!(found, "{is_alike}")?)
 }
 
-/// Whether files do, like that of the layer and not, sound and not.
-fn open_alike(user: Layer<'_>, site: Layer<'_>) -> bool {
-    opens_alike(user, sample("plain"))
-        && opens_alike(user, sample("buckets"))
-        && opens_alike(user, sample("locked"))
-        && opens_alike(site, sample("locked"))
-        && opens_alike(user, first_of_plain(101))
-        && opens_alike(user, first_of_plain(20))
-        && open_layer_after(&user, b"", false).is_ok()
-}
+pub(crate) const OPENED: &str = "
+%plain; plain | true
+%buckets; plain | true
+%locked; plain | true
+%locked; locked | true
+%plain :101; plain | true
+%plain :20; plain | true
+";
 
 /// Whether a room gets what fits.
 fn is_handed_out() -> bool {
@@ -148,7 +132,7 @@ fn are_profiles(alloc: Global) -> bool {
 }
 
 /// Whether faults have their numbers and texts.
-fn are_faults() -> bool {
+fn are_faults(user: Layer<'_>) -> bool {
     let short = match open_layer(b"GVariant", true) {
         Ok(_) => false,
         Err(bad) => bad.fault == Fault::Short,
@@ -156,6 +140,7 @@ fn are_faults() -> bool {
     let text = Fault::of_number(2).map(Fault::text);
     short
         && open_layer(b"", false).is_ok()
+        && open_layer_after(&user, b"", false).is_ok()
         && text == Some("the file is shorter than a database's header")
         && Fault::of_number(19).is_none()
 }
@@ -173,10 +158,8 @@ fn change(path: &[u8], sets: bool) -> DconfdbChange<'_> {
 /// Sets a key to the first three bytes of an `i`.
 fn cut(path: &[u8]) -> DconfdbChange<'_> {
     DconfdbChange {
-        path,
         value: b"\x05\0\0",
-        type_text: b"i",
-        sets: true,
+        ..change(path, true)
     }
 }
 
@@ -234,10 +217,14 @@ fn first_wrong(alloc: Global, user: Layer<'_>, site: Layer<'_>) -> &'static str 
     if !are_read(user, site) || !are_locked(user, site) {
         return "values or locks";
     }
-    if !are_listed(alloc, &layers) || !are_told_since(alloc, &layers) || !is_handed_out() {
+    if !are_listed(alloc, &layers) || !are_told_apart(alloc, user, site) || !is_handed_out() {
         return "lists";
     }
-    if !are_profiles(alloc) || !are_faults() || !open_alike(user, site) {
+    if !are_profiles(alloc)
+        || !are_faults(user)
+        || changed_since(alloc, &[user], &layers) != Some(1)
+        || changed_since(alloc, &layers, &layers).is_some()
+    {
         return "profiles or faults";
     }
     if !are_refused(alloc, &layers) || !are_made(alloc) {

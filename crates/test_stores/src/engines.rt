@@ -96,17 +96,21 @@ fn is_saved(engine: Engine<'_>) -> Result<bool, WriteFault> {
     Ok(again.as_slice() == file.as_slice() && file.len() == 182 && is_opened)
 }
 
+/// Whether an engine is changed and seen.
+fn is_followed(alloc: Global, engine: &mut Engine<'_>) -> Result<bool, Fail> {
+    let (path, locked) = (KeyPath::parse("/a/j")?, KeyPath::parse("/k")?);
+    let (below, root) = (DirPath::parse("/a/")?, DirPath::parse("/")?);
+    let rows = [(path, Tree::basic(alloc, Basic::Int32(7))?)];
+    let is_changed = is_changed(engine, &rows, below)?;
+    let is_seen = is_open(engine, locked) && is_listed(alloc, engine, root)?;
+    Ok(is_changed && is_seen && is_loaded(engine, &rows)?)
+}
+
 /// Whether an engine is changed, seen and saved.
 fn is_right(alloc: Global, mut engine: Engine<'_>) -> Result<bool, Fail> {
-    let rows = [(
-        KeyPath::parse("/a/j")?,
-        Tree::basic(alloc, Basic::Int32(7))?,
-    )];
-    let is_changed = is_changed(&mut engine, &rows, DirPath::parse("/a/")?)?;
-    let is_open = is_open(&engine, KeyPath::parse("/k")?);
-    let is_listed = is_listed(alloc, &engine, DirPath::parse("/")?)?;
-    let is_loaded = is_loaded(&engine, &rows)?;
-    Ok(is_changed && is_open && is_listed && is_loaded && is_saved(engine)?)
+    let is_seen = is_followed(alloc, &mut engine)?;
+    let is_saved = is_saved(engine)?;
+    Ok(is_seen && is_saved)
 }
 
 /// Whether one key differs between this layer and none, and none between two that are alike.

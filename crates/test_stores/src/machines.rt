@@ -1,5 +1,7 @@
 //! The machines that C drives, as it drives them: which steps come after which answers.
 use crate::questions::TableOf;
+use crate::times::{NOTED, OVERTAKEN};
+use crate::turns::TURNS;
 use dconf_steps::{
     NextStep, QueueRecord, QueuedEdit, RefreshRecord, WaitRecord, exit_goes_on, is_to_write,
     pause_after, sleep_until, sync_goes_on,
@@ -7,7 +9,7 @@ use dconf_steps::{
 use std::alloc::AllocError;
 use std::fmt::Write;
 use std::test::Fail;
-use test_rows::table;
+use test_rows::{number, table};
 
 /// A step: its kind and its number.
 fn show(step: NextStep, found: &mut String) -> Result<(), AllocError> {
@@ -15,34 +17,33 @@ fn show(step: NextStep, found: &mut String) -> Result<(), AllocError> {
 }
 
 /// A look at so many files, without an old snapshot, with one, or in a turn, by answers yes and no.
-pub(crate) fn looked(asked: &str, found: &mut String) -> Result<(), Fail> {
+pub(crate) fn looked(asked: &str, found: &mut String) -> Result<(), AllocError> {
     let (count, rest) = asked.split_once(' ').unwrap_or((asked, ""));
     let (how, answers) = rest.split_once(' ').unwrap_or((rest, ""));
-    let mut refresh = RefreshRecord::begin(count.parse()?, how != "new", how == "turn");
+    let mut refresh = RefreshRecord::begin(number(count) as usize, how != "new", how == "turn");
     for answer in answers.bytes() {
         show(refresh.next(), found)?;
         refresh.answered(answer == b'y');
     }
-    show(refresh.next(), found)?;
-    Ok(())
+    show(refresh.next(), found)
 }
 
 /// Of an answer its kind and its number.
-fn cut(answer: &str) -> (&str, &str) {
-    answer.split_once(':').unwrap_or((answer, "0"))
+fn cut(answer: &str) -> (u32, u32) {
+    let (kind, n) = answer.split_once(':').unwrap_or((answer, "0"));
+    (number(kind), number(n))
 }
 
 /// A wait of so many milliseconds, by answers.
-pub(crate) fn waited(asked: &str, found: &mut String) -> Result<(), Fail> {
+pub(crate) fn waited(asked: &str, found: &mut String) -> Result<(), AllocError> {
     let (longest, answers) = asked.split_once(' ').unwrap_or((asked, ""));
-    let mut wait = WaitRecord::begin(longest.parse()?);
+    let mut wait = WaitRecord::begin(number(longest));
     for answer in answers.split_terminator(' ') {
-        let (kind, number) = cut(answer);
+        let (kind, n) = cut(answer);
         show(wait.next(), found)?;
-        wait.answered(kind.parse()?, number.parse()?, number.parse()?);
+        wait.answered(kind, u64::from(n), n);
     }
-    show(wait.next(), found)?;
-    Ok(())
+    show(wait.next(), found)
 }
 
 /// Three edits: the first two are one change, of which the second is a reset.
@@ -58,16 +59,8 @@ fn three() -> [QueuedEdit; 3] {
     [set, reset, other]
 }
 
-/// Three edits that wait, by answers; and the flags of each.
-pub(crate) fn queued(asked: &str, found: &mut String) -> Result<(), Fail> {
-    let (mut edits, mut queue) = (three(), QueueRecord::begin());
-    for answer in asked.split_terminator(' ') {
-        let (kind, number) = cut(answer);
-        show(queue.next(&edits), found)?;
-        queue.answered(&mut edits, kind.parse()?, number.parse()?);
-    }
-    show(queue.next(&edits), found)?;
-    for edit in edits.iter() {
+fn show_flags(edits: &[QueuedEdit], found: &mut String) -> Result<(), AllocError> {
+    for edit in edits {
         write!(
             found,
             " {}{}",
@@ -75,6 +68,18 @@ pub(crate) fn queued(asked: &str, found: &mut String) -> Result<(), Fail> {
         )?;
     }
     Ok(())
+}
+
+/// Three edits that wait, by answers; and the flags of each.
+pub(crate) fn queued(asked: &str, found: &mut String) -> Result<(), AllocError> {
+    let (mut edits, mut queue) = (three(), QueueRecord::begin());
+    for answer in asked.split_terminator(' ') {
+        let (kind, n) = cut(answer);
+        show(queue.next(&edits), found)?;
+        queue.answered(&mut edits, kind, n as usize);
+    }
+    show(queue.next(&edits), found)?;
+    show_flags(&edits, found)
 }
 
 /// 0 stat, 1 read, 2 compare, 3 keep, 4 open; 5 failed, 6 same, 7 newer.
@@ -142,10 +147,16 @@ fn are_due() -> bool {
 
 #[test]
 fn machines_go_by_their_answers(rt: HostRuntime) -> Result<(), Fail> {
-    let alloc = rt.alloc();
-    table(alloc, &mut TableOf::Looked, LOOKS)?;
-    table(alloc, &mut TableOf::Waited, WAITS)?;
-    table(alloc, &mut TableOf::Queued, QUEUES)?;
+    for (mut of, rows) in [
+        (TableOf::Looked, LOOKS),
+        (TableOf::Waited, WAITS),
+        (TableOf::Queued, QUEUES),
+        (TableOf::Steps, TURNS),
+        (TableOf::Overtaken, OVERTAKEN),
+        (TableOf::Noted, NOTED),
+    ] {
+        table(rt.alloc(), &mut of, rows)?;
+    }
     assert!(rt; are_due());
     Ok(())
 }

@@ -1,7 +1,8 @@
 //! What the tables of texts ask; each is said where it is answered.
+use crate::calls::opened;
 use crate::calls_rows::{keyless, names, saved, stored, value_shown};
-use crate::folders::crashes::crash_cases;
-use crate::folders::failures::replaced_so;
+use crate::folders::crashes::crashed;
+use crate::folders::failures::replaced;
 use crate::machines::{looked, queued, waited};
 use crate::tables::{alike, item_shown, searched};
 use crate::texts::paths::path_read;
@@ -9,49 +10,72 @@ use crate::times::{noted, overtaken};
 use crate::turns::steps_shown;
 use std::alloc::Global;
 use std::test::Fail;
-use test_rows::Question;
+use test_rows::{Question, bytes_of};
 
+/// What a table asks of its texts.
 #[derive(Clone, Copy)]
 pub(crate) enum TableOf {
-    Alike,
     Crash,
-    Item,
-    Keyless,
     Looked,
-    Names,
     Noted,
     Overtaken,
     Path,
     Queued,
     Replaced,
-    Saved,
-    Searched,
     Steps,
-    Stored,
-    Value,
     Waited,
 }
 
 impl Question for TableOf {
     fn answer(&mut self, alloc: Global, asked: &str, found: &mut String) -> Result<(), Fail> {
-        match *self {
-            TableOf::Alike => alike(alloc, asked, found),
-            TableOf::Crash => crash_cases(alloc, asked, found),
-            TableOf::Item => item_shown(alloc, asked, found),
-            TableOf::Keyless => keyless(alloc, asked, found),
+        let shown = match *self {
+            TableOf::Crash => crashed(alloc, asked, found),
             TableOf::Looked => looked(asked, found),
-            TableOf::Names => names(alloc, asked, found),
             TableOf::Noted => noted(alloc, asked, found),
-            TableOf::Overtaken => overtaken(alloc, asked, found),
-            TableOf::Path => Ok(path_read(asked, found)?),
+            TableOf::Overtaken => overtaken(asked, found),
+            TableOf::Path => path_read(asked, found),
             TableOf::Queued => queued(asked, found),
-            TableOf::Replaced => replaced_so(alloc, asked, found),
-            TableOf::Saved => saved(alloc, asked, found),
-            TableOf::Searched => searched(alloc, asked, found),
+            TableOf::Replaced => replaced(alloc, asked, found),
             TableOf::Steps => steps_shown(asked, found),
-            TableOf::Stored => stored(alloc, asked, found),
-            TableOf::Value => value_shown(alloc, asked, found),
             TableOf::Waited => waited(asked, found),
+        };
+        Ok(shown?)
+    }
+}
+
+/// What a table asks of bytes, whose words stand before a `; `.
+#[derive(Clone, Copy)]
+pub(crate) enum BytesOf {
+    Alike,
+    Item,
+    Keyless,
+    Names,
+    Opened,
+    Saved,
+    Searched,
+    Stored,
+    Value,
+}
+
+impl BytesOf {
+    fn show(self, alloc: Global, of: &[u8], rest: &str, found: &mut String) -> Result<(), Fail> {
+        match self {
+            BytesOf::Alike => alike(of, &bytes_of(alloc, rest)?, found),
+            BytesOf::Item => item_shown(of, rest, found),
+            BytesOf::Keyless => Ok(keyless(alloc, of, found)?),
+            BytesOf::Names => names(alloc, of, found),
+            BytesOf::Opened => opened(of, rest, found),
+            BytesOf::Saved => Ok(saved(alloc, of, found)?),
+            BytesOf::Searched => searched(of, rest, found),
+            BytesOf::Stored => stored(alloc, of, rest, found),
+            BytesOf::Value => Ok(value_shown(alloc, of, rest, found)?),
         }
+    }
+}
+
+impl Question for BytesOf {
+    fn answer(&mut self, alloc: Global, asked: &str, found: &mut String) -> Result<(), Fail> {
+        let (words, rest) = asked.split_once("; ").unwrap_or((asked, ""));
+        self.show(alloc, &bytes_of(alloc, words)?, rest, found)
     }
 }

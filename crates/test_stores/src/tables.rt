@@ -1,13 +1,13 @@
 //! What a table has of a name and of an item's number, by each call, also where the file is unsound: the program reads no such file.
-use crate::questions::TableOf;
+use crate::questions::BytesOf;
 use gv_types::Steps;
 use gv_view::View;
 use gvdb_alike::{differing_items, differing_span, has_elsewhere, is_shaped_as};
 use gvdb_read::{HashedName, Table, hash, hash_with};
-use std::alloc::{AllocError, Global};
+use std::alloc::AllocError;
 use std::fmt::Write;
 use std::test::Fail;
-use test_rows::{bytes_of, sample, table};
+use test_rows::{bytes_of, number, sample, table};
 
 /// Whether each other call finds these bytes of a name too.
 fn is_found_by_all(table: Table<'_>, name: &str, bytes: Option<&[u8]>) -> bool {
@@ -43,12 +43,10 @@ fn show_search(
 }
 
 /// What a search for a name finds in a file, in so many steps at most.
-pub(crate) fn searched(alloc: Global, asked: &str, found: &mut String) -> Result<(), Fail> {
-    let (file, rest) = asked.split_once("; ").unwrap_or((asked, ""));
-    let (name, most) = rest.split_once("; ").unwrap_or((rest, ""));
-    let file = bytes_of(alloc, file)?;
-    show_search(Table::open(&file)?, name, most.parse()?, found)?;
-    Ok(())
+pub(crate) fn searched(file: &[u8], asked: &str, found: &mut String) -> Result<(), Fail> {
+    let (name, most) = asked.split_once("; ").unwrap_or((asked, ""));
+    let table = Table::open(file)?;
+    Ok(show_search(table, name, u128::from(number(most)), found)?)
 }
 
 const SEARCHES: &str = "
@@ -101,11 +99,8 @@ fn show_item(table: Table<'_>, i: u32, found: &mut String) -> Result<(), AllocEr
 }
 
 /// An item of a file.
-pub(crate) fn item_shown(alloc: Global, asked: &str, found: &mut String) -> Result<(), Fail> {
-    let (file, i) = asked.split_once("; ").unwrap_or((asked, ""));
-    let file = bytes_of(alloc, file)?;
-    show_item(Table::open(&file)?, i.parse()?, found)?;
-    Ok(())
+pub(crate) fn item_shown(file: &[u8], i: &str, found: &mut String) -> Result<(), Fail> {
+    Ok(show_item(Table::open(file)?, number(i), found)?)
 }
 
 const ITEMS: &str = "
@@ -123,44 +118,52 @@ const ITEMS: &str = "
 %plain 68=102 76=97; 1 | none false Some(0) None v None None
 ";
 
-/// Where two files differ; whether one is seen to be sound by the other; which items have other values, if their names are seen to
-/// be the same; and how many of them the other one has anywhere.
-pub(crate) fn alike(alloc: Global, asked: &str, found: &mut String) -> Result<(), Fail> {
-    let (file, other) = asked.split_once("; ").unwrap_or((asked, ""));
-    let (file, other) = (bytes_of(alloc, file)?, bytes_of(alloc, other)?);
-    let span = differing_span(&file, &other).map(|span| (span.first, span.last));
-    let (table, other) = (Table::open(&file)?, Table::open(&other)?);
-    let shaped = is_shaped_as(table, other);
-    let items = differing_items(table, other).map(|items| (items.first, items.end));
-    let there = (0..table.n_items())
-        .filter(|i| has_elsewhere(table, *i, other))
-        .count();
-    write!(found, " {span:?} {shaped} {items:?} {there}")?;
-    Ok(())
+/// Whether one is seen to be sound by the other; which items have other values, if their names are seen to be the same; and how many
+/// of them the other one has anywhere.
+fn show_tables(table: Table<'_>, other: Table<'_>, found: &mut String) -> Result<(), AllocError> {
+    write!(found, " {} ", is_shaped_as(table, other))?;
+    match differing_items(table, other) {
+        Some(items) => write!(found, "{}..{}", items.first, items.end)?,
+        None => found.push_str("none")?,
+    }
+    let mut there = 0u32;
+    for i in 0..table.n_items() {
+        there = there.saturating_add(u32::from(has_elsewhere(table, i, other)));
+    }
+    write!(found, " {there}")
+}
+
+/// Where two files differ, and what is seen of their tables.
+pub(crate) fn alike(file: &[u8], other: &[u8], found: &mut String) -> Result<(), Fail> {
+    match differing_span(file, other) {
+        Some(span) => write!(found, "{}..={}", span.first, span.last)?,
+        None => found.push_str("none")?,
+    }
+    Ok(show_tables(Table::open(file)?, Table::open(other)?, found)?)
 }
 
 const ALIKE: &str = "
-%plain; %plain | None true Some((0, 0)) 2
-%plain 96=6; %plain | Some((96, 96)) true Some((1, 2)) 1
-%plain; %buckets | Some((20, 109)) true Some((0, 0)) 2
-%buckets; %plain | Some((20, 109)) true Some((0, 0)) 2
-%plain :32 20=32 28=0; %plain :32 20=32 28=0 | None true Some((0, 0)) 0
+%plain; %plain | none true 0..0 2
+%plain 96=6; %plain | 96..=96 true 1..2 1
+%plain; %buckets | 20..=109 true 0..0 2
+%buckets; %plain | 20..=109 true 0..0 2
+%plain :32 20=32 28=0; %plain :32 20=32 28=0 | none true 0..0 0
 -- a table of locks is asked anew
-%locked; %locked | None false Some((0, 0)) 3
+%locked; %locked | none false 0..0 3
 -- another hash, key, number in a list, kind, and bucket; a bloom word that rules the key out, and a value past the file
-%plain 36=0; %plain | Some((36, 36)) false Some((0, 0)) 1
-%plain 85=108; %plain | Some((85, 85)) false None 1
-%plain 88=0; %plain | Some((88, 88)) false Some((0, 0)) 2
-%plain 88=0 96=6; %plain | Some((88, 96)) false Some((1, 2)) 1
-%plain 74=76; %plain | Some((74, 74)) false Some((1, 2)) 1
-%plain 32=1; %plain | Some((32, 32)) false Some((0, 0)) 2
-%buckets 32=0 33=0 34=0 35=0; %buckets | Some((32, 35)) false Some((0, 0)) 2
-%plain 80=103; %plain | Some((80, 80)) false Some((1, 2)) 1
+%plain 36=0; %plain | 36..=36 false 0..0 1
+%plain 85=108; %plain | 85..=85 false none 1
+%plain 88=0; %plain | 88..=88 false 0..0 2
+%plain 88=0 96=6; %plain | 88..=96 false 1..2 1
+%plain 74=76; %plain | 74..=74 false 1..2 1
+%plain 32=1; %plain | 32..=32 false 0..0 2
+%buckets 32=0 33=0 34=0 35=0; %buckets | 32..=35 false 0..0 2
+%plain 80=103; %plain | 80..=80 false 1..2 1
 -- the other's item is no list of numbers
-%plain; %plain 56=89 | Some((56, 56)) false Some((0, 0)) 2
+%plain; %plain 56=89 | 56..=56 false 0..0 2
 -- more and fewer items
-%plain; %locked | Some((20, 170)) false None 2
-%plain :32 20=32 28=0; %plain | Some((20, 101)) false None 0
+%plain; %locked | 20..=170 false none 2
+%plain :32 20=32 28=0; %plain | 20..=101 false none 0
 ";
 
 /// Whether the item `.locks` is a table of one lock, `/k`, which has no text. A table of half an item is none.
@@ -206,11 +209,14 @@ fn are_hashed() -> bool {
 
 #[test]
 fn tables_are_searched_and_items_have_names(rt: HostRuntime) -> Result<(), Fail> {
-    let alloc = rt.alloc();
-    table(alloc, &mut TableOf::Searched, SEARCHES)?;
-    table(alloc, &mut TableOf::Item, ITEMS)?;
-    table(alloc, &mut TableOf::Alike, ALIKE)?;
-    let half = bytes_of(alloc, "%locked 56=155")?;
+    for (mut of, rows) in [
+        (BytesOf::Searched, SEARCHES),
+        (BytesOf::Item, ITEMS),
+        (BytesOf::Alike, ALIKE),
+    ] {
+        table(rt.alloc(), &mut of, rows)?;
+    }
+    let half = bytes_of(rt.alloc(), "%locked 56=155")?;
     assert!(rt;
         has_its_lock(sample("locked"), &half)? && are_hashed() && lies_there(sample("plain"))?
     );

@@ -1,37 +1,36 @@
 //! Turns to change a file: the steps that come of some answers, as plain numbers.
-use crate::questions::TableOf;
 use dconf_turn::TurnRecord;
+use std::alloc::AllocError;
 use std::fmt::Write;
-use std::test::Fail;
-use test_rows::table;
+use test_rows::number;
 
 /// Adds the step that a turn is at: its kind, its number, and the fault of one that is done.
-fn show_step(turn: &TurnRecord, found: &mut String) -> Result<(), Fail> {
+fn show_step(turn: &TurnRecord, found: &mut String) -> Result<(), AllocError> {
     let step = turn.next();
     write!(found, " {}", step.kind)?;
     if step.number != 0 || step.has_number {
         write!(found, ":{}", step.number)?;
     }
-    if step.fault != 0 {
-        write!(found, "!{}", step.fault)?;
+    match step.fault {
+        0 => Ok(()),
+        fault => write!(found, "!{fault}"),
     }
-    Ok(())
 }
 
 /// The steps of a turn that is answered so: a number is that of a step that was done, and `!` and a number a fault.
-pub(crate) fn steps_shown(asked: &str, found: &mut String) -> Result<(), Fail> {
+pub(crate) fn steps_shown(asked: &str, found: &mut String) -> Result<(), AllocError> {
     let mut turn = TurnRecord::begin();
     for answer in asked.split_whitespace() {
         match answer.strip_prefix("!") {
-            Some(fault) => turn.answered(fault.parse()?, 0),
-            None => turn.answered(0, answer.parse()?),
+            Some(fault) => turn.answered(number(fault), 0),
+            None => turn.answered(0, number(answer) as usize),
         }
     }
     show_step(&turn, found)
 }
 
 // Of a step that is done the number is the outcome: 0 made, 1 kept, 2 either, 3 unsettled.
-const ROWS: &str = "
+pub(crate) const TURNS: &str = "
  | 0
 0 | 1
 0 384 | 2
@@ -76,8 +75,3 @@ const ROWS: &str = "
 0 384 5 0 5 0 0 !5 | 11
 0 384 5 0 5 0 0 !5 !9 !9 | 13:3!5
 ";
-
-#[test]
-fn a_turn_says_its_steps(rt: HostRuntime) -> Result<(), Fail> {
-    table(rt.alloc(), &mut TableOf::Steps, ROWS)
-}

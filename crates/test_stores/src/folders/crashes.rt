@@ -1,11 +1,9 @@
 //! What a crash after some calls may leave. A folder in memory has each outcome under a number.
 use super::steps::answered;
-use crate::questions::TableOf;
 use dconf_disk::MemoryFolder;
-use std::alloc::Global;
+use std::alloc::{AllocError, Global};
 use std::fmt::Write;
-use std::test::Fail;
-use test_rows::table;
+use test_rows::number;
 
 /// The calls of a name.
 fn calls_of(name: &str) -> &'static str {
@@ -69,42 +67,34 @@ fn cases(
 }
 
 /// Which cases are seen of two looks, after so many of the calls of a name, in so many outcomes.
-pub(crate) fn crash_cases(alloc: Global, asked: &str, found: &mut String) -> Result<(), Fail> {
+pub(crate) fn crashed(alloc: Global, asked: &str, found: &mut String) -> Result<(), AllocError> {
     let (calls, looks) = asked.split_once(": ").unwrap_or((asked, ""));
     let (name, rest) = calls.split_once(' ').unwrap_or((calls, ""));
     let (count, outcomes) = rest.split_once(' ').unwrap_or((rest, ""));
-    let calls = (calls_of(name), count.parse()?);
+    let calls = (calls_of(name), number(count) as usize);
     let looks = looks.split_once("; ").unwrap_or((looks, ""));
-    match cases(alloc, calls, outcomes.parse()?, looks) {
-        Some(seen) => write!(found, " {:?}", seen.as_slice())?,
-        None => found.push_str(" a call failed")?,
-    }
-    Ok(())
+    let seen = cases(alloc, calls, u64::from(number(outcomes)), looks);
+    write!(found, "{seen:?}")
 }
 
-const ROWS: &str = "
+pub(super) const CRASHES: &str = "
 -- up to the sync of the new file it is the old one
 -- once the folder is synced it is the new one; in between, either
-replaced 1 400: done read me.user old; done read me.user new | [false, false, true, false]
-replaced 2 400: done read me.user old; done read me.user new | [false, false, true, false]
-replaced 3 400: done read me.user old; done read me.user new | [false, false, true, false]
-replaced 4 400: done read me.user old; done read me.user new | [false, false, true, false]
-replaced 5 400: done read me.user old; done read me.user new | [false, true, true, false]
-replaced 6 400: done read me.user old; done read me.user new | [false, true, false, false]
+replaced 1 400: done read me.user old; done read me.user new | Some([false, false, true, false])
+replaced 2 400: done read me.user old; done read me.user new | Some([false, false, true, false])
+replaced 3 400: done read me.user old; done read me.user new | Some([false, false, true, false])
+replaced 4 400: done read me.user old; done read me.user new | Some([false, false, true, false])
+replaced 5 400: done read me.user old; done read me.user new | Some([false, true, true, false])
+replaced 6 400: done read me.user old; done read me.user new | Some([false, true, false, false])
 -- unsynced bytes may be any
-unsynced 3 2000: done read me.user; done read me.user | [true, false, false, true]
-unsynced 3 2000: done read me.user a; done read me.user a | [true, false, false, true]
-unsynced 3 2000: done read me.user ab; done read me.user ab | [true, false, false, true]
-unsynced 3 2000: done read me.user abc; done read me.user abc | [true, false, false, true]
-unsynced 3 2000: done read me.user \0; done read me.user \0 | [true, false, false, true]
-unsynced 3 2000: done read me.user ff; done read me.user ff | [true, false, false, true]
+unsynced 3 2000: done read me.user; done read me.user | Some([true, false, false, true])
+unsynced 3 2000: done read me.user a; done read me.user a | Some([true, false, false, true])
+unsynced 3 2000: done read me.user ab; done read me.user ab | Some([true, false, false, true])
+unsynced 3 2000: done read me.user abc; done read me.user abc | Some([true, false, false, true])
+unsynced 3 2000: done read me.user \0; done read me.user \0 | Some([true, false, false, true])
+unsynced 3 2000: done read me.user ff; done read me.user ff | Some([true, false, false, true])
 -- each name is old or new, after a rename
-renamed 5 16: done read a x; done read b x | [true, true, true, true]
+renamed 5 16: done read a x; done read b x | Some([true, true, true, true])
 -- a file that no sync of the folder saw may be gone
-renamed 3 16: missing read a x; done read a x | [false, true, true, false]
+renamed 3 16: missing read a x; done read a x | Some([false, true, true, false])
 ";
-
-#[test]
-fn a_crash_leaves_what_was_synced_and_may_change_the_rest(rt: HostRuntime) -> Result<(), Fail> {
-    table(rt.alloc(), &mut TableOf::Crash, ROWS)
-}

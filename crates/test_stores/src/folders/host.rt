@@ -1,11 +1,16 @@
 //! The host's folder: files, none, and what is no file. That a big file is replaced, and that one keeps its permission bits, is in
 //! tests/program.d.
 use super::steps::calls;
-use dconf_disk::{FolderLock, StdFolder, folder_of};
+use dconf_disk::{FolderLock, StdFolder};
 use std::fs;
 use std::test::Fail;
 
 const FILES: &str = "
+folder_of me.user | .
+folder_of ./me.user | .
+folder_of a/me.user | a
+folder_of a/b/me.user | a/b
+folder_of /me.user | /
 create store_tests_first | done
 append store_tests_first one  | done
 append store_tests_first two | done
@@ -63,53 +68,41 @@ read /dev/null | done
 failures 6 | done
 ";
 
-const MADE: &str = "store_tests_folder/second store_tests_linked store_tests_linked.new";
+const MADE: &str = "
+remove store_tests_folder/second | done
+remove store_tests_linked | done
+remove store_tests_linked.new | done
+";
 
-/// Removes what the calls left.
-fn remove_all(rt: HostRuntime) -> Result<(), Fail> {
-    for name in MADE.split_whitespace() {
-        fs::remove_file(&rt, name)?;
-    }
-    fs::remove_dir(&rt, "store_tests_folder")?;
-    Ok(())
+/// Makes the calls of a table in a turn.
+fn calls_in_turn(rt: HostRuntime, rows: &str) -> Result<(), Fail> {
+    let lock = FolderLock::take(&rt, rt.alloc(), ".")?;
+    calls(rt.alloc(), &mut StdFolder::in_turn(rt, lock), rows)
 }
 
-/// Whether each file's folder has its name.
-fn are_named() -> bool {
-    folder_of("me.user") == "."
-        && folder_of("./me.user") == "."
-        && folder_of("a/me.user") == "a"
-        && folder_of("a/b/me.user") == "a/b"
-        && folder_of("/me.user") == "/"
+/// Whether a folder can be locked. The lock is given up then.
+fn can_lock(rt: HostRuntime, folder: &str) -> bool {
+    FolderLock::take(&rt, rt.alloc(), folder).is_ok()
 }
 
-/// Whether a folder is locked by any name, and given up then; others can't be locked.
+/// Whether a folder is locked by any name; others can't be locked.
 fn are_locked(rt: HostRuntime) -> bool {
-    for (folder, wanted) in [
-        (".", true),
-        ("./.", true),
-        (".", true),
-        ("store_tests_none", false),
-        ("/proc/self/comm/x", false),
-    ] {
-        let locked = FolderLock::take(&rt, rt.alloc(), folder).is_ok();
-        if locked != wanted {
-            return false;
-        }
-    }
-    true
+    can_lock(rt, ".")
+        && can_lock(rt, "./.")
+        && can_lock(rt, ".")
+        && !can_lock(rt, "store_tests_none")
+        && !can_lock(rt, "/proc/self/comm/x")
 }
 
 #[test]
 fn files_of_the_host_are_made_renamed_replaced_and_locked(rt: HostRuntime) -> Result<(), Fail> {
-    let alloc = rt.alloc();
     fs::create_dir(&rt, "store_tests_folder")?;
-    let lock = FolderLock::take(&rt, alloc, ".")?;
-    calls(alloc, &mut StdFolder::in_turn(rt, lock), FILES)?;
+    calls_in_turn(rt, FILES)?;
     fs::hard_link(&rt, "store_tests_linked", "store_tests_linked.new")?;
-    let lock = FolderLock::take(&rt, alloc, ".")?;
-    calls(alloc, &mut StdFolder::in_turn(rt, lock), NO_FILES)?;
-    calls(alloc, &mut StdFolder::read_only(rt), READ_ONLY)?;
-    assert!(rt; are_named() && are_locked(rt));
-    remove_all(rt)
+    calls_in_turn(rt, NO_FILES)?;
+    calls(rt.alloc(), &mut StdFolder::read_only(rt), READ_ONLY)?;
+    calls_in_turn(rt, MADE)?;
+    fs::remove_dir(&rt, "store_tests_folder")?;
+    assert!(rt; are_locked(rt));
+    Ok(())
 }

@@ -1,8 +1,8 @@
 //! Calls of a folder as rows of a table, and how each is answered.
-use dconf_disk::{Folder, FolderFault, replace};
+use dconf_disk::{Folder, FolderFault, folder_of, replace};
 use std::alloc::Global;
 use std::test::Fail;
-use test_rows::{Question, table};
+use test_rows::{Question, number, table};
 
 /// The bytes of a word; `ff` is the byte 255.
 fn bytes_of(word: &str) -> &[u8] {
@@ -39,15 +39,16 @@ fn answer_of_read<F: Folder>(
 
 /// Whether so many calls failed.
 fn answer_of_count(failures: u64, wanted: &str) -> &'static str {
-    match wanted.parse() {
-        Ok(wanted) if failures == wanted => "done",
-        _ => "other",
+    if failures == u64::from(number(wanted)) {
+        "done"
+    } else {
+        "other"
     }
 }
 
 /// The answer of a call: a word, the name of a file, and bytes or another name. `failures` has how
 /// many calls failed so far.
-pub(crate) fn answered<F: Folder>(alloc: Global, folder: &mut F, call: &str) -> &'static str {
+pub(crate) fn answered<'a, F: Folder>(alloc: Global, folder: &mut F, call: &'a str) -> &'a str {
     let (word, rest) = call.split_once(' ').unwrap_or((call, ""));
     let (name, other) = rest.split_once(' ').unwrap_or((rest, ""));
     answer_of(match word {
@@ -62,6 +63,7 @@ pub(crate) fn answered<F: Folder>(alloc: Global, folder: &mut F, call: &str) -> 
         } else {
             "device"
         },
+        "folder_of" => return folder_of(name),
         "read" => return answer_of_read(alloc, folder, name, bytes_of(other)),
         "failures" => return answer_of_count(folder.failures(), name),
         _ => return "no call",

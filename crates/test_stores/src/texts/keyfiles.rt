@@ -67,30 +67,25 @@ fn only_double(alloc: Global, directory: DirPath<'_>, bytes: &[u8]) -> Result<St
     }
 }
 
+/// Whether the row of `k` was found, or with a number the line is at fault.
+fn is_so(answer: Result<String, LineStop>, line: usize) -> bool {
+    match answer {
+        Ok(path) => line == 0 && path.as_str() == "/a/b/k",
+        Err(stop) => stop.line == line && stop.cause != CompileCause::Memory,
+    }
+}
+
 /// Whether a row with a double is left out, and the line of another is named, whose value is none.
 fn is_left_out(alloc: Global, directory: DirPath<'_>) -> bool {
-    let found = match only_double(alloc, directory, b"[b]\nk=[1.5]\nj=1\n") {
-        Ok(path) => path.as_str() == "/a/b/k",
-        Err(_) => false,
-    };
-    let stopped = match only_double(alloc, directory, b"[b]\nk=[1.5]\nj=oops\n") {
-        Ok(_) => false,
-        Err(stop) => stop.line == 3 && stop.cause != CompileCause::Memory,
-    };
-    found && stopped
+    is_so(only_double(alloc, directory, b"[b]\nk=[1.5]\nj=1\n"), 0)
+        && is_so(only_double(alloc, directory, b"[b]\nk=[1.5]\nj=oops\n"), 3)
 }
 
 /// Whether a row has this value below a directory, and the line of another is named, whose value is none.
 fn is_read(alloc: Global, directory: DirPath<'_>, value: &Tree) -> bool {
-    let found = match only_row(alloc, directory, b"[b]\nk=[1, 2]\n", value) {
-        Ok(path) => path.as_str() == "/a/b/k",
-        Err(_) => false,
-    };
-    let stopped = match only_row(alloc, directory, b"[b]\n\nk=oops\n", value) {
-        Ok(_) => false,
-        Err(stop) => stop.line == 3 && stop.cause != CompileCause::Memory,
-    };
-    found && stopped && value.type_text().as_str() == "ai"
+    is_so(only_row(alloc, directory, b"[b]\nk=[1, 2]\n", value), 0)
+        && is_so(only_row(alloc, directory, b"[b]\n\nk=oops\n", value), 3)
+        && value.type_text().as_str() == "ai"
 }
 
 /// Whether rows are read that have a text's value.

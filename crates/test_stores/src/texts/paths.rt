@@ -1,10 +1,7 @@
 //! The paths of keys, of directories and of locks. Which keys a lock covers is in tests/program.d.
-use crate::questions::TableOf;
 use dconf_path::{DirPath, KeyPath, LockPath};
-use std::alloc::{AllocError, Global};
+use std::alloc::AllocError;
 use std::fmt::Write;
-use std::test::Fail;
-use test_rows::table;
 
 /// Whether bytes are a key's path, which is this text.
 fn is_key(bytes: &[u8], text: &str) -> bool {
@@ -22,7 +19,7 @@ pub(crate) fn path_read(asked: &str, found: &mut String) -> Result<(), AllocErro
     write!(found, " {key:?} {directory:?} {lock:?} {by_bytes}")
 }
 
-const PATHS: &str = "
+pub(super) const PATHS: &str = "
 /k | None Some(NoEndSlash) None true
 /a | None Some(NoEndSlash) None true
 /a/k | None Some(NoEndSlash) None true
@@ -54,10 +51,3 @@ org/gnome/desktop/cursor-size | Some(NotAbsolute) Some(NotAbsolute) Some(NotAbso
 /456789012345678//k | Some(DoubleSlash) Some(DoubleSlash) Some(DoubleSlash) false
 /4567890123456789/k/ | Some(EndsInSlash) None None false
 ";
-
-#[test]
-fn tells_keys_and_directories(rt: HostRuntime) -> Result<(), Fail> {
-    table(rt.alloc(), &mut TableOf::Path, PATHS)?;
-    assert!(rt; KeyPath::of_bytes(b"/org/gnome/desktop/\xff").is_none());
-    Ok(())
-}

@@ -1,12 +1,15 @@
 //! Lock files and profiles, and faults that no command prints.
+use super::paths::PATHS;
+use crate::questions::TableOf;
 use dconf_path::{
-    Database, DatabaseKind, Lock, LocksFault, PathFault, ProfileFault, ProfileFlaw, TextFault,
-    read_locks, read_profile, settings_text,
+    Database, DatabaseKind, KeyPath, Lock, LocksFault, PathFault, ProfileFault, ProfileFlaw,
+    TextFault, read_locks, read_profile, settings_text,
 };
 use gvdb_write::{SalvageFault, TooBig, WriteFault};
 use std::alloc::{AllocError, Global};
 use std::fmt::Write;
 use std::test::Fail;
+use test_rows::table;
 
 /// Whether these are the locks of a text of three lines.
 fn are_its_locks(locks: &[Lock<'_>]) -> bool {
@@ -70,9 +73,11 @@ fn show_faults(names: &mut String) -> Result<(), AllocError> {
 }
 
 #[test]
-fn texts_locks_and_profiles_are_read(rt: HostRuntime) -> Result<(), Fail> {
+fn paths_texts_locks_and_profiles_are_read(rt: HostRuntime) -> Result<(), Fail> {
     let alloc = rt.alloc();
-    assert!(rt; are_read(alloc) && are_refused(alloc));
+    table(alloc, &mut TableOf::Path, PATHS)?;
+    let is_none = KeyPath::of_bytes(b"/org/gnome/desktop/\xff").is_none();
+    assert!(rt; is_none && are_read(alloc) && are_refused(alloc));
     let mut names = String::new(alloc);
     show_faults(&mut names)?;
     assert!(rt;
