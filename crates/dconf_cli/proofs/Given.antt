@@ -1,19 +1,18 @@
 -- How an answer comes about.
 use Rattle.std.proofs.Common.{◌≡◌, ◌∷◌, ◌++◌, inl, inr, ℕ, List, [], Option, Some, Ok, Err, refl, ap, subst, arith}
+use Rattle.refused.specs.declared.Refused.TheVariants.{Fault, Memory}
 use Rattle.dconf_model.specs.Folders.{Event}
 use Rattle.dconf_model.specs.FaultTexts.{device_text}
 use Rattle.dconf_model.specs.Replacing.{Replaced, MaybeReplaced}
 use Rattle.dconf_model.specs.Outcomes.{Outcome, Output, changing, done, done_output, refused_output}
 use Rattle.dconf_streams.specs.declared.counted.Counted.{Counted}
-use Rattle.dconf_streams.specs.Answers.{Answered, line_of, outcome_of}
+use Rattle.dconf_streams.specs.Answers.{Answered, Refusal, line_of, outcome_of}
 use Rattle.dconf_cli.specs.Outputs.{Leaves, PrintsLine, PrintsText}
 use Rattle.dconf_cli.specs.Endings.{Ends}
 use Rattle.dconf_disk.specs.Driving.{IsOneMore}
 use Rattle.dconf_cli.proofs.StreamsLeft.{leaves_line, leaves_text}
 use Rattle.std.specs.Prelude.{OnOk, codes, string_bytes}
 use Rattle.dconf_disk.specs.declared.folder.Folder.{Ghosts}
-use Rattle.dconf_streams.specs.declared.refusal.Refusal.{Refusal}
-use Rattle.dconf_streams.specs.declared.refusal.Refusal.TheVariants.{Line, NoMemory}
 
 module _ {F O E : Type 0} (ghosts : Ghosts F) (contents : O → Option (List ℕ)) (err_contents : E → Option (List ℕ)) where
   -- the outcome was given: an output came about, and was left on out and err
@@ -32,13 +31,13 @@ module _ {F O E : Type 0} (ghosts : Ghosts F) (contents : O → Option (List ℕ
   -- a refusal was given by its line
   pub gives_refusal : (folder : F) (out : Counted O) (err_old err_new : Counted E) (refusal : Refusal) (status : ℕ) → status ≡ 1
       → Wrote err_old err_new (line_of refusal) → Gives folder folder out out err_old err_new (outcome_of (Err refusal)) status
-  gives_refusal folder out err_old err_new (Line line) status is h = (
+  gives_refusal folder out err_old err_new (Fault line) status is h = (
     record { out = []; err = string_bytes line; status = 1 },
     (refl, refl),
     leaves_line contents err_contents out err_old err_new (string_bytes line) status is h,
   )
-  gives_refusal folder out err_old err_new NoMemory status is h =
-      (refused_output (codes "Memory"), (refl, refl), leaves_line contents err_contents out err_old err_new (line_of NoMemory) status is h)
+  gives_refusal folder out err_old err_new Memory status is h =
+      (refused_output (codes "Memory"), (refl, refl), leaves_line contents err_contents out err_old err_new (line_of Memory) status is h)
 
   -- of a file that was to change
   module _ (old new : F) (name bytes text : List ℕ) where
@@ -74,5 +73,5 @@ module _ {F O E : Type 0} (ghosts : Ghosts F) (contents : O → Option (List ℕ
 pub zero_is_done : {F : Type 0} (ghosts : Ghosts F) (old new : F) (answer : Answered) (output : Output) (Is : Type 0)
     → Ends ghosts old new (outcome_of answer) output → output.status ≡ 0 → OnOk answer Is → Is
 zero_is_done ghosts old new (Ok answer) output Is e zero is = is
-zero_is_done ghosts old new (Err (Line line)) output Is e zero is = let one = ap (λ (o : Output). o.status) e.0 in absurd (omega arith)
-zero_is_done ghosts old new (Err NoMemory) output Is e zero is = let one = ap (λ (o : Output). o.status) e.0 in absurd (omega arith)
+zero_is_done ghosts old new (Err (Fault line)) output Is e zero is = let one = ap (λ (o : Output). o.status) e.0 in absurd (omega arith)
+zero_is_done ghosts old new (Err Memory) output Is e zero is = let one = ap (λ (o : Output). o.status) e.0 in absurd (omega arith)

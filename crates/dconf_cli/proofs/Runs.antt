@@ -17,7 +17,7 @@ use Rattle.dconf_model.specs.Runs.{Answers as AnswersAny, AnswersIn, Did, MayMak
 use Rattle.dconf_model.specs.Runs.{RunEnding}
 use Rattle.dconf_model.specs.Runs.RunEnding.{as_meant, device}
 use Rattle.dconf_streams.specs.declared.answer.Answer.TheVariants as answers
-use Rattle.dconf_streams.specs.declared.refusal.Refusal.TheVariants as refusals
+use Rattle.refused.specs.declared.Refused.TheVariants as refusals
 use Rattle.dconf_streams.specs.Answers.{Answered, RefusesFor, outcome_of}
 use Rattle.dconf_cli.specs.Endings.{Ends, EndsBy}
 use Rattle.dconf_streams.specs.Readings.{AllRead, AreReadFrom, Decides, Gave, Reading, Tells}
@@ -87,14 +87,14 @@ module _ (es : List Event) where
 changes_done : (answer : Answered) → IfSome (outcome_of answer) (λ o. (o.change ≡ None) ⊎ (o.output.status ≡ 0))
 changes_done (Ok (answers.Done text)) = inl refl
 changes_done (Ok (answers.Changed file bytes text)) = inr refl
-changes_done (Err (refusals.Line line)) = inl refl
-changes_done (Err refusals.NoMemory) = tt
+changes_done (Err (refusals.Fault line)) = inl refl
+changes_done (Err refusals.Memory) = tt
 
 outcome_formed : (answer : Answered) → IfSome (outcome_of answer) (λ o. IsFormed o.output)
 outcome_formed (Ok (answers.Done text)) = inl (refl, refl)
 outcome_formed (Ok (answers.Changed file bytes text)) = inl (refl, refl)
-outcome_formed (Err (refusals.Line line)) = inr (refl, refl)
-outcome_formed (Err refusals.NoMemory) = tt
+outcome_formed (Err (refusals.Fault line)) = inr (refl, refl)
+outcome_formed (Err refusals.Memory) = tt
 
 line_status : (output : Output) (why : List ℕ) → output ≡ refused_output why → output.status ≡ 1
 line_status output why e = ap (λ (o : Output). o.status) e

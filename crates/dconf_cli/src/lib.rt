@@ -15,4 +15,4 @@ mod outcome;
 
 pub use command_run::run;
 pub use dconf_args::{Asked, Command, command};
-pub use dconf_streams::{Counted, InputFault, read_input};
+pub use dconf_streams::{Counted, FailedRead, InputFault, read_input};

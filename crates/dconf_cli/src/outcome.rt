@@ -7,7 +7,7 @@ ghost use Rattle.dconf_cli.specs.Outputs.{Leaves, PrintsLine, PrintsText};
 ghost use Rattle.dconf_cli.specs.Endings.{Ends};
 
 use dconf_disk::{Folder, FolderFault, replace};
-use dconf_streams::{Answer, Counted, Refusal, device_line};
+use dconf_streams::{Answer, Counted, Refusal, device_line, refusal_line};
 use std::alloc::Global;
 use std::io::Write;
 
@@ -34,14 +34,14 @@ pub(crate) fn bring_about<F: Folder, O: Write, E: Write>(
         Ok(Answer::Changed { file, bytes, text }) => {
             // Its line is made before the folder is written, since later there may be no memory for it.
             let Ok(broken) = device_line(alloc, file.as_str()) else {
-                return refuse(Refusal::NoMemory, err);
+                return refuse(Refusal::Memory, err);
             };
             match replace(alloc, folder, file.as_str(), &bytes) {
                 Ok(()) => print(text.as_bytes(), out),
-                Err(FolderFault::Device) => refuse(Refusal::Line(broken), err),
-                Err(FolderFault::Memory) => refuse(Refusal::NoMemory, err),
+                Err(FolderFault::Device) => refuse(Refusal::Fault(broken), err),
+                Err(FolderFault::Memory) => refuse(Refusal::Memory, err),
                 // No file is read here.
-                Err(FolderFault::TooBig) => refuse(Refusal::NoMemory, err),
+                Err(FolderFault::TooBig) => refuse(Refusal::Memory, err),
             }
         }
         Err(refusal) => refuse(refusal, err),
@@ -63,6 +63,6 @@ fn refuse<E: Write>(refusal: Refusal, err: &mut Counted<E>) -> u8
     ensures refused { result ≡ 1 }
     ensures line { PrintsLine E.contents err.old err.new (line_of refusal) }
 {
-    let _ = err.put(refusal.line().as_bytes());
+    let _ = err.put(refusal_line(&refusal).as_bytes());
     1
 }

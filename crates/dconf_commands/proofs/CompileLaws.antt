@@ -9,9 +9,8 @@ use Rattle.dconf_model.specs.Outcomes.{Compiles, IsOutcome, OrNoRead, Outcome, R
 use Rattle.dconf_model.specs.Reads.{FileRead, Input, ReadResults}
 use Rattle.dconf_model.specs.Reads.FileRead.{no_file, holds, over_size, failed}
 use Rattle.dconf_model.specs.Sources.{FileFault, Source}
-use Rattle.dconf_streams.specs.declared.refusal.Refusal.{Refusal}
-use Rattle.dconf_streams.specs.declared.refusal.Refusal.TheVariants.{NoMemory}
-use Rattle.dconf_streams.specs.Answers.{Answered, GivesOutcome, RefusesFor}
+use Rattle.refused.specs.declared.Refused.TheVariants.{Memory}
+use Rattle.dconf_streams.specs.Answers.{Answered, GivesOutcome, Refusal, RefusesFor}
 use Rattle.dconf_streams.specs.Readings.{Decides, Gave, HasRead, NoSources, reads_of}
 use Rattle.dconf_streams.proofs.Decisions.{answers_also, decides_also, decides_at_once}
 use Rattle.dconf_streams.proofs.ManyFiles.{all_read, decides_later}
@@ -90,7 +89,7 @@ module _ {F : Type 0} (ghosts : Ghosts F) where
 
 -- a fault of the files, or none where memory ran out
 pub compile_refuses : (out : List ℕ) (files locks : List Source) (refusal : Refusal) (fault : Option FileFault) → IfSome fault (λ f. IsCompiled files locks (Err f))
-    → IfSome fault (λ f. RefusesFor (Err refusal) (line_fault_text (file_name files locks f.file) f.line f.cause)) → (fault ≡ None → refusal ≡ NoMemory)
+    → IfSome fault (λ f. RefusesFor (Err refusal) (line_fault_text (file_name files locks f.file) f.line f.cause)) → (fault ≡ None → refusal ≡ Memory)
     → GivesOutcome (Err refusal) (Compiles out files locks)
 compile_refuses out files locks refusal None is refuses failing = subst (λ (r : Refusal). GivesOutcome (Err r) (Compiles out files locks)) (sym (failing refl)) tt
 compile_refuses out files locks refusal (Some f) is refuses failing =

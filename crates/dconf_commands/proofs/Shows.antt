@@ -1,23 +1,17 @@
 -- What `show` and `check` decide.
-use Rattle.std.proofs.Common.{◌≡◌, ◌∷◌, ◌++◌, ◌∙◌, ℕ, List, [], Option, Some, None, true, false, refl, sym, ap, subst, is_some}
-use Rattle.std.specs.Prelude.{◌≢◌, unwrap_or, codes}
+use Rattle.std.proofs.Common.{◌≡◌, ◌∙◌, ℕ, List, Option, Some, None, true, false, refl, sym, ap, subst, is_some}
+use Rattle.std.specs.Prelude.{unwrap_or}
 use Rattle.gv_model.specs.Ty.{Ty}
 use Rattle.gv_model.specs.Ty.Ty.{tuple}
 use Rattle.gv_model.specs.Ty.Types.{end}
 use Rattle.gv_model.specs.TypeText.{is_type, type_at, type_of_text}
 use Rattle.gv_model.specs.TypeFault.{Fault, IsFault}
 use Rattle.gv_model.specs.Decode.{decode}
-use Rattle.gv_model.specs.Tree.{Tree}
-use Rattle.gv_model.specs.Printed.{printed, is_too_large, holds_double}
-use Rattle.gv_text.specs.declared.print_fault.PrintFault.{PrintFault}
-use Rattle.gv_text.specs.declared.print_fault.PrintFault.TheVariants.{TooLarge, DoubleText, Memory}
-use Rattle.gv_text.specs.PrintFaults.{print_fault_name}
-use Rattle.gv_text.specs.Printing.{IsUnprintable}
 use Rattle.gv_model.specs.FaultTexts.{type_fault_text}
 use Rattle.dconf_disk.specs.declared.folder.Folder.{Ghosts}
 use Rattle.dconf_model.specs.Commands.Command.{show}
 use Rattle.dconf_model.specs.Databases.{IsVerdict, Verdict}
-use Rattle.dconf_model.specs.Outcomes.{Checks, IsOutcome, Outcome, Refused, WithFile, WithType, check_output, done, refused, shown_outcome}
+use Rattle.dconf_model.specs.Outcomes.{Checks, IsOutcome, Outcome, Refused, WithFile, WithType, check_output, shown_outcome}
 use Rattle.dconf_model.specs.Reads.{Input, ReadResults}
 use Rattle.dconf_model.specs.Reads.FileRead.{holds}
 use Rattle.dconf_streams.specs.Answers.{Answered, GivesOutcome, RefusesFor}
@@ -80,17 +74,3 @@ module _ {F : Type 0} (ghosts : Ghosts F) (text name : List ℕ) (answer : Answe
 
 pub checks_as : (bytes : List ℕ) (answer : Answered) (v : Verdict) → IsVerdict bytes v → GivesOutcome answer (λ o. o ≡ check_output v) → GivesOutcome answer (Checks bytes)
 checks_as bytes answer v is h = answers_also answer (λ o. o ≡ check_output v) (Checks bytes) (λ o e. (v, is, e)) h
-
--- ---- the value that `show` prints
-
-pub shows_text : (v : Tree) (text : List ℕ) → text ≡ printed v true ++ 10 ∷ [] → (is_too_large v ≡ false) × (holds_double v ≡ false) → done text ≡ shown_outcome v
-shows_text v text e fits = rw (e, fits.0, fits.1) refl
-
-refuses_as : (why : List ℕ) (v : Tree) (answer : Answered) → refused why ≡ shown_outcome v → RefusesFor answer why → GivesOutcome answer (λ o. o ≡ shown_outcome v)
-refuses_as why v answer same h = answers_also answer (Refused why) (λ o. o ≡ shown_outcome v) (λ o r. r ∙ same) h
-
-pub shows_fault : (v : Tree) (f : PrintFault) (answer : Answered) → IsUnprintable v f → f ≢ Memory → RefusesFor answer (print_fault_name f)
-    → GivesOutcome answer (λ o. o ≡ shown_outcome v)
-shows_fault v TooLarge answer is other h = refuses_as (codes "TooLarge") v answer (rw is refl) h
-shows_fault v DoubleText answer is other h = refuses_as (codes "DoubleText") v answer (rw (is.0, is.1) refl) h
-shows_fault v Memory answer is other h = absurd (other refl)

@@ -56,7 +56,7 @@ fn refused_for(alloc: Global, cause: CompileCause) -> Refusal
     ensures { GivesOutcome (Err result) (RefusedCause (cause_of cause)) }
 {
     match cause {
-        CompileCause::Memory => Refusal::NoMemory,
+        CompileCause::Memory => Refusal::Memory,
         _ => refused(alloc, cause),
     }
 }

@@ -12,7 +12,7 @@ ghost use Rattle.dconf_streams.specs.Answers.{GivesOutcome};
 use crate::printed_setting::PrintedSetting;
 use dconf_layers::SeenKey;
 use dconf_streams::{Refusal, refused};
-use gv_text::{PrintFault, print_onto};
+use gv_text::{PrintFault, PrintFlaw, print_onto};
 use gv_view::View;
 use std::alloc::{AllocError, Global};
 
@@ -87,12 +87,12 @@ impl DumpParts {
                     .push(PrintedSetting::new(path, text.as_str())?)?;
                 Ok(())
             }
-            Err(PrintFault::DoubleText) if skip_doubles => {
+            Err(PrintFault::Fault(PrintFlaw::DoubleText)) if skip_doubles => {
                 push_comment(&mut self.comments, path.as_str())?;
                 Ok(())
             }
-            Err(PrintFault::Memory) => Err(Refusal::NoMemory),
-            Err(fault) => Err(refused(alloc, format_args!("{fault} {path}"))),
+            Err(PrintFault::Memory) => Err(Refusal::Memory),
+            Err(PrintFault::Fault(flaw)) => Err(refused(alloc, format_args!("{flaw} {path}"))),
         }
     }
 }

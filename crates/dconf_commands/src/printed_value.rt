@@ -6,7 +6,7 @@ ghost use Rattle.dconf_model.specs.Outcomes.{shown_outcome};
 ghost use Rattle.dconf_streams.specs.Answers.{GivesOutcome};
 
 use dconf_streams::{Answer, Refusal, refused};
-use gv_text::{PrintFault, print};
+use gv_text::{PrintFault, PrintFlaw, print};
 use gv_view::View;
 use std::alloc::{AllocError, Global};
 
@@ -19,8 +19,8 @@ pub(crate) fn printed(alloc: Global, view: View<'_>) -> Result<Answer, Refusal>
             text.push('\n')?;
             Ok(Answer::Done(text))
         }
-        Err(PrintFault::Memory) => Err(Refusal::NoMemory),
-        Err(fault) => Err(refused(alloc, fault)),
+        Err(PrintFault::Memory) => Err(Refusal::Memory),
+        Err(PrintFault::Fault(flaw)) => Err(refused(alloc, flaw)),
     }
 }
 
@@ -40,8 +40,8 @@ fn told(alloc: Global, view: View<'_>) -> Result<String, AllocError>
 {
     match print(alloc, view) {
         Ok(text) => Ok(text),
-        Err(PrintFault::TooLarge) => String::from_str(alloc, "too large, not printed"),
-        Err(PrintFault::DoubleText) => String::from_str(alloc, "a double, not printed"),
+        Err(PrintFault::Fault(PrintFlaw::TooLarge)) => String::from_str(alloc, "too large, not printed"),
+        Err(PrintFault::Fault(PrintFlaw::DoubleText)) => String::from_str(alloc, "a double, not printed"),
         Err(PrintFault::Memory) => Err(AllocError),
     }
 }

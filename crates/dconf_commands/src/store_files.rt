@@ -52,7 +52,7 @@ impl<'a> StoreFiles<'a> {
         match open_layers(alloc, &files) {
             Ok(layers) => Ok(layers),
             Err(EngineFault::Fault(bad)) => Err(refused(alloc, bad)),
-            Err(EngineFault::Memory) => Err(Refusal::NoMemory),
+            Err(EngineFault::Memory) => Err(Refusal::Memory),
         }
     }
 
@@ -66,7 +66,7 @@ impl<'a> StoreFiles<'a> {
         match Engine::open(alloc, &self.profile, &files) {
             Ok(engine) => Ok(engine),
             Err(EngineFault::Fault(bad)) => Err(refused(alloc, bad)),
-            Err(EngineFault::Memory) => Err(Refusal::NoMemory),
+            Err(EngineFault::Memory) => Err(Refusal::Memory),
         }
     }
 }
@@ -98,7 +98,7 @@ pub(crate) fn profile<'a>(
     match read_profile(alloc, text) {
         Ok(profile) => Ok(profile),
         Err(ProfileFault::Fault(flaw)) => Err(refused_at(alloc, name, flaw.line(), flaw)),
-        Err(ProfileFault::Memory) => Err(Refusal::NoMemory),
+        Err(ProfileFault::Memory) => Err(Refusal::Memory),
     }
 }
 

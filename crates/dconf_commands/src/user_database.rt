@@ -48,7 +48,7 @@ pub(crate) fn saved_saying(
             text,
         }),
         Err(WriteFault::Fault(fault)) => Err(refused(alloc, fault)),
-        Err(WriteFault::Memory) => Err(Refusal::NoMemory),
+        Err(WriteFault::Memory) => Err(Refusal::Memory),
     }
 }
 
@@ -60,7 +60,7 @@ pub(crate) fn change_refused(alloc: Global, fault: ChangeFault, path: &str) -> R
         ChangeFault::Fault(ChangeFlaw::Locked(_)) => refused(alloc, format_args!("Locked {path}")),
         ChangeFault::Fault(ChangeFlaw::NotWritable) => refused(alloc, fault),
         ChangeFault::Fault(ChangeFlaw::TooLarge) => refused(alloc, fault),
-        ChangeFault::Memory => Refusal::NoMemory,
+        ChangeFault::Memory => Refusal::Memory,
     }
 }
 

@@ -10,7 +10,7 @@ use Rattle.dconf_model.specs.FaultTexts.{device_text, no_file_text}
 use Rattle.dconf_model.specs.Outcomes.{OrNoDatabase, OrNoRead, Outcome, Refused, WithFile}
 use Rattle.dconf_model.specs.Reads.{FileRead, IsOverSize, ReadResults, read_of}
 use Rattle.dconf_model.specs.Reads.FileRead.{no_file, holds, over_size, failed}
-use Rattle.dconf_streams.specs.declared.refusal.Refusal.TheVariants.{NoMemory}
+use Rattle.refused.specs.declared.Refused.TheVariants.{Memory}
 use Rattle.dconf_streams.specs.Answers.{Answered, GivesOutcome, RefusesFor, outcome_of}
 use Rattle.dconf_streams.specs.Readings.{Decides, HasRead, IsKept, Nothing, NothingIfAny, found_read, one_read}
 use Rattle.dconf_disk.specs.Driving.{IsOneMore}
@@ -126,7 +126,7 @@ module _ {F : Type 0} (ghosts : Ghosts F) (old new : F) (name : List ℕ) (keeps
     answers = λ reads gave. answers_also answer (Refused (codes "TooBig")) (OrNoDatabase name (reads n name) NothingIfAny) (λ o r. rw gave.0 r) refuses;
   }
 
-  pub decides_no_memory : (n : ℕ) → ghosts.failed new ≡ ghosts.failed old → (Makes : ReadResults → Outcome → Type 0) → Decides ghosts old new n Makes (Err NoMemory)
+  pub decides_no_memory : (n : ℕ) → ghosts.failed new ≡ ghosts.failed old → (Makes : ReadResults → Outcome → Type 0) → Decides ghosts old new n Makes (Err Memory)
   decides_no_memory n same Makes = record {
     log = [];
     kept = keeps;

@@ -1,18 +1,20 @@
 -- The input that a run was given, by what was read of it.
 use Rattle.std.proofs.Common.{◌≡◌, ◌≤◌, ◌<◌, ◌+◌, ◌-◌, ◌++◌, ◌∷◌, ◌⊎◌, ◌∙◌, inl, inr, ℕ, true, false, List, [], Option, Some, None, Result, Ok, Err, refl, sym, ap, length, length-append, length-take-le, take, append-nil, arith}
 use Rattle.std.specs.Prelude.{nat_lt, not, unwrap_or}
-use Rattle.std.specs.Io.KnownBytes.{Consumes, IsAtEnd, Keeps}
+use Rattle.std.specs.Io.KnownBytes.{Consumes, IsAtEnd}
 use Rattle.std.proofs.lemmas.List.{append_assoc}
+use Rattle.refused.specs.declared.Refused.{Refused}
+use Rattle.refused.specs.declared.Refused.TheVariants.{Fault, Memory}
+use Rattle.refused.specs.Faults.{OfFault}
 use Rattle.dconf_model.specs.Lines.{longest_text}
 use Rattle.dconf_model.specs.Reads.{Input}
 use Rattle.dconf_streams.specs.declared.counted.Counted.{Counted}
-use Rattle.dconf_streams.specs.declared.input.InputFault.{InputFault}
-use Rattle.dconf_streams.specs.declared.input.InputFault.TheVariants.{Device, Memory}
+use Rattle.dconf_streams.specs.declared.input.FailedRead.{FailedRead}
 use Rattle.dconf_streams.specs.Transfers.{Transfer, FoundEnd, transfer_of}
 use Rattle.dconf_streams.specs.Counted.{CameToEnd, Delivered, transfers_of, failures_of, inner_of}
 use Rattle.dconf_streams.specs.Inputs.{IsReadOf, ReadsText, SameText, TakesPiece, Took}
 use Rattle.dconf_streams.specs.Streams.{one_more}
-use Rattle.dconf_streams.proofs.TransferLaws.{Delivered-nil, Delivered-trans, gave_by, gave_by_none}
+use Rattle.dconf_streams.proofs.TransferLaws.{Delivered-nil, Delivered-trans, gave_by}
 
 -- the bytes are all that the stream had, or both are too many
 same_text : (left : Option (List ℕ)) (bytes : List ℕ) → IsAtEnd left ⊎ (longest_text < length bytes) → SameText (bytes ++ unwrap_or left []) bytes
@@ -33,64 +35,37 @@ module _ {R : Type 0} (remaining : R → Option (List ℕ)) where
 
   -- ---- one read, by its call
 
-  module _ (old new : Counted R) (room : ℕ) (buf bytes after : List ℕ) where
-    pub took_none : (fault : InputFault) → transfers_of new ≡ transfers_of old ++ transfer_of [] buf ∷ []
-        → Keeps (remaining (inner_of old)) (remaining (inner_of new)) → TakesPiece remaining old new room bytes after (Err fault)
-    took_none fault called kept = record {
-      piece = [];
-      given = gave_by_none remaining old new buf called kept;
-      transfer = transfer_of [] buf;
+  module _ (old new : Counted R) (room : ℕ) (buf bytes after : List ℕ) (n : ℕ) (called : transfers_of new ≡ transfers_of old ++ transfer_of (n ∷ []) buf ∷ [])
+      (left : Consumes (remaining (inner_of old)) (remaining (inner_of new)) (take n buf)) (bound : n ≤ length buf) (room_is : length buf ≡ room) where
+    size : length (take n buf) ≡ n
+    size = length-take-le n buf bound
+
+    pub took_all : after ≡ bytes ++ take n buf → (n ≡ 0 → 0 < length buf → IsAtEnd (remaining (inner_of new)))
+        → TakesPiece remaining old new room bytes after (Ok n)
+    took_all is at_end = record {
+      piece = take n buf;
+      given = gave_by remaining old new n buf called left;
+      transfer = transfer_of (n ∷ []) buf;
       once = called;
-      fits = omega arith;
-      appended = tt;
-      failing = λ _. refl;
-      ended = tt;
+      fits = let is = size in omega (arith, is, bound, room_is);
+      appended = (is, size);
+      failing = tt;
+      ended = λ zero some. (
+        at_end zero (omega (arith, some, room_is)),
+        record { room = length buf - 1; asked = omega (arith, some, room_is); moved = ap (λ (k : ℕ). Some (take k buf)) zero },
+      );
     }
-
-    module _ (n : ℕ) (called : transfers_of new ≡ transfers_of old ++ transfer_of (n ∷ []) buf ∷ [])
-        (left : Consumes (remaining (inner_of old)) (remaining (inner_of new)) (take n buf)) (bound : n ≤ length buf) (room_is : length buf ≡ room) where
-      size : length (take n buf) ≡ n
-      size = length-take-le n buf bound
-
-      pub took_lost : TakesPiece remaining old new room bytes after (Err Memory)
-      took_lost = record {
-        piece = take n buf;
-        given = gave_by remaining old new n buf called left;
-        transfer = transfer_of (n ∷ []) buf;
-        once = called;
-        fits = let is = size in omega (arith, is, bound, room_is);
-        appended = tt;
-        failing = λ e. cc;
-        ended = tt;
-      }
-
-      pub took_all : after ≡ bytes ++ take n buf → (n ≡ 0 → 0 < length buf → IsAtEnd (remaining (inner_of new)))
-          → TakesPiece remaining old new room bytes after (Ok n)
-      took_all is at_end = record {
-        piece = take n buf;
-        given = gave_by remaining old new n buf called left;
-        transfer = transfer_of (n ∷ []) buf;
-        once = called;
-        fits = let is = size in omega (arith, is, bound, room_is);
-        appended = (is, size);
-        failing = λ e. cc;
-        ended = λ zero some. (
-          at_end zero (omega (arith, some, room_is)),
-          record { room = length buf - 1; asked = omega (arith, some, room_is); moved = ap (λ (k : ℕ). Some (take k buf)) zero },
-        );
-      }
 
   -- ---- a read more
 
-  module _ (old mid new : Counted R) (room : ℕ) (bytes after : List ℕ) (result : Result ℕ InputFault) (read : HasReadSome old mid bytes)
+  module _ (old mid new : Counted R) (room : ℕ) (bytes after : List ℕ) (result : Result ℕ (Refused FailedRead)) (read : HasReadSome old mid bytes)
       (more : TakesPiece remaining mid new room bytes after result) where
     all_calls : transfers_of new ≡ transfers_of old ++ (read.transfers ++ more.transfer ∷ [])
     all_calls = more.once ∙ ap (λ (l : List Transfer). l ++ more.transfer ∷ []) read.are ∙ append_assoc (transfers_of old) read.transfers (more.transfer ∷ [])
 
     -- a read that failed adds nothing
-    pub gave_before : (fault : InputFault) → result ≡ Err fault → fault ≡ Device → length bytes ≤ longest_text → length (bytes ++ more.piece) ≤ longest_text
-    gave_before fault is device short =
-        let none : more.piece ≡ [] = more.failing (is ∙ ap Err device) in
+    pub gave_before : more.piece ≡ [] → length bytes ≤ longest_text → length (bytes ++ more.piece) ≤ longest_text
+    gave_before none short =
         let size = length-append bytes more.piece in
         let empty = ap length none in
         omega (arith, size, empty, short)
@@ -138,7 +113,7 @@ module _ {R : Type 0} (remaining : R → Option (List ℕ)) where
 
 module _ {V R : Type 0} (items : V → List ℕ) (remaining : R → Option (List ℕ)) (old new : Counted R) where
   -- the input that was read with this result
-  abbrev pub WasRead : Result V InputFault → Type 0
+  abbrev pub WasRead : Result V (Refused FailedRead) → Type 0
   WasRead result = (i : Input) × Took remaining old new i × IsReadOf i items result
 
   -- these bytes, and then what is left
@@ -149,16 +124,15 @@ module _ {V R : Type 0} (items : V → List ℕ) (remaining : R → Option (List
   unfolding whole
   took_whole gave given = record { gave = gave; given = given; whole = λ _. refl; part = λ e. cc }
 
-  pub read_fault : (gave : List ℕ) (fault : InputFault) → Delivered remaining old new gave → (fault ≡ Device → length gave ≤ longest_text)
-      → (fault ≡ Device → failures_of new ≡ one_more (failures_of old)) → WasRead (Err fault)
-  read_fault gave Device given short rose =
-      let small = short refl in
+  pub read_fault : (gave : List ℕ) (fault : Refused FailedRead) → Delivered remaining old new gave → OfFault (λ _. length gave ≤ longest_text) fault
+      → OfFault (λ _. failures_of new ≡ one_more (failures_of old)) fault → WasRead (Err fault)
+  read_fault gave (Fault f) given small rose =
       let fits : nat_lt longest_text (length gave) ≡ false = grind arith in (
         record { bytes = gave; fails = true },
-        record { gave = gave; given = given; whole = λ e. cc; part = λ _. (refl, rose refl) },
-        record { text = tt; failing = λ _. ap not fits },
+        record { gave = gave; given = given; whole = λ e. cc; part = λ _. (refl, rose) },
+        record { text = tt; failing = ap not fits },
       )
-  read_fault gave Memory given short rose = (whole gave, took_whole gave given, record { text = tt; failing = λ e. cc })
+  read_fault gave Memory given short rose = (whole gave, took_whole gave given, record { text = tt; failing = tt })
 
   pub read_text : (bytes : V) → Delivered remaining old new (items bytes)
       → IsAtEnd (remaining (inner_of new)) ⊎ (longest_text < length (items bytes)) → WasRead (Ok bytes)
@@ -166,5 +140,5 @@ module _ {V R : Type 0} (items : V → List ℕ) (remaining : R → Option (List
   read_text bytes given end = (
     whole (items bytes),
     took_whole (items bytes) given,
-    record { text = (refl, same_text (remaining (inner_of new)) (items bytes) end); failing = λ e. cc },
+    record { text = (refl, same_text (remaining (inner_of new)) (items bytes) end); failing = tt },
   )

@@ -7,7 +7,7 @@ use Rattle.dconf_model.specs.Outcomes.{Outcome, WithFile, WithFiles}
 use Rattle.dconf_model.specs.Reads.{ReadResults}
 use Rattle.dconf_model.specs.Reads.FileRead.{holds}
 use Rattle.dconf_model.specs.Sources.{Source}
-use Rattle.dconf_streams.specs.declared.refusal.Refusal.TheVariants.{NoMemory}
+use Rattle.refused.specs.declared.Refused.TheVariants.{Memory}
 use Rattle.dconf_streams.specs.Answers.{Answered}
 use Rattle.dconf_streams.specs.Readings.{AllRead, AreReadFrom, BreaksAt, Decides, Gave, HasRead, NoSources, Nothing, Reading, Tells, held_read, named_source, named_sources, one_read, reads_of}
 use Rattle.dconf_streams.specs.declared.folder_files.NamedFile.{NamedFile}
@@ -123,7 +123,7 @@ module _ {F : Type 0} (ghosts : Ghosts F) where
 
   -- no memory, after these
   pub decides_out_of_memory : (old mid new : F) (n : ℕ) (files : List Source) (Makes : ReadResults → Outcome → Type 0)
-      → HasRead ghosts old mid (reads_of files) → HasRead ghosts mid new [] → Decides ghosts old new n Makes (Err NoMemory)
+      → HasRead ghosts old mid (reads_of files) → HasRead ghosts mid new [] → Decides ghosts old new n Makes (Err Memory)
   decides_out_of_memory old mid new n files Makes h later =
-      decides_later old mid new n (reads_of files) (Err NoMemory) Makes Makes h (all_read files) (λ reads gave o m. m)
+      decides_later old mid new n (reads_of files) (Err Memory) Makes Makes h (all_read files) (λ reads gave o m. m)
       (record { log = []; kept = later.kept; known = later.known; tells = inl (tt, later.none_failed); answers = λ reads gave. tt })

@@ -1,7 +1,7 @@
 -- What one call of a stream after another moved.
 use Rattle.std.proofs.Common.{◌≡◌, ◌++◌, ◌∷◌, ◌∙◌, ℕ, List, [], Option, sym, ap, append-nil, take}
-use Rattle.std.specs.Io.KnownBytes.{Appends, Consumes, Keeps}
-use Rattle.std.proofs.KnownBytes.{Appends-nil, Appends-trans, Consumes-kept, Consumes-nil, Consumes-trans}
+use Rattle.std.specs.Io.KnownBytes.{Appends, Consumes}
+use Rattle.std.proofs.KnownBytes.{Appends-nil, Appends-trans, Consumes-nil, Consumes-trans}
 use Rattle.std.proofs.lemmas.List.{append_assoc}
 use Rattle.std.proofs.lemmas.Grind.{flat_map-append}
 use Rattle.dconf_streams.specs.declared.counted.Counted.{Counted}
@@ -23,7 +23,7 @@ module _ {W : Type 0} (contents : W → Option (List ℕ)) where
     held = Appends-trans (contents (inner_of old)) (contents (inner_of mid)) (contents (inner_of new)) xs ys first.held later.held;
   }
 
-  -- a write that took so many bytes, and one that failed
+  -- a write that took so many bytes
   pub grew_by : (old new : Counted W) (n : ℕ) (buf : List ℕ) → transfers_of new ≡ transfers_of old ++ transfer_of (n ∷ []) buf ∷ []
       → Appends (contents (inner_of old)) (contents (inner_of new)) (take n buf) → Grew contents old new (take n buf)
   grew_by old new n buf called held = record { taken = one_more (transfers_of old) (transfers_of new) (transfer_of (n ∷ []) buf) called; held = held }
@@ -39,14 +39,7 @@ module _ {R : Type 0} (remaining : R → Option (List ℕ)) where
     left = Consumes-trans (remaining (inner_of old)) (remaining (inner_of mid)) (remaining (inner_of new)) xs ys first.left later.left;
   }
 
-  -- a read that gave so many bytes, and one that failed
+  -- a read that gave so many bytes
   pub gave_by : (old new : Counted R) (n : ℕ) (buf : List ℕ) → transfers_of new ≡ transfers_of old ++ transfer_of (n ∷ []) buf ∷ []
       → Consumes (remaining (inner_of old)) (remaining (inner_of new)) (take n buf) → Delivered remaining old new (take n buf)
   gave_by old new n buf called left = record { given = one_more (transfers_of old) (transfers_of new) (transfer_of (n ∷ []) buf) called; left = left }
-
-  pub gave_by_none : (old new : Counted R) (buf : List ℕ) → transfers_of new ≡ transfers_of old ++ transfer_of [] buf ∷ []
-      → Keeps (remaining (inner_of old)) (remaining (inner_of new)) → Delivered remaining old new []
-  gave_by_none old new buf called kept = record {
-    given = one_more (transfers_of old) (transfers_of new) (transfer_of [] buf) called;
-    left = Consumes-kept (remaining (inner_of old)) (remaining (inner_of old)) (remaining (inner_of new)) [] (Consumes-nil (remaining (inner_of old))) kept;
-  }

@@ -1,10 +1,16 @@
 -- What an answer of a command stands for, and what its refusal does.
 use Rattle.std.specs.Prelude.{ℕ, List, [], ◌∷◌, ◌++◌, Option, Some, None, Result, Ok, Err, IfSome, codes, string_bytes, vec_items}
+use Rattle.std.specs.declared.alloc.Global.{Global}
+use Rattle.std.specs.declared.string.String.{String}
+use Rattle.refused.specs.declared.Refused as faults
+use Rattle.refused.specs.declared.Refused.TheVariants.{Fault, Memory}
 use Rattle.dconf_model.specs.Outcomes.{Gives, Outcome, Refused, done, changing}
 use Rattle.dconf_streams.specs.declared.answer.Answer.{Answer}
 use Rattle.dconf_streams.specs.declared.answer.Answer.TheVariants.{Done, Changed}
-use Rattle.dconf_streams.specs.declared.refusal.Refusal.{Refusal}
-use Rattle.dconf_streams.specs.declared.refusal.Refusal.TheVariants.{Line, NoMemory}
+
+-- why a command is refused
+abbrev pub Refusal : Type 0
+Refusal = faults.Refused (String Global)
 
 -- what a command answers, or why it is refused
 abbrev pub Answered : Type 0
@@ -16,8 +22,8 @@ refused_by line = record { output = record { out = []; err = line; status = 1 };
 
 -- the line of a refusal, with its line feed
 abbrev pub line_of : Refusal → List ℕ
-line_of (Line line) = string_bytes line
-line_of NoMemory = codes "error: Memory" ++ 10 ∷ []
+line_of (Fault line) = string_bytes line
+line_of Memory = codes "error: Memory" ++ 10 ∷ []
 
 abbrev pub outcome_of_answer : Answer → Outcome
 outcome_of_answer (Done text) = done (string_bytes text)
@@ -25,8 +31,8 @@ outcome_of_answer (Changed file bytes text) = changing (string_bytes file) (vec_
 
 -- without memory there is none
 abbrev pub outcome_of_refusal : Refusal → Option Outcome
-outcome_of_refusal (Line line) = Some (refused_by (string_bytes line))
-outcome_of_refusal NoMemory = None
+outcome_of_refusal (Fault line) = Some (refused_by (string_bytes line))
+outcome_of_refusal Memory = None
 
 -- the outcome that is to come about
 abbrev pub outcome_of : Answered → Option Outcome

@@ -1,13 +1,13 @@
--- What reading the input gives, and how a fault of it is printed.
-use Rattle.std.specs.Prelude.{◌≡◌, ◌≤◌, ◌<◌, ◌+◌, ◌⊎◌, ◌++◌, ◌∷◌, ℕ, true, false, List, [], length, Option, Result, IfOk, IsErrOf, codes, unwrap_or}
+-- What reading the input gives.
+use Rattle.std.specs.Prelude.{◌≡◌, ◌≤◌, ◌<◌, ◌+◌, ◌⊎◌, ◌++◌, ◌∷◌, ℕ, true, false, List, [], length, Option, Result, IfOk, IfErr, unwrap_or}
 use Rattle.std.specs.Io.KnownBytes.{IsAtEnd}
-use Rattle.dconf_model.specs.FaultTexts.{device_text}
+use Rattle.refused.specs.declared.Refused.{Refused}
+use Rattle.refused.specs.Faults.{OfFault}
 use Rattle.dconf_model.specs.Lines.{longest_text}
 use Rattle.dconf_model.specs.Outcomes.{read_failed}
 use Rattle.dconf_model.specs.Reads.{Input}
 use Rattle.dconf_streams.specs.declared.counted.Counted.{Counted}
-use Rattle.dconf_streams.specs.declared.input.InputFault.{InputFault}
-use Rattle.dconf_streams.specs.declared.input.InputFault.TheVariants.{Device, Memory}
+use Rattle.dconf_streams.specs.declared.input.FailedRead.{FailedRead}
 use Rattle.dconf_streams.specs.Transfers.{Transfer, FoundEnd}
 use Rattle.dconf_streams.specs.Counted.{Delivered, transfers_of, failures_of, inner_of}
 use Rattle.dconf_streams.specs.Streams.{one_more}
@@ -30,14 +30,14 @@ pub record ReadsText {R : Type 0} (remaining : R → Option (List ℕ)) (old new
 -- One read gave at most so many bytes. They were appended, unless there was a fault. One that failed gave none; and else none is the
 -- end, where there was room.
 pub record TakesPiece {R : Type 0} (remaining : R → Option (List ℕ)) (old new : Counted R) (room : ℕ)
-    (bytes_old bytes_new : List ℕ) (result : Result ℕ InputFault) : Type 0 where
+    (bytes_old bytes_new : List ℕ) (result : Result ℕ (Refused FailedRead)) : Type 0 where
   pub piece : List ℕ
   pub given : Delivered remaining old new piece
   pub transfer : Transfer
   pub once : transfers_of new ≡ transfers_of old ++ transfer ∷ []
   pub fits : length piece ≤ room
   pub appended : IfOk result (λ n. (bytes_new ≡ bytes_old ++ piece) × (length piece ≡ n))
-  pub failing : IsErrOf result Device → piece ≡ []
+  pub failing : IfErr result (OfFault (λ _. piece ≡ []))
   pub ended : IfOk result (λ n. n ≡ 0 → 0 < room → IsAtEnd (remaining (inner_of new)) × FoundEnd transfer)
 
 -- the same bytes, or both too many for a text
@@ -45,10 +45,6 @@ abbrev pub SameText : List ℕ → List ℕ → Type 0
 SameText given read = (read ≡ given) ⊎ ((longest_text < length given) × (longest_text < length read))
 
 -- What was read of an input is its text; it is lost where a read failed first. Without memory nothing is known.
-pub record IsReadOf {V : Type 0} (i : Input) (items : V → List ℕ) (result : Result V InputFault) : Type 0 where
+pub record IsReadOf {V : Type 0} (i : Input) (items : V → List ℕ) (result : Result V (Refused FailedRead)) : Type 0 where
   pub text : IfOk result (λ bytes. (read_failed i ≡ false) × SameText i.bytes (items bytes))
-  pub failing : IsErrOf result Device → read_failed i ≡ true
-
-abbrev pub input_fault_text : InputFault → List ℕ
-input_fault_text Device = device_text (codes "input")
-input_fault_text Memory = codes "Memory"
+  pub failing : IfErr result (OfFault (λ _. read_failed i ≡ true))

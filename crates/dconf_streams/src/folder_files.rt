@@ -80,6 +80,6 @@ pub fn file_if_any<F: Folder>(
         Ok(found) => Ok(found),
         Err(FolderFault::Device) => Err(device(alloc, name)),
         Err(FolderFault::TooBig) => Err(refused(alloc, "TooBig")),
-        Err(FolderFault::Memory) => Err(Refusal::NoMemory),
+        Err(FolderFault::Memory) => Err(Refusal::Memory),
     }
 }

@@ -20,5 +20,5 @@ mod whole_write;
 pub use answer::Answer;
 pub use counted::Counted;
 pub use folder_files::{NamedFile, file, file_if_any, files, named_file};
-pub use input::{InputFault, read_input};
-pub use refusal::{Refusal, device_line, refused, refused_at};
+pub use input::{FailedRead, InputFault, read_input};
+pub use refusal::{Refusal, device_line, refusal_line, refused, refused_at};

@@ -3,47 +3,20 @@ ghost use Rattle.std.specs.Prelude.{◌≡◌, ◌++◌, ◌∷◌, [], Err, IfO
 ghost use Rattle.dconf_model.specs.FaultTexts.{device_text};
 ghost use Rattle.dconf_streams.specs.Answers.{RefusesFor, line_of};
 
-use std::alloc::{AllocError, AllocFailed, Global};
+use refused::Refused;
+use std::alloc::{AllocError, Global};
 use std::fmt::Display;
 
-/// Why a command is refused.
-#[derive(Drop)]
-pub enum Refusal {
-    /// For what this line for err says.
-    Line(String),
-    /// For want of memory.
-    NoMemory,
-}
+/// Why a command is refused: for what this line for err says, or for want of memory.
+pub type Refusal = Refused<String>;
 
-impl Refusal {
-    /// The line for err, with its line feed.
-    pub fn line(&self) -> &str
-        ensures { result.now ≡ line_of self.now }
-    {
-        match self {
-            Refusal::Line(line) => line.as_str(),
-            Refusal::NoMemory => "error: Memory\n",
-        }
-    }
-}
-
-impl From<AllocError> for Refusal {
-    ghost use Rattle.dconf_streams.specs.declared.refusal.Refusal.TheVariants.{NoMemory};
-
-    ghost from_gives = { λ _ refusal. refusal ≡ NoMemory };
-
-    fn from(_error: AllocError) -> Refusal {
-        Refusal::NoMemory
-    }
-}
-
-impl<T: Drop> From<AllocFailed<T>> for Refusal {
-    ghost use Rattle.dconf_streams.specs.declared.refusal.Refusal.TheVariants.{NoMemory};
-
-    ghost from_gives = { λ _ refusal. refusal ≡ NoMemory };
-
-    fn from(_error: AllocFailed<T>) -> Refusal {
-        Refusal::NoMemory
+/// The line for err, with its line feed.
+pub fn refusal_line(refusal: &Refusal) -> &str
+    ensures { result.now ≡ line_of refusal.now }
+{
+    match refusal {
+        Refusal::Fault(line) => line.as_str(),
+        Refusal::Memory => "error: Memory\n",
     }
 }
 
@@ -52,8 +25,8 @@ pub fn refused<D: Display + Drop>(alloc: Global, why: D) -> Refusal
     ensures { IfSome (D.output why) (λ text. RefusesFor (Err result) text) }
 {
     match format!(in alloc; "error: {why}\n") {
-        Ok(line) => Refusal::Line(line),
-        Err(_) => Refusal::NoMemory,
+        Ok(line) => Refusal::Fault(line),
+        Err(_) => Refusal::Memory,
     }
 }
 
@@ -68,10 +41,7 @@ pub fn refused_at<D: Display + Drop>(alloc: Global, file: &str, line: usize, cau
 pub(crate) fn device(alloc: Global, name: &str) -> Refusal
     ensures { RefusesFor (Err result) (device_text name.now) }
 {
-    match device_line(alloc, name) {
-        Ok(line) => Refusal::Line(line),
-        Err(_) => Refusal::NoMemory,
-    }
+    refused(alloc, format_args!("Device {name}"))
 }
 
 /// The line for a file whose device failed.

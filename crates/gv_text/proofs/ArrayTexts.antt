@@ -1,5 +1,5 @@
 -- The texts of arrays: byte strings, and elements in their brackets.
-use Rattle.std.proofs.Common.{◌≡◌, ◌≤◌, ℕ, List, [], ◌∷◌, ◌++◌, Bool, true, false, ◌&&◌, Option, Some, None, IfSome, Bor, refl, sym, ap, ◌∙◌, arith, nat_eq, ne_eqb}
+use Rattle.std.proofs.Common.{◌≡◌, ◌≤◌, ℕ, List, [], ◌∷◌, ◌++◌, Bool, true, false, ◌&&◌, Option, Some, None, IfSome, Bor, refl, sym, ap, ◌∙◌, arith}
 use Rattle.std.specs.Prelude.{option_map}
 use Rattle.std.proofs.lemmas.Option.{none-some}
 use Rattle.gv_model.specs.Ty.{Ty, Basic}
@@ -52,9 +52,6 @@ bytes_text : (vs : Trees) (body : List ℕ) (annotated in_array : Bool) → text
 unfolding text_of text_in
 bytes_text none body annotated in_array e = absurd (none-some body e)
 bytes_text (first v vs) body annotated in_array e = rw (filled_text annotated (type_mark (array (basic byte))), e) refl
-
-no_byte_text : (v : Tree) (body : List ℕ) → byte_string_of v ≡ None → byte_string_of v ≡ Some body → ⊥
-no_byte_text v body e f = none-some body (sym e ∙ f)
 
 byte_array : (k : Basic) (vs : Trees) (body : List ℕ) (annotated in_array : Bool) → byte_string_of (node (array (basic k)) vs) ≡ Some body → text_of (node (array (basic k)) vs) annotated in_array ≡ byte_string body
 byte_array byte vs body annotated in_array e = bytes_text vs body annotated in_array e

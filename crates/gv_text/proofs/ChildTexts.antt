@@ -1,7 +1,7 @@
 -- The texts of a container's children, one after the other.
-use Rattle.std.proofs.Common.{◌≡◌, ◌<◌, ◌≤◌, ℕ, suc, List, [], ◌∷◌, ◌++◌, Bool, true, false, ◌||◌, length, refl, sym, ap, ◌∙◌, arith, append_assoc, append-nil}
+use Rattle.std.proofs.Common.{◌≡◌, ◌≤◌, ℕ, suc, List, [], ◌∷◌, ◌++◌, Bool, true, false, ◌||◌, length, refl, sym, ap, ◌∙◌, arith, append_assoc, append-nil}
 use Rattle.std.proofs.lemmas.Bool.{or_left}
-use Rattle.gv_model.specs.Tree.{Tree, Trees, children, trees_len, depth, greatest_depth}
+use Rattle.gv_model.specs.Tree.{Tree, Trees, trees_len, depth, greatest_depth}
 use Rattle.gv_model.specs.Tree.Trees.{none, first}
 use Rattle.gv_model.specs.Quoted.{between}
 use Rattle.gv_model.specs.Printed.{Text, comma, holds_double, hold_double, joined_by, text_of, texts, tuple_text}

@@ -4,7 +4,7 @@ use Rattle.std.specs.Prelude.{ℕ, codes}
 use Rattle.std.proofs.lemmas.Result.{MatchResult-weaker}
 use Rattle.gv_model.specs.Ty.{Ty}
 use Rattle.gv_model.specs.Ty.Ty.{basic, variant, array, maybe, tuple, entry}
-use Rattle.gv_model.specs.Tree.{Tree, Trees, children}
+use Rattle.gv_model.specs.Tree.{Trees, children}
 use Rattle.gv_model.specs.Tree.Tree.{node}
 use Rattle.gv_model.specs.Decode.{decode}
 use Rattle.gv_model.specs.Quoted.{between}
@@ -13,11 +13,10 @@ use Rattle.gv_model.specs.Normal.{IsContainer}
 use Rattle.gv_types.specs.Classes.{class_of, basic_type}
 use Rattle.gv_types.specs.declared.class.BasicType.{BasicType}
 use Rattle.gv_types.specs.declared.class.Class.TheVariants as classes
-use Rattle.gv_text.specs.declared.print_fault.PrintFault.{PrintFault}
-use Rattle.gv_text.specs.declared.print_fault.PrintFault.TheVariants.{TooLarge, DoubleText, Memory}
-use Rattle.gv_text.specs.Printing.{IsRefused, IsWritten, child_texts}
+use Rattle.gv_text.specs.Printing.{IsRefused, IsWritten, PrintFault, child_texts}
 use Rattle.gv_text.proofs.Containers.{doubles_in, value_node}
 use Rattle.gv_text.proofs.Figures.{of_basic}
+use Rattle.gv_text.proofs.Levels.{refused_with}
 
 contained : (t : Ty) → ((k : BasicType) → class_of t ≡ classes.Basic k → ⊥) → IsContainer t
 contained (basic k) h = h (basic_type k) refl
@@ -107,16 +106,11 @@ pub written_as : {X : Type 0} (result : Result X PrintFault) (d e : Bool) (deep 
     → MatchResult result (λ _. IsWritten d deep levels s old new) (IsRefused d deep levels) → MatchResult result (λ _. IsWritten e deep levels r old new) (IsRefused e deep levels)
 written_as result d e deep levels s r old new doubles same h = rw (doubles, same) h
 
-flat_refused : (d : Bool) (deep levels : ℕ) (f : PrintFault) → deep ≡ 1 → IsRefused d deep 1 f → IsRefused d deep levels f
-flat_refused d deep levels TooLarge flat h = absurd (omega (arith, flat, h))
-flat_refused d deep levels DoubleText flat h = h
-flat_refused d deep levels Memory flat h = tt
-
 -- what has one level has no more than others
 pub flat_written : {X : Type 0} (result : Result X PrintFault) (d : Bool) (deep levels : ℕ) (s r old new : Text) → deep ≡ 1 → 0 < levels → r ≡ s
     → MatchResult result (λ _. IsWritten d deep 1 s old new) (IsRefused d deep 1) → MatchResult result (λ _. IsWritten d deep levels r old new) (IsRefused d deep levels)
 flat_written result d deep levels s r old new flat some same h =
-    MatchResult-weaker result h (λ x w. record { plain = w.plain; text = w.text ∙ ap (λ (l : Text). old ++ l) (sym same); fits = omega (arith, flat, some) }) (λ f q. flat_refused d deep levels f flat q)
+    MatchResult-weaker result h (λ x w. record { plain = w.plain; text = w.text ∙ ap (λ (l : Text). old ++ l) (sym same); fits = omega (arith, flat, some) }) (refused_with d d deep deep 1 levels (λ l. absurd (omega (arith, flat, l))) (λ e. e))
 
 -- a mark that is wanted is written, another left out
 pub wanted_mark : (wanted : Bool) (mark old new : Text) → wanted ≡ true → new ≡ old ++ mark → new ≡ old ++ when wanted mark

@@ -1,5 +1,5 @@
 -- The value of a container's bytes: a node over the values of its children.
-use Rattle.std.proofs.Common.{◌≡◌, ◌<◌, ◌≤◌, ℕ, List, [], ◌∷◌, length, Option, Some, Bool, true, false, cond, refl, sym, ap, ◌∙◌, arith}
+use Rattle.std.proofs.Common.{◌≡◌, ◌<◌, ◌≤◌, ℕ, List, [], ◌∷◌, length, Option, Some, refl, sym, ap, ◌∙◌, arith}
 use Rattle.gv_model.specs.Ty.{Ty}
 use Rattle.gv_model.specs.Ty.Ty.{maybe}
 use Rattle.gv_model.specs.Layout.{fixed_size}
@@ -49,10 +49,6 @@ few_map : (n : ℕ) (xs : List (Ty × Span)) → length xs ≤ 1 → length (chi
 few_map n [] h = omega arith
 few_map n (x ∷ []) h = omega arith
 few_map n (x ∷ y ∷ xs) h = absurd (omega arith)
-
-few_if : (c : Bool) (xs ys : List (Ty × Span)) → length xs ≤ 1 → length ys ≤ 1 → length (cond c xs ys) ≤ 1
-few_if true xs ys h g = h
-few_if false xs ys h g = g
 
 few_ordered : (e : Option ℕ) (n : ℕ) (xs : List (Ty × Span)) → length xs ≤ 1 → length (children_at n (ordered e xs)) ≤ 1
 few_ordered e n xs h = few_map n (ordered e xs) (omega (arith, length-ordered e xs, h))

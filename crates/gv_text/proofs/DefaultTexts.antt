@@ -1,11 +1,11 @@
 -- The texts of values of no bytes.
-use Rattle.std.proofs.Common.{◌≡◌, ◌≤◌, ◌<◌, ◌++◌, ◌⊎◌, inl, inr, ℕ, List, [], ◌∷◌, Option, Some, Bool, true, false, MatchResult, OnOk, Result, Ok, Err, cond, refl, sym, ap, ap₂, ◌∙◌, subst, arith, append_assoc, ◌||◌, ◌-◌, get_or, drop, length, eqb, eqb-true}
+use Rattle.std.proofs.Common.{◌≡◌, ◌≤◌, ◌<◌, ◌++◌, ◌⊎◌, inl, inr, ℕ, List, [], ◌∷◌, Option, Some, Bool, true, false, OnOk, Result, Ok, Err, cond, refl, sym, ap, ap₂, ◌∙◌, subst, arith, append_assoc, ◌||◌, ◌-◌, get_or, drop, length, eqb, eqb-true}
 use Rattle.std.proofs.lemmas.List.{nil_from_length}
 use Rattle.gv_model.specs.Decode.{decode}
 use Rattle.gv_model.proofs.EmptyLaws.{decode-nil}
 use Rattle.std.specs.Fmt.{digits}
 use lib.Utf8.{encode as encode_char}
-use Rattle.std.specs.Prelude.{codes, is_ok, IfErr}
+use Rattle.std.specs.Prelude.{codes, is_ok}
 use Rattle.std.specs.Str.{chars}
 use Rattle.std.proofs.lemmas.Bool.{or_left, or_right}
 use Rattle.std.proofs.Math.Bool.{or-false}
@@ -24,17 +24,15 @@ use Rattle.gv_types.specs.declared.class.Class.{Class}
 use Rattle.gv_types.specs.declared.class.Class.TheVariants as classes
 use Rattle.gv_types.specs.Classes.{basic_of, class_of}
 use Rattle.gv_types.specs.TypeStr.{element_of}
-use Rattle.gv_text.specs.Printing.{IsLevelFault, IsPrinted, brackets_of, child_texts, figures_of}
+use Rattle.gv_text.specs.Printing.{IsLevelFault, IsPrinted, PrintFault, brackets_of, child_texts, figures_of}
 use Rattle.gv_model.specs.TypeText.{seen}
 use Rattle.gv_types.specs.FirstTypes.{after, after_close, first_type, types_inside, BeginsInside, IsAfterFirst}
 use Rattle.gv_types.proofs.FirstTypes.{HasInside, HasMember, HasPair, inside_end, inside_first_type, inside_more, inside_next, inside_types, key_type, value_type}
-use Rattle.gv_text.specs.declared.print_fault.PrintFault.{PrintFault}
-use Rattle.gv_text.specs.declared.print_fault.PrintFault.TheVariants.{TooLarge, DoubleText, Memory}
 use Rattle.gv_text.specs.Defaults.{default_in, AreFigures, IsEmptied, WritesJoined}
 use Rattle.gv_text.proofs.Containers.{child_deeper, first_deep}
 use Rattle.gv_text.proofs.ContainerTexts.{marked_text}
 use Rattle.gv_text.proofs.ChildTexts.{IsLeft, between_written, first_double, left_first, left_next, left_none, one_member, other_members}
-use Rattle.gv_text.proofs.Levels.{AreLevels, begin_levels, next_levels, all_fit}
+use Rattle.gv_text.proofs.Levels.{AreLevels, begin_levels, next_levels, all_fit, refused_with}
 use Rattle.gv_view.proofs.Depths.{depth_children}
 
 -- ---- basic types
@@ -179,17 +177,13 @@ emptied_writes _ levels annotated in_array old new (inr e) some wrote = absurd c
 
 -- what is no basic value is told by its child
 pub child_fault : (v u : Tree) (levels : ℕ) (f : PrintFault) → 0 < levels → depth u < depth v → (holds_double u ≡ true → holds_double v ≡ true) → IsLevelFault u (levels - 1) f → IsLevelFault v levels f
-child_fault v u levels TooLarge some deep double h = omega (arith, some, deep, h)
-child_fault v u levels DoubleText some deep double h = double h
-child_fault v u levels Memory some deep double h = tt
+child_fault v u levels f some deep double h = refused_with _ _ _ _ _ levels (λ l. omega (arith, some, deep, l)) double f h
 
 pub no_level : (v : Tree) → 0 < depth v
 no_level v = omega (arith, depth_children v)
 
 pub basic_fault : (t : Ty) (k : Basic) (levels : ℕ) (f : PrintFault) → t ≡ basic k → IsLevelFault (basic_default k) 1 f → IsLevelFault (default t) levels f
-basic_fault t k levels TooLarge e h = absurd (omega (arith, basic_level k, h))
-basic_fault t k levels DoubleText e h = ap holds_double (basic_default_of t k e).is ∙ h
-basic_fault t k levels Memory e h = tt
+basic_fault t k levels f e h = refused_with _ _ _ _ 1 levels (λ l. absurd (omega (arith, basic_level k, l))) (λ d. ap holds_double (basic_default_of t k e).is ∙ d) f h
 
 pub variant_fault : (t : Ty) (levels : ℕ) (f : PrintFault) → t ≡ variant → IsLevelFault (default variant) levels f → IsLevelFault (default t) levels f
 variant_fault t levels f e h = subst (λ (u : Ty). IsLevelFault (default u) levels f) (sym e) h
@@ -458,11 +452,6 @@ low_brackets q e is = subst (λ (p : ℕ × ℕ). (p.0 < 128) × (p.1 < 128)) (s
 -- an array or a maybe at the start of a text
 pub is_emptied : (t : Ty) (c : Class) → c ≡ class_of t → (c ≡ classes.Array) ⊎ (c ≡ classes.Maybe) → IsEmptied t
 is_emptied t c e h = subst (λ (d : Class). (d ≡ classes.Array) ⊎ (d ≡ classes.Maybe)) e h
-
-pub emptied_result : (t : Ty) (levels : ℕ) (f : PrintFault) → f ≡ Memory → IsLevelFault (default t) levels f
-emptied_result t levels TooLarge e = absurd cc
-emptied_result t levels DoubleText e = absurd cc
-emptied_result t levels Memory e = tt
 
 tuple_no_entry : (t : Ty) (annotated in_array : Bool) → class_of t ≡ classes.Tuple → text_of (default t) annotated false ≡ text_of (default t) annotated in_array
 unfolding text_of default

@@ -14,12 +14,13 @@ use Rattle.gv_model.specs.Decode.{decode}
 use Rattle.gv_model.specs.Printed.{Text, ends_in_nothing, holds_double, text_of, type_mark, when}
 use Rattle.gv_types.specs.Classes.{class_of}
 use Rattle.gv_types.specs.declared.class.Class.TheVariants as classes
-use Rattle.gv_text.specs.declared.print_fault.PrintFault.{PrintFault}
-use Rattle.gv_text.specs.declared.print_fault.PrintFault.TheVariants.{TooLarge, DoubleText, Memory}
-use Rattle.gv_text.specs.Printing.{IsLevelFault, IsNothing, IsPrintedAs, Prints}
+use Rattle.refused.specs.declared.Refused.TheVariants.{Fault}
+use Rattle.gv_text.specs.declared.print_fault.PrintFlaw.TheVariants.{TooLarge}
+use Rattle.gv_text.specs.Printing.{IsLevelFault, IsNothing, IsPrintedAs, PrintFault, Prints}
 use Rattle.gv_text.proofs.Containers.{one_or_none, value_node}
 use Rattle.gv_text.proofs.ContainerTexts.{marked_text}
 use Rattle.gv_text.proofs.Figures.{of_basic}
+use Rattle.gv_text.proofs.Levels.{refused_with}
 
 no_tree : (vs : Trees) → tree_at vs 0 ≡ None → vs ≡ none
 unfolding tree_at
@@ -126,9 +127,6 @@ pub record IsInside (v u : Tree) : Type 0 where
   pub text : ends_in_nothing u ≡ false → text_of v false false ≡ text_of u false false
   pub double : holds_double v ≡ holds_double u
 
-pub inside_itself : (v : Tree) → IsInside v v
-inside_itself v = record { ends = refl; text = λ e. refl; double = refl }
-
 pub inside_just : (v w u : Tree) → IsInside v w → IsJust w u → IsInside v u
 inside_just v w u i j = record {
   ends = i.ends ∙ just_ends w u j;
@@ -162,11 +160,6 @@ pub maybe_text : (t : Ty) (b : List ℕ) (annotated : Bool) → class_of t ≡ c
 maybe_text (maybe t) b annotated h = rw (value_node (maybe t) b tt) (marked t (children (decode (maybe t) b)) annotated)
 maybe_text _ b annotated h = absurd cc
 
-within_refused : (v u : Tree) (levels left : ℕ) (f : PrintFault) → IsPrintedAs v u → left + depth v ≡ levels + depth u → IsLevelFault u left f → IsLevelFault v levels f
-within_refused v u levels left TooLarge w deeper h = omega (arith, deeper, h)
-within_refused v u levels left DoubleText w deeper h = w.double ∙ h
-within_refused v u levels left Memory w deeper h = tt
-
 -- the value inside is written after the type
 pub within_written : {X : Type 0} (result : Result X PrintFault) (v u : Tree) (levels left : ℕ) (annotated : Bool) (mark old mid new : Text) → IsPrintedAs v u → left + depth v ≡ levels + depth u
     → text_of v annotated false ≡ mark ++ text_of v false false → mid ≡ old ++ mark → Prints result u left false false mid new → Prints result v levels annotated false old new
@@ -175,10 +168,8 @@ within_written result v u levels left annotated mark old mid new w deeper same m
       plain = w.double ∙ p.plain;
       text = marked_text (text_of u false false) (text_of v annotated false) mark old mid new (same ∙ ap (λ (l : Text). mark ++ l) w.text) marks p.text;
       fits = omega (arith, deeper, p.fits);
-    }) (λ f q. within_refused v u levels left f w deeper q)
+    }) (refused_with _ _ _ _ left levels (λ l. omega (arith, deeper, l)) (λ d. w.double ∙ d))
 
 -- nothing inside has levels left
-pub too_deep : (v : Tree) (levels : ℕ) (f : PrintFault) → f ≡ TooLarge → levels < depth v → IsLevelFault v levels f
-too_deep v levels TooLarge e h = h
-too_deep v levels DoubleText e h = absurd cc
-too_deep v levels Memory e h = absurd cc
+pub too_deep : (v : Tree) (levels : ℕ) (f : PrintFault) → f ≡ Fault TooLarge → levels < depth v → IsLevelFault v levels f
+too_deep v levels f e h = rw e h

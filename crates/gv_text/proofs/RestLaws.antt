@@ -1,22 +1,17 @@
 -- Defaults of members one after the other, each after the mark.
-use Rattle.std.proofs.Common.{◌≡◌, ◌≤◌, ◌<◌, ◌-◌, ℕ, List, [], ◌∷◌, ◌++◌, Bool, false, refl, sym, ap, ◌∙◌, arith, append_assoc, append-nil}
+use Rattle.std.proofs.Common.{◌≡◌, ◌<◌, ◌-◌, ℕ, List, [], ◌∷◌, ◌++◌, Bool, false, refl, sym, ap, ◌∙◌, arith, append_assoc, append-nil}
 use Rattle.std.specs.Prelude.{◌↔◌, IsTrue}
 use Rattle.std.proofs.lemmas.Bool.{false≢true}
 use Rattle.gv_model.specs.Ty.{Ty, types_from}
 use Rattle.gv_model.specs.Tree.{Tree, Trees, children, default, defaults, depth, greatest_depth, trees_len}
 use Rattle.gv_model.specs.Tree.Trees.{none, first}
 use Rattle.gv_model.specs.Printed.{Text, joined_by, hold_double, text_of, texts}
-use Rattle.gv_text.specs.declared.print_fault.PrintFault.{PrintFault}
-use Rattle.gv_text.specs.declared.print_fault.PrintFault.TheVariants.{TooLarge, DoubleText, Memory}
-use Rattle.gv_text.specs.Printing.{IsLevelFault, IsPrinted, IsRefused, IsWritten, child_texts, following, rest_annotated}
+use Rattle.gv_text.specs.Printing.{IsLevelFault, IsPrinted, IsRefused, IsWritten, PrintFault, child_texts, following, rest_annotated}
 use Rattle.gv_text.specs.Defaults.{rest_text, AreLeft, AreLevelFault, WriteRest}
 use Rattle.gv_text.proofs.ChildCounts.{IsAlone}
 use Rattle.gv_text.proofs.ChildTexts.{IsLeft, first_double, no_doubles, plain_first}
-use Rattle.gv_text.proofs.Levels.{AreLevels, first_depth, no_depth}
+use Rattle.gv_text.proofs.Levels.{AreLevels, first_depth, no_depth, refused_with}
 use Rattle.gv_view.proofs.Depths.{depth_children}
-
-pub all_left : (mark : Text) (vs : Trees) (levels : ℕ) (annotated : Bool) (start : Text) → AreLeft mark vs vs levels annotated start start
-all_left mark vs levels annotated start = record { texts = refl; doubles = refl; known = omega arith; deeper = omega arith }
 
 texts_first : (u : Tree) (vs : Trees) (annotated : Bool) → texts (first u vs) annotated annotated false ≡ text_of u annotated false ∷ texts vs annotated annotated false
 unfolding text_of
@@ -49,9 +44,7 @@ then_left mark vs us left levels annotated start now new a b = record {
 
 -- a fault of what is left is one of all
 pub fault_left : (mark : Text) (vs left : Trees) (levels : ℕ) (annotated : Bool) (start now : Text) (f : PrintFault) → AreLeft mark vs left levels annotated start now → AreLevelFault left levels f → AreLevelFault vs levels f
-fault_left mark vs left levels annotated start now TooLarge was h = omega (arith, h, was.deeper)
-fault_left mark vs left levels annotated start now DoubleText was h = was.doubles ∙ h
-fault_left mark vs left levels annotated start now Memory was h = tt
+fault_left mark vs left levels annotated start now f was h = refused_with _ _ _ _ levels levels (λ l. omega (arith, l, was.deeper)) (λ d. was.doubles ∙ d) f h
 
 no_rest : (mark : Text) (annotated : Bool) → rest_text mark none annotated ≡ []
 unfolding text_of
@@ -66,9 +59,8 @@ all_written mark vs us levels annotated start now is was = record {
 
 pub fault_in_rest : (mark : Text) (vs us left : Trees) (u : Tree) (levels : ℕ) (annotated : Bool) (start now : Text) (f : PrintFault) → us ≡ first u left → AreLeft mark vs us levels annotated start now
     → IsLevelFault u levels f → AreLevelFault vs levels f
-fault_in_rest mark vs us left u levels annotated start now TooLarge is was h = omega (arith, h, was.deeper, ap greatest_depth is ∙ first_depth u left)
-fault_in_rest mark vs us left u levels annotated start now DoubleText is was h = was.doubles ∙ (ap hold_double is ∙ first_double u left h)
-fault_in_rest mark vs us left u levels annotated start now Memory is was h = tt
+fault_in_rest mark vs us left u levels annotated start now f is was h =
+    refused_with _ _ _ _ levels levels (λ l. omega (arith, l, was.deeper, ap greatest_depth is ∙ first_depth u left)) (λ d. was.doubles ∙ (ap hold_double is ∙ first_double u left d)) f h
 
 pub no_levels : (mark : Text) (vs us left : Trees) (u : Tree) (levels : ℕ) (annotated : Bool) (start now : Text) → levels ≡ 0 → us ≡ first u left → AreLeft mark vs us levels annotated start now → levels < greatest_depth vs
 no_levels mark vs us left u levels annotated start now few is was = omega (arith, few, was.deeper, ap greatest_depth is ∙ first_depth u left, depth_children u)
@@ -93,9 +85,8 @@ rest_written mark v left ds levels annotated later start now new was are is some
 
 pub rest_refused : (mark : Text) (v : Tree) (left ds : Trees) (levels : ℕ) (annotated : Bool) (start now : Text) (f : PrintFault) → IsLeft mark (children v) left annotated false start now → AreLevels v left levels → left ≡ ds
     → AreLevelFault ds (levels - 1) f → IsRefused (hold_double (children v)) (depth v) levels f
-rest_refused mark v left ds levels annotated start now TooLarge was are is h = omega (arith, are.deeper, ap greatest_depth is, h)
-rest_refused mark v left ds levels annotated start now DoubleText was are is h = was.doubles ∙ (ap hold_double is ∙ h)
-rest_refused mark v left ds levels annotated start now Memory was are is h = tt
+rest_refused mark v left ds levels annotated start now f was are is h =
+    refused_with _ _ _ _ _ levels (λ l. omega (arith, are.deeper, ap greatest_depth is, l)) (λ d. was.doubles ∙ (ap hold_double is ∙ d)) f h
 
 -- two or more children are not one alone
 pub not_alone : (vs left : Trees) → IsAlone false vs left → IsTrue false ↔ (trees_len vs ≡ 1)

@@ -10,8 +10,7 @@ use Rattle.gv_types.specs.declared.class.Class.TheVariants as classes
 use Rattle.gv_types.specs.FirstTypes.{first_type, IsAfterFirst}
 use Rattle.gv_types.specs.declared.members.Members.{Members}
 use Rattle.gv_types.specs.Members.{members_left}
-use Rattle.gv_text.specs.declared.print_fault.PrintFault.{PrintFault}
-use Rattle.gv_text.specs.Printing.{IsLevelFault, IsPrinted, IsRefused, IsWritten, child_texts, figures_of, following}
+use Rattle.gv_text.specs.Printing.{IsLevelFault, IsPrinted, IsRefused, IsWritten, PrintFault, child_texts, figures_of, following}
 
 -- the default of the type at the start of a text
 abbrev pub default_in : List ℕ → Tree

@@ -1,3 +1,2 @@
 pub mod Printing
-pub mod PrintFaults
 pub mod Defaults

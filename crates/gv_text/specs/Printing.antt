@@ -1,5 +1,5 @@
 -- What printing answers.
-use Rattle.std.specs.Prelude.{◌≡◌, ◌<◌, ◌≤◌, ◌+◌, length, get_or, ℕ, List, [], ◌∷◌, ◌++◌, Option, Some, None, Bool, true, false, Result, MatchResult}
+use Rattle.std.specs.Prelude.{◌≡◌, ◌<◌, ◌≤◌, ◌+◌, length, get_or, ℕ, List, [], ◌∷◌, ◌++◌, Option, Some, None, Bool, true, false, Result, MatchResult, codes}
 use Rattle.gv_model.specs.Ty.{Ty}
 use Rattle.gv_model.specs.Ty.Ty.{basic, array, entry}
 use Rattle.gv_model.specs.Ty.Basic.{byte}
@@ -8,13 +8,22 @@ use Rattle.gv_model.specs.Tree.Tree.{number, text, node}
 use Rattle.gv_model.specs.BasicValue.{text_in}
 use Rattle.gv_model.specs.Quoted.{quoted}
 use Rattle.gv_model.specs.Printed.{Text, comma, ends_in_nothing, figures, holds_double, hold_double, is_too_large, numbers, text_of, texts}
-use Rattle.gv_text.specs.declared.print_fault.PrintFault.{PrintFault}
-use Rattle.gv_text.specs.declared.print_fault.PrintFault.TheVariants.{TooLarge, DoubleText, Memory}
+use Rattle.refused.specs.declared.Refused.{Refused}
+use Rattle.refused.specs.declared.Refused.TheVariants.{Fault, Memory}
+use Rattle.gv_text.specs.declared.print_fault.PrintFlaw.{PrintFlaw}
+use Rattle.gv_text.specs.declared.print_fault.PrintFlaw.TheVariants.{TooLarge, DoubleText}
+
+abbrev pub PrintFault : Type 0
+PrintFault = Refused PrintFlaw
+
+abbrev pub print_flaw_text : PrintFlaw → List ℕ
+print_flaw_text TooLarge = codes "TooLarge"
+print_flaw_text DoubleText = codes "DoubleText"
 
 -- why the value isn't printed: its size comes first
 abbrev pub IsUnprintable : Tree → PrintFault → Type 0
-IsUnprintable v TooLarge = is_too_large v ≡ true
-IsUnprintable v DoubleText = (is_too_large v ≡ false) × (holds_double v ≡ true)
+IsUnprintable v (Fault TooLarge) = is_too_large v ≡ true
+IsUnprintable v (Fault DoubleText) = (is_too_large v ≡ false) × (holds_double v ≡ true)
 IsUnprintable v Memory = Unit {0}
 
 -- It has no double and no more than these levels, and this text comes after the old one.
@@ -25,8 +34,8 @@ pub record IsWritten (double : Bool) (deep levels : ℕ) (s old new : Text) : Ty
 
 -- why it isn't written
 abbrev pub IsRefused : Bool → ℕ → ℕ → PrintFault → Type 0
-IsRefused double deep levels TooLarge = levels < deep
-IsRefused double deep levels DoubleText = double ≡ true
+IsRefused double deep levels (Fault TooLarge) = levels < deep
+IsRefused double deep levels (Fault DoubleText) = double ≡ true
 IsRefused double deep levels Memory = Unit {0}
 
 -- a value is written, as an element of an array or not

@@ -19,5 +19,5 @@ pub use gv_syntax::{
     Mark, Span, Syntax, SyntaxKind, SyntaxNode, TextCause, TextFault, TextFlaw, Token, TokenKind,
     TypeText, Word, is_plain, parse, tokens,
 };
-pub use print_fault::PrintFault;
+pub use print_fault::{PrintFault, PrintFlaw};
 pub use printing::{print, print_onto};

@@ -1,43 +1,34 @@
 //! Why a value is not printed.
 ghost use Rattle.std.specs.Prelude.{◌≡◌};
-ghost use Rattle.gv_text.specs.declared.print_fault.PrintFault.TheVariants.{Memory};
 
-use std::alloc::AllocError;
+use refused::Refused;
 use std::error::Error;
 use std::fmt;
 
-/// Why a value is not printed.
+/// Why a value is not printed: it has no text, or a growth was refused.
+pub type PrintFault = Refused<PrintFlaw>;
+
+/// Why a value has no text.
 #[derive(Clone, Copy, Debug, PartialEq, Eq)]
-pub enum PrintFault {
+pub enum PrintFlaw {
     /// It is more than 128 levels deep.
     TooLarge,
     /// A double is to be printed.
     DoubleText,
-    /// A growth was refused.
-    Memory,
 }
 
-impl fmt::Display for PrintFault {
+impl fmt::Display for PrintFlaw {
     ghost use Rattle.std.specs.Prelude.{Some};
-    ghost use Rattle.gv_text.specs.PrintFaults.{print_fault_name};
+    ghost use Rattle.gv_text.specs.Printing.{print_flaw_text};
 
-    ghost output = { λ fault. Some (print_fault_name fault) };
+    ghost output = { λ flaw. Some (print_flaw_text flaw) };
 
     fn fmt<W: fmt::Write>(&self, f: &mut fmt::Formatter<W>) -> fmt::Result {
         f.write_str(match self {
-            PrintFault::TooLarge => "TooLarge",
-            PrintFault::DoubleText => "DoubleText",
-            PrintFault::Memory => "Memory",
+            PrintFlaw::TooLarge => "TooLarge",
+            PrintFlaw::DoubleText => "DoubleText",
         })
     }
 }
 
-impl Error for PrintFault {}
-
-impl From<AllocError> for PrintFault {
-    ghost from_gives = { λ _ e. e ≡ Memory };
-
-    fn from(_error: AllocError) -> PrintFault {
-        PrintFault::Memory
-    }
-}
+impl Error for PrintFlaw {}

@@ -13,7 +13,7 @@ mod quoted;
 mod tuple;
 mod type_mark;
 
-use crate::print_fault::PrintFault;
+use crate::print_fault::{PrintFault, PrintFlaw};
 use array::push_array;
 use basic::push_basic;
 use children::push_between;
@@ -49,7 +49,9 @@ pub fn print_onto(to: &mut String, view: View<'_>) -> Result<(), PrintFault>
 {
     match push_value(to, view, View::MAX_LEVELS, true, false) {
         // A value that is too deep behind the double comes first.
-        Err(PrintFault::DoubleText) if view.is_too_large() => Err(PrintFault::TooLarge),
+        Err(PrintFault::Fault(PrintFlaw::DoubleText)) if view.is_too_large() => Err(
+            PrintFault::Fault(PrintFlaw::TooLarge),
+        ),
         printed => printed,
     }
 }
@@ -67,7 +69,7 @@ fn push_value(
     ensures { Prints result (value view.entry) levels annotated in_array (string_bytes to.old) (string_bytes to.new) }
 {
     if levels == 0 {
-        return Err(PrintFault::TooLarge);
+        return Err(PrintFault::Fault(PrintFlaw::TooLarge));
     }
     // What has no bytes is told by its type alone.
     if view.bytes().is_empty() {

@@ -1,5 +1,5 @@
 //! Faults whose names no run of a command prints.
-use dconf_cli::InputFault;
+use dconf_cli::{FailedRead, InputFault};
 use dconf_compile::{CompileCause, LineStop};
 use dconf_disk::LockFault;
 use std::alloc::Global;
@@ -13,7 +13,7 @@ fn printed(alloc: Global) -> Result<String, Fail> {
         line: 2,
         cause: CompileCause::TooBig,
     };
-    let inputs = format!(in alloc; "{}, {}", InputFault::Device, InputFault::Memory)?;
+    let inputs = format!(in alloc; "{}, {}", InputFault::Fault(FailedRead), InputFault::Memory)?;
     let locks = format!(in alloc; "{}, {lock}, {}", LockFault::Busy, LockFault::Memory)?;
     Ok(format!(in alloc; "{inputs}; {locks}; {line}")?)
 }

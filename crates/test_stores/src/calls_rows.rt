@@ -6,6 +6,7 @@ use dconfdb_calls::{
     BadProfile, GoodLines, Salvaged, Unprinted, good_lines, is_stored, keyless_file, open_layer,
     salvaged_file, value_text,
 };
+use gv_text::{PrintFault, PrintFlaw};
 use std::alloc::{AllocError, Global};
 use std::fmt::Write;
 use std::test::Fail;
@@ -144,6 +145,7 @@ fn each_row_of_the_calls_is_so(rt: HostRuntime) -> Result<(), Fail> {
     ] {
         table(rt.alloc(), &mut of, rows)?;
     }
-    assert!(rt; (Unprinted::Memory.number(), Unprinted::TooLarge.number()) == (1, 17));
+    let (memory, deep) = (PrintFault::Memory, PrintFault::Fault(PrintFlaw::TooLarge));
+    assert!(rt; (Unprinted::Value(memory).number(), Unprinted::Value(deep).number()) == (1, 17));
     Ok(())
 }

@@ -49,7 +49,7 @@ fn unsound<D: Display + Drop>(alloc: Global, fault: D) -> Refusal
         (λ text. GivesOutcome (Err result) (λ o. o ≡ refused_by (codes "unsound: " ++ (text ++ 10 ∷ [])))) }
 {
     match format!(in alloc; "unsound: {fault}\n") {
-        Ok(line) => Refusal::Line(line),
-        Err(_) => Refusal::NoMemory,
+        Ok(line) => Refusal::Fault(line),
+        Err(_) => Refusal::Memory,
     }
 }

@@ -8,7 +8,7 @@ ghost use Rattle.dconf_model.specs.Outcomes.{Compiles, IsOutcome, changing, file
 ghost use Rattle.dconf_model.specs.Reads.{Input};
 ghost use Rattle.dconf_streams.specs.Answers.{GivesOutcome, RefusesFor};
 ghost use Rattle.dconf_streams.specs.Readings.{Decides, named_sources};
-ghost use Rattle.dconf_streams.specs.declared.refusal.Refusal.TheVariants.{NoMemory};
+ghost use Rattle.refused.specs.declared.Refused.TheVariants.{Memory};
 
 use dconf_compile::{CompileFault, FileRef, Source};
 use dconf_disk::Folder;
@@ -82,12 +82,12 @@ fn refusal(
 ) -> Refusal
     ensures says { IfSome (fault_of fault) (λ f. RefusesFor (Err result)
         (line_fault_text (file_name (named_sources keyfiles.entry.now) (named_sources locks.entry.now) f.file) f.line f.cause)) }
-    ensures memory { fault ≡ no_memory → result ≡ NoMemory }
+    ensures memory { fault ≡ no_memory → result ≡ Memory }
 {
     let name = match fault.file {
         FileRef::Keyfile(i) => name_of(keyfiles, i),
         FileRef::LockFile(i) => name_of(locks, i),
-        FileRef::Whole => return Refusal::NoMemory,
+        FileRef::Whole => return Refusal::Memory,
     };
     refused_at(alloc, name, fault.line, fault.cause)
 }

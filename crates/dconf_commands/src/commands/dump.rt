@@ -77,7 +77,7 @@ fn written(
             Ok(Answer::Done(text))
         }
         Err(RowsFault::Fault(flaw)) => Err(refused_row(alloc, settings, flaw.row, flaw.cause)),
-        Err(RowsFault::Memory) => Err(Refusal::NoMemory),
+        Err(RowsFault::Memory) => Err(Refusal::Memory),
     }
 }
 

@@ -89,8 +89,8 @@ fn load_below<F: Folder, I: Read>(
             profile,
             folder,
         ),
-        Err(InputFault::Device) => Err(refused(alloc, InputFault::Device)),
-        Err(InputFault::Memory) => Err(Refusal::NoMemory),
+        Err(InputFault::Fault(fault)) => Err(refused(alloc, fault)),
+        Err(InputFault::Memory) => Err(Refusal::Memory),
     }
 }
 
@@ -173,7 +173,7 @@ fn line_refused(alloc: Global, stop: LineStop) -> Refusal
     ensures { GivesOutcome (Err result) (RefusedLine (line_fault_of stop)) }
 {
     match stop.cause {
-        CompileCause::Memory => Refusal::NoMemory,
+        CompileCause::Memory => Refusal::Memory,
         _ => refused_at(alloc, "input", stop.line, stop.cause),
     }
 }

@@ -32,7 +32,7 @@ fn repaired(alloc: Global, bytes: &[u8], out: &str) -> Result<Answer, Refusal>
     match salvage(alloc, bytes) {
         Ok(map) => rewritten(alloc, &map, out),
         Err(SalvageFault::Fault(fault)) => Err(refused(alloc, fault)),
-        Err(SalvageFault::Memory) => Err(Refusal::NoMemory),
+        Err(SalvageFault::Memory) => Err(Refusal::Memory),
     }
 }
 
@@ -43,7 +43,7 @@ fn rewritten(alloc: Global, map: &Map, out: &str) -> Result<Answer, Refusal>
     match write(alloc, map) {
         Ok(bytes) => changed(alloc, map, out, bytes),
         Err(WriteFault::Fault(fault)) => Err(refused(alloc, fault)),
-        Err(WriteFault::Memory) => Err(Refusal::NoMemory),
+        Err(WriteFault::Memory) => Err(Refusal::Memory),
     }
 }
 

@@ -17,7 +17,7 @@ ghost use Rattle.gv_text.specs.Printing.{IsNoted, Prints, PrintsChildren, bracke
 use super::push_value;
 use super::quoted::push_byte_string;
 use super::type_mark::push_type_mark;
-use crate::print_fault::PrintFault;
+use crate::print_fault::{PrintFault, PrintFlaw};
 use gv_types::{Class, TypeStr};
 use gv_view::View;
 
@@ -36,7 +36,7 @@ pub(super) fn push_array(
     if let Some(body) = byte_string(view) {
         // The bytes are a level below.
         if levels < 2 {
-            return Err(PrintFault::TooLarge);
+            return Err(PrintFault::Fault(PrintFlaw::TooLarge));
         }
         return Ok(push_byte_string(to, body)?);
     }

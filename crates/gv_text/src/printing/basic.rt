@@ -8,7 +8,7 @@ ghost use Rattle.gv_view.specs.Views.{value, view_ty};
 ghost use Rattle.gv_text.specs.Printing.{IsLevelFault, IsWritten, Prints, figures_of};
 
 use super::quoted::{digit, push_quoted};
-use crate::print_fault::PrintFault;
+use crate::print_fault::{PrintFault, PrintFlaw};
 use gv_types::{BasicType, Class};
 use gv_view::View;
 use std::alloc::AllocError;
@@ -74,7 +74,7 @@ fn push_figures(to: &mut String, view: View<'_>, of: BasicType) -> Result<(), Pr
         BasicType::Text | BasicType::ObjectPath | BasicType::Signature => {
             push_quoted(to, view.as_str().unwrap())?
         }
-        BasicType::Double => return Err(PrintFault::DoubleText),
+        BasicType::Double => return Err(PrintFault::Fault(PrintFlaw::DoubleText)),
     }
     Ok(())
 }

@@ -2,7 +2,7 @@
 //! Serialised Data"): 0, false, '', '/' for an object path, no element, Nothing, defaults in a tuple, `<()>` for a variant.
 //!
 //! A default is told by its type alone, so it is written in one walk along the letters of the type's text.
-ghost use Rattle.std.specs.Prelude.{◌≡◌, ◌≤◌, ◌<◌, ◌++◌, true, false, length, drop, OnOk, MatchOption, MatchResult, string_bytes};
+ghost use Rattle.std.specs.Prelude.{◌≡◌, ◌≤◌, ◌<◌, ◌++◌, true, false, length, drop, IfOk, OnOk, MatchOption, MatchResult, string_bytes};
 ghost use Rattle.gv_model.specs.Ty.{Ty.variant};
 ghost use Rattle.gv_model.specs.TypeText.{seen};
 ghost use Rattle.gv_model.specs.Tree.{basic_default, default};
@@ -12,14 +12,13 @@ ghost use Rattle.gv_types.specs.TypeStr.{ty};
 ghost use Rattle.gv_types.specs.Members.{members_left};
 ghost use Rattle.gv_types.specs.FirstTypes.{first_type, HasFirstType, IsAfterFirst};
 ghost use Rattle.gv_types.specs.declared.class.Class.TheVariants.{Tuple, Entry};
-ghost use Rattle.gv_text.specs.declared.print_fault.PrintFault.TheVariants.{Memory};
 ghost use Rattle.gv_text.specs.Printing.{IsLevelFault, Prints};
 ghost use Rattle.gv_text.specs.Defaults.{default_in, defaults_left, AreFigures, AreLeft, AreLevelFault, IsEmptied, PrintsFirst, WriteRest, WritesJoined};
 
 use super::array::brackets;
 use super::basic::push_word;
 use super::type_mark::push_type_mark;
-use crate::print_fault::PrintFault;
+use crate::print_fault::{PrintFault, PrintFlaw};
 use gv_types::{BasicType, Class, Members, TypeStr};
 use std::alloc::AllocError;
 
@@ -60,7 +59,7 @@ pub(super) fn push_rest(
     push_basics(to, &mut left, levels, mark, annotated)?;
     while let Some(member) = left.next() {
         if levels == 0 {
-            return Err(PrintFault::TooLarge);
+            return Err(PrintFault::Fault(PrintFlaw::TooLarge));
         }
         to.push_str(mark)?;
         push_default(to, member, levels, annotated, false)?;
@@ -105,7 +104,7 @@ fn push_first<'a>(
     ensures { PrintsFirst result text.entry.now levels annotated in_array (string_bytes to.old) (string_bytes to.new) }
 {
     if levels == 0 {
-        return Err(PrintFault::TooLarge);
+        return Err(PrintFault::Fault(PrintFlaw::TooLarge));
     }
     match Class::of_letter(text[0]).unwrap() {
         Class::Basic(of) => {
@@ -116,7 +115,7 @@ fn push_first<'a>(
             push_variant_default(to, levels)?;
             Ok(after_letter(text))
         }
-        Class::Array | Class::Maybe => push_emptied_first(to, text, annotated),
+        Class::Array | Class::Maybe => Ok(push_emptied_first(to, text, annotated)?),
         Class::Tuple => push_tuple_default(to, text, levels, annotated),
         Class::Entry => push_entry_default(to, text, levels, annotated, in_array),
     }
@@ -237,13 +236,11 @@ fn push_emptied_first<'a>(
     to: &mut String,
     text: &'a [u8],
     annotated: bool,
-) -> Result<&'a [u8], PrintFault>
+) -> Result<&'a [u8], AllocError>
     requires first_type { HasFirstType text.now }
     requires kind { IsEmptied (first_type (seen text.now)) }
-    ensures { MatchResult result
-        (λ rest. IsAfterFirst text.entry.now rest.now
-        × (string_bytes to.new ≡ string_bytes to.old ++ text_of (default_in text.entry.now) annotated false))
-        (λ f. f ≡ Memory) }
+    ensures { IfOk result (λ rest. IsAfterFirst text.entry.now rest.now
+        × (string_bytes to.new ≡ string_bytes to.old ++ text_of (default_in text.entry.now) annotated false)) }
 {
     let (of, rest) = TypeStr::split_prefix(text).unwrap();
     push_emptied(to, of, annotated)?;
@@ -271,7 +268,7 @@ fn push_variant_default(to: &mut String, levels: u8) -> Result<(), PrintFault>
     ensures { Prints result (default variant) levels true false (string_bytes to.old) (string_bytes to.new) }
 {
     if levels < 2 {
-        return Err(PrintFault::TooLarge);
+        return Err(PrintFault::Fault(PrintFlaw::TooLarge));
     }
     Ok(to.push_str("<()>")?)
 }
@@ -281,7 +278,7 @@ fn push_basic_default(to: &mut String, of: BasicType, annotated: bool) -> Result
     ensures { Prints result (basic_default (basic_of of)) 1 annotated false (string_bytes to.old) (string_bytes to.new) }
 {
     let Some((figures, _)) = default_figures(of) else {
-        return Err(PrintFault::DoubleText);
+        return Err(PrintFault::Fault(PrintFlaw::DoubleText));
     };
     if annotated {
         push_word(to, of)?;
@@ -295,7 +292,7 @@ fn push_basic_after(to: &mut String, of: BasicType) -> Result<(), PrintFault>
     ensures { Prints result (basic_default (basic_of of)) 1 false false (string_bytes to.old ++ comma) (string_bytes to.new) }
 {
     let Some((_, after_comma)) = default_figures(of) else {
-        return Err(PrintFault::DoubleText);
+        return Err(PrintFault::Fault(PrintFlaw::DoubleText));
     };
     Ok(to.push_str(after_comma)?)
 }

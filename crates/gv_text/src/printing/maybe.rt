@@ -7,13 +7,14 @@ ghost use Rattle.gv_model.specs.Tree.{depth};
 ghost use Rattle.gv_model.specs.Printed.{text_of, ends_in_nothing};
 ghost use Rattle.gv_types.specs.Classes.{class_of};
 ghost use Rattle.gv_types.specs.declared.class.Class.TheVariants.{Maybe};
-ghost use Rattle.gv_text.specs.declared.print_fault.PrintFault.TheVariants.{TooLarge};
+ghost use Rattle.refused.specs.declared.Refused.TheVariants.{Fault};
+ghost use Rattle.gv_text.specs.declared.print_fault.PrintFlaw.TheVariants.{TooLarge};
 ghost use Rattle.gv_view.specs.Views.{value, view_ty};
 ghost use Rattle.gv_text.specs.Printing.{IsNothing, IsPrintedAs, Prints};
 
 use super::push_value;
 use super::type_mark::push_type_mark;
-use crate::print_fault::PrintFault;
+use crate::print_fault::{PrintFault, PrintFlaw};
 use gv_types::Class;
 use gv_view::View;
 use std::alloc::AllocError;
@@ -46,7 +47,7 @@ fn innermost<'a>(view: View<'a>, levels: u8) -> Result<Option<(View<'a>, u8)>, P
     ensures inner { IfOk result (λ o. MatchOption o (IsNothing (value view.entry)) (λ r. IsPrintedAs (value view.entry) (value r.0))) }
     ensures left { IfOk result (λ o. MatchOption o (depth (value view.entry) ≤ levels)
         (λ r. (r.1 < levels) × (r.1 + depth (value view.entry) ≡ levels + depth (value r.0)))) }
-    ensures deep { IfErr result (λ f. (f ≡ TooLarge) × (levels < depth (value view.entry))) }
+    ensures deep { IfErr result (λ f. (f ≡ Fault TooLarge) × (levels < depth (value view.entry))) }
 {
     let (mut inner, mut left) = (view, levels);
     while let Class::Maybe = inner.type_str().class() {
@@ -55,7 +56,7 @@ fn innermost<'a>(view: View<'a>, levels: u8) -> Result<Option<(View<'a>, u8)>, P
         };
         left -= 1;
         if left == 0 {
-            return Err(PrintFault::TooLarge);
+            return Err(PrintFault::Fault(PrintFlaw::TooLarge));
         }
         inner = child;
     }

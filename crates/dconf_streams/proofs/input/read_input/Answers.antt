@@ -1,5 +1,6 @@
-use Rattle.std.proofs.Common.{ap, Err, inl, inr, vec_items, rules, ◌∙◌, refl}
+use Rattle.std.proofs.Common.{ap, inl, inr, vec_items, rules, ◌∙◌}
 use Rattle.std.proofs.lemmas.Result.{err_from_is_err_and}
+use Rattle.refused.proofs.Faults.{OfFault-weaker}
 use Rattle.dconf_streams.specs.Streams.{one_more}
 use Rattle.dconf_streams.proofs.InputLaws.{both_fit, came_to_end, gave_before, gave_both, read_fault, read_more, read_text, reads_text, reads_whole_text}
 use Rattle.dconf_streams.proofs.input.read_input.Goals as goal
@@ -20,8 +21,8 @@ returns-in_err-append_piece-clause-took g c =
     let fault = c.in_err-append_piece.field-0.0 in
     rw (p.1, p.2) (read_fault vec_items g.I.Read.remaining c.args.input.now c.append_piece.new.input _ fault
     (gave_both g.I.Read.remaining _ _ _ _ _ _ _ c.loop-piece.invariant.1 took)
-    (λ e. gave_before g.I.Read.remaining _ _ _ _ _ _ _ c.loop-piece.invariant.1 took fault refl e (search rules))
-    (λ e. c.in_err-append_piece.ensures.device (ap Err e) ∙ ap one_more c.loop-piece.invariant.0))
+    (OfFault-weaker _ _ (λ _ none. gave_before g.I.Read.remaining _ _ _ _ _ _ _ c.loop-piece.invariant.1 took none (search rules)) fault took.failing)
+    (OfFault-weaker _ _ (λ _ rose. rose ∙ ap one_more c.loop-piece.invariant.0) fault c.in_err-append_piece.ensures.device))
 
 pub returns-in_err-append_piece-clause-limit : goal.returns-in_err-append_piece-clause-limit
 returns-in_err-append_piece-clause-limit g c =

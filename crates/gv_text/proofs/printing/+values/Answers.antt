@@ -14,8 +14,6 @@ use Rattle.gv_view.specs.Views.{value, shown, view_ty, view_bytes}
 use Rattle.gv_view.specs.Children.{children_left}
 use Rattle.gv_view.proofs.Depths.{depth_children}
 use Rattle.gv_view.specs.declared.view.View.{View}
-use Rattle.gv_view.proofs.PartValues.{basic_is_leaf}
-use Rattle.gv_view.proofs.Copies.{always_ok}
 use Rattle.gv_text.specs.Printing.{IsNoted, IsNothing, IsPrintedAs, Prints, brackets_of, child_texts}
 use Rattle.gv_text.proofs.ContainerTexts.{
   array_doubles,
@@ -40,7 +38,7 @@ use Rattle.gv_text.proofs.RestLaws.{not_alone, rest_refused, rest_written}
 use Rattle.gv_text.proofs.ArrayTexts.{byte_string_text, list_text, no_child, some_child, value_array_text}
 use Rattle.gv_text.proofs.DefaultTexts.{empty_value, low_brackets}
 use Rattle.gv_text.proofs.Figures.{of_basic}
-use Rattle.gv_text.proofs.Levels.{AreLevels, childless_fits, first_refused, begin_levels, next_levels, then_refused, all_fit}
+use Rattle.gv_text.proofs.Levels.{childless_fits, first_refused, begin_levels, next_levels, then_refused, all_fit}
 use Rattle.gv_text.proofs.Copies.{copied_text, next_noted, none_noted, noted_here, noted_type}
 use Rattle.gv_text.proofs.Maybes.{maybe_text, too_deep, within_written}
 use Rattle.gv_text.proofs.printing.+values.Goals as goal

@@ -1,9 +1,9 @@
-use Rattle.std.proofs.Common.{◌≡◌, ℕ, Bool, true, List, Err, ap, codes, subst, sym, vec_items}
+use Rattle.std.proofs.Common.{◌≡◌, ℕ, Bool, true, List, Err, codes, subst, sym, vec_items}
 use Rattle.dconf_model.specs.Outcomes.{Loads, Gives, OrLine, UnlessFailed, WithRows, read_failed}
 use Rattle.dconf_model.specs.Reads.{ReadResults}
 use Rattle.dconf_model.specs.Sources.{Loaded, loaded}
 use Rattle.dconf_path.specs.Paths.{directory_text}
-use Rattle.dconf_streams.specs.declared.refusal.Refusal.TheVariants.{NoMemory}
+use Rattle.refused.specs.declared.Refused.TheVariants.{Memory}
 use Rattle.dconf_streams.specs.Answers.{GivesOutcome}
 use Rattle.dconf_streams.specs.Readings.{Decides}
 use Rattle.dconf_streams.proofs.Decisions.{decides_at_once}
@@ -27,7 +27,7 @@ pub returns-in-Err-Memory-clause-answer : goal.returns-in-Err-Memory-clause-answ
 returns-in-Err-Memory-clause-answer g c =
     let Go : ReadResults → Loaded → Gives = λ reads. Loads reads c.args.profile.now c.args.force in
     let t = c.in-Err-Memory.ensures.took in
-    (t.0, t.1, decides_at_once g.F.Folder c.args.folder.now 0 (Err NoMemory) (λ reads. WithRows c.args.skip_doubles (directory_text c.args.directory) t.0 (Go reads)) (λ reads. tt))
+    (t.0, t.1, decides_at_once g.F.Folder c.args.folder.now 0 (Err Memory) (λ reads. WithRows c.args.skip_doubles (directory_text c.args.directory) t.0 (Go reads)) (λ reads. tt))
 
 pub returns-in-Ok-clause-limit : goal.returns-in-Ok-clause-limit
 returns-in-Ok-clause-limit g c = c.in-Ok.ensures.limit
@@ -39,12 +39,12 @@ returns-in-Ok-clause-end g c =
     (subst (λ (b : List ℕ). Decides g.F.Folder c.args.folder.now c.load_bytes.new.folder 0
     (λ reads. OrLine (codes "input") (loaded c.args.skip_doubles (directory_text c.args.directory) b) (Go reads)) c.load_bytes.result) c.deref.ensures.value c.load_bytes.ensures) c.in-Ok.ensures.end
 
-pub returns-in-Err-Device-clause-answer : goal.returns-in-Err-Device-clause-answer
-returns-in-Err-Device-clause-answer g c =
+pub returns-in-Err-Fault-clause-answer : goal.returns-in-Err-Fault-clause-answer
+returns-in-Err-Fault-clause-answer g c =
     let Go : ReadResults → Loaded → Gives = λ reads. Loads reads c.args.profile.now c.args.force in
     let directory = directory_text c.args.directory in
-    let t = c.in-Err-Device.ensures.took in
-    let broken : read_failed t.0 ≡ true = t.2.failing (ap Err c.in-Err-Device.field-0-is) in (
+    let t = c.in-Err-Fault.ensures.took in
+    let broken : read_failed t.0 ≡ true = rw c.in-Err-Fault.field-0-is at t.2.failing in (
       t.0,
       t.1,
       decides_at_once g.F.Folder c.args.folder.now 0 (Err c.refused.result) (λ reads. WithRows c.args.skip_doubles directory t.0 (Go reads)) (λ reads.

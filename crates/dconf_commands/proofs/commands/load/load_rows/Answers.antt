@@ -14,7 +14,7 @@ use Rattle.gvdb_write.specs.Limits.{IsRefusal}
 use Rattle.dconf_path.specs.Profiles.{databases_of}
 use Rattle.dconf_compile.specs.LineStops.{line_fault_of}
 use Rattle.dconf_compile.specs.Loading.{loaded_of, rows_loaded}
-use Rattle.dconf_streams.specs.declared.refusal.Refusal.TheVariants.{NoMemory}
+use Rattle.refused.specs.declared.Refused.TheVariants.{Memory}
 use Rattle.dconf_streams.specs.Answers.{GivesOutcome}
 use Rattle.dconf_streams.proofs.Decisions.{decides_at_once}
 use Rattle.dconf_commands.proofs.LoadLaws.{decides_line, decides_rows}
@@ -31,7 +31,7 @@ pub returns-in_err-text : goal.returns-in_err-text
 returns-in_err-text g c =
     let Go : ReadResults → Loaded → Gives = λ reads. Loads reads c.args.profile.now c.args.force in
     let p = err_from_is_err_and c.from_residual.result c.from_residual.ensures.1 in
-    rw (p.1, p.2) (decides_at_once g.F.Folder c.args.folder.now 0 (Err NoMemory) (λ reads. OrLine (codes "input") (rows_loaded c.args.skip_doubles c.args.below) (Go reads)) (λ reads. tt))
+    rw (p.1, p.2) (decides_at_once g.F.Folder c.args.folder.now 0 (Err Memory) (λ reads. OrLine (codes "input") (rows_loaded c.args.skip_doubles c.args.below) (Go reads)) (λ reads. tt))
 
 pub returns-in_err-profile : goal.returns-in_err-profile
 returns-in_err-profile g c =

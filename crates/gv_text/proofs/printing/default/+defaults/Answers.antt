@@ -12,7 +12,6 @@ use Rattle.gv_text.proofs.DefaultTexts.{
   basic_writes,
   braced_written,
   element_written,
-  emptied_result,
   emptied_writes,
   first_member_fault,
   first_part,
@@ -118,13 +117,12 @@ push_first-push_entry_default-requires t c =
     let class = same_Some _ _ (sym (first_type_class w c.requires) ∙ (sym c.of_letter.ensures ∙ c.unwrap.ensures)) ∙ c.in-Entry.is in
     (search rules, (c.requires, (class, omega (arith, c.if-levels-eq0.false))))
 
-pub push_first-returns-in-Array : goal.push_first-returns-in-Array
-push_first-returns-in-Array t c =
+pub push_first-returns-in_ok-push_emptied_first-in-Array : goal.push_first-returns-in_ok-push_emptied_first-in-Array
+push_first-returns-in_ok-push_emptied_first-in-Array t c =
     let w = c.args.text.now in
     let kind = is_emptied (first_type (seen w)) c.unwrap.result (same_Some _ _ (sym c.unwrap.ensures ∙ (c.of_letter.ensures ∙ first_type_class w c.requires))) c.in-Array.is in
-    MatchResult-weaker c.push_emptied_first.result c.push_emptied_first.ensures
-    (λ rest h. (h.0, emptied_writes (first_type (seen w)) c.args.levels c.args.annotated c.args.in_array (string_bytes c.args.to.now) (string_bytes c.push_emptied_first.new.to) kind (omega (arith, c.if-levels-eq0.false)) h.1))
-    (λ f h. emptied_result (first_type (seen w)) c.args.levels f h)
+    let h = c.in_ok-push_emptied_first-in-Array.ensures in
+    (h.0, emptied_writes (first_type (seen w)) c.args.levels c.args.annotated c.args.in_array (string_bytes c.args.to.now) (string_bytes c.push_emptied_first.new.to) kind (omega (arith, c.if-levels-eq0.false)) h.1)
 
 pub push_first-returns-in-Tuple : goal.push_first-returns-in-Tuple
 push_first-returns-in-Tuple t c =
