@@ -1,31 +1,24 @@
 -- What is answered of a change: what it gives is saved, or it is refused.
-use Rattle.std.proofs.Common.{◌≡◌, ◌≤◌, ◌<◌, ◌∷◌, ℕ, length, List, [], Bool, true, false, Option, Some, None, Result, Ok, Err, refl, sym, ap, subst}
-use Rattle.std.proofs.lemmas.Bool.{lt-ltb, le-ltb}
-use Rattle.std.specs.Prelude.{IfSome, nat_lt, if◌then◌else◌}
+use Rattle.std.proofs.Common.{◌≡◌, ◌∷◌, ℕ, List, [], Bool, true, false, Option, Some, None, Result, Ok, Err, refl, sym, ap, subst}
+use Rattle.std.specs.Prelude.{IfSome, if◌then◌else◌}
 use Rattle.gv_model.specs.Tree.{Tree}
 use Rattle.dconf_disk.specs.declared.folder.Folder.{Ghosts}
 use Rattle.dconf_model.specs.Causes.{SettingsCause}
-use Rattle.dconf_model.specs.Causes.SettingsCause.{too_big}
-use Rattle.dconf_model.specs.Changes.{Refusal, all_storable, apply, saved, set_all, unless_locked}
+use Rattle.dconf_model.specs.Changes.{Refusal, all_storable, apply, set_all, unless_locked}
 use Rattle.dconf_model.specs.Changes.Change.{reset_value, set_value}
 use Rattle.dconf_model.specs.Changes.Refusal.{locked, not_writable, too_large}
 use Rattle.dconf_model.specs.Layers.{Layers, is_locked}
-use Rattle.dconf_model.specs.Lines.{longest_text}
-use Rattle.dconf_model.specs.Outcomes.{Gives, OrCause, Outcome, Saves, Writes, value_of_word}
+use Rattle.dconf_model.specs.Outcomes.{Gives, OrCause, Outcome, Saves}
 use Rattle.dconf_model.specs.Reads.{ReadResults}
 use Rattle.dconf_model.specs.Sources.{Assigned}
-use Rattle.dconf_model.specs.Values.{value_of_text}
 use Rattle.dconf_streams.specs.Answers.{Answered, GivesOutcome}
-use Rattle.dconf_commands.specs.Refusals.{IsLockedPath, NoValue, RefusedCause, RefusedFor}
+use Rattle.dconf_commands.specs.Refusals.{IsLockedPath, NoValue, RefusedFor}
 use Rattle.dconf_streams.specs.Readings.{Decides}
 use Rattle.dconf_streams.proofs.Decisions.{answers_also}
 
 -- ---- what is answered
 
 module _ (answer : Answered) (paths : List (List ℕ)) (name : List ℕ) (given : Result Layers Refusal) where
-  pub saves_change : (new : Layers) → given ≡ Ok new → GivesOutcome answer (Writes name [] (saved new.layers)) → GivesOutcome answer (Saves paths name given)
-  saves_change new is h = subst (λ (r : Result Layers Refusal). GivesOutcome answer (Saves paths name r)) (sym is) h
-
   pub refuses_change : (r : Option Refusal) → IfSome r (λ why. given ≡ Err why) → GivesOutcome answer (RefusedFor paths r) → GivesOutcome answer (Saves paths name given)
   refuses_change None is h = answers_also answer (RefusedFor paths None) (Saves paths name given) (λ o none. absurd none) h
   refuses_change (Some why) is h = subst (λ (r : Result Layers Refusal). GivesOutcome answer (Saves paths name r)) (sym is) h
@@ -85,18 +78,6 @@ no_value_at (Err c) Go o h = h
 
 pub no_value_is_any : (answer : Answered) (r : Result Tree SettingsCause) (Go : Tree → Gives) → GivesOutcome answer (OrCause r NoValue) → GivesOutcome answer (OrCause r Go)
 no_value_is_any answer r Go h = answers_also answer (OrCause r NoValue) (OrCause r Go) (λ o x. no_value_at r Go o x) h
-
--- the text is no longer than may be read
-pub short_word : (text : List ℕ) → length text ≤ longest_text → value_of_word text ≡ value_of_text text
-short_word text short = let e : nat_lt longest_text (length text) ≡ false = le-ltb longest_text (length text) short in rw e refl
-
-pub long_word : (text : List ℕ) → longest_text < length text → value_of_word text ≡ Err too_big
-long_word text long = let e : nat_lt longest_text (length text) ≡ true = lt-ltb longest_text (length text) long in rw e refl
-
-pub refuses_word : (answer : Answered) (o : Option SettingsCause) (r : Result Tree SettingsCause) → IfSome o (λ c. r ≡ Err c) → GivesOutcome answer (RefusedCause o)
-    → GivesOutcome answer (OrCause r NoValue)
-refuses_word answer None r is h = answers_also answer (RefusedCause None) (OrCause r NoValue) (λ o none. absurd none) h
-refuses_word answer (Some c) r is h = subst (λ (x : Result Tree SettingsCause). GivesOutcome answer (OrCause x NoValue)) (sym is) h
 
 pub decides_with_value : {F : Type 0} (ghosts : Ghosts F) (old new : F) (answer : Answered) (r : Result Tree SettingsCause) (v : Tree)
     (Go : ReadResults → Tree → Gives) → r ≡ Ok v → Decides ghosts old new 0 (λ reads. Go reads v) answer
