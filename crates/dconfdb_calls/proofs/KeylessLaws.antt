@@ -1,5 +1,5 @@
 -- The item of `/`, and what is sound with it.
-use Rattle.std.specs.Prelude.{◌≡◌, ◌⊎◌, ◌≤◌, ◌<◌, ◌+◌, ◌*◌, ◌-◌, ◌/◌, ◌%◌, ℕ, List, length, refl, Some, slice_range}
+use Rattle.std.specs.Prelude.{◌≡◌, ◌≤◌, ◌<◌, ◌+◌, ◌*◌, ◌-◌, ◌/◌, ℕ, List, length, Some, slice_range}
 use Rattle.std.proofs.Common.{inl, inr, sym, ap, ◌∙◌, subst, arith}
 use Rattle.std.proofs.lemmas.Bool.{cases_order}
 use Rattle.byteorder.specs.Endian.{little_number}
@@ -11,7 +11,7 @@ use Rattle.dconf_model.specs.Table.{Table, item_count, items_start}
 use Rattle.dconf_model.proofs.OpenLaws as opens
 use Rattle.dconf_model.proofs.SoundLaws.{sound_has_no_fault}
 use Rattle.gvdb_format.proofs.Numbers.{number_there}
-use Rattle.dconfdb_calls.specs.Keyless.{IsFirstRoot, IsKeyless, IsRootItem, IsRootPlace, with_empty_list}
+use Rattle.dconfdb_calls.specs.Keyless.{IsFirstRoot, IsKeyless, IsRootPlace, with_empty_list}
 
 pub not_bad : (file : List ℕ) (v : Verdict) → IsGood (Some file) → IsBad (Some file) v → ⊥
 not_bad file sound h k = k

@@ -1,6 +1,6 @@
 -- The lines of a profile, one after another: what is known so far, and what is left.
-use Rattle.std.proofs.Common.{◌≡◌, ◌≤◌, ℕ, ◌+◌, ◌-◌, ◌<◌, true, false, List, [], ◌∷◌, length, map, get_or, take, drop, Option, Some, None, inl, inr, refl, sym, ap, ◌∙◌, arith, IfSome, eq-eqb, ne_eqb, length-drop}
-use Rattle.std.specs.Prelude.{IsUtf8, option_map}
+use Rattle.std.proofs.Common.{◌≡◌, ◌≤◌, ℕ, ◌+◌, ◌-◌, ◌<◌, true, List, ◌∷◌, length, map, get_or, take, drop, Option, inl, inr, refl, sym, ap, ◌∙◌, arith, eq-eqb, ne_eqb, length-drop}
+use Rattle.std.specs.Prelude.{IsUtf8}
 use Rattle.std.specs.Str.{is_utf8}
 use Rattle.std.specs.List.{slice_split}
 use Rattle.std.proofs.lemmas.Bool.{false_from_ne_true, lt-ltb}

@@ -1,5 +1,5 @@
 -- What a profile says where its bad lines are passed over.
-use Rattle.std.specs.Prelude.{◌≡◌, ◌⊎◌, ℕ, ◌+◌, List, [], ◌∷◌, ◌++◌, length, Option, Some, None, Result, Ok, Err, Bool, nat_lt, ◌==◌, ◌&&◌, if◌then◌else◌, map}
+use Rattle.std.specs.Prelude.{◌≡◌, ◌⊎◌, ℕ, ◌+◌, List, [], ◌∷◌, ◌++◌, length, Option, Some, None, Result, Ok, Err, nat_lt, ◌==◌, ◌&&◌, if◌then◌else◌, map}
 use Rattle.std.specs.Str.{is_utf8}
 use Rattle.std.specs.List.{slice_split}
 use Rattle.dconf_model.specs.Causes.{SettingsCause}

@@ -1,6 +1,6 @@
 -- A database that dconf made of no key, and the sound one that it stands for. dconf sets neither the kind nor the contents of
 -- `/` where nothing is in it: they are what its memory held.
-use Rattle.std.specs.Prelude.{◌≡◌, ◌⊎◌, ◌≤◌, ◌<◌, ◌+◌, ◌-◌, ◌*◌, ℕ, List, [], ◌∷◌, ◌++◌, length, drop, take, replicate, Option, Some, None, codes, slice_range}
+use Rattle.std.specs.Prelude.{◌≡◌, ◌⊎◌, ◌≤◌, ◌<◌, ◌+◌, ◌-◌, ◌*◌, ℕ, List, ◌∷◌, ◌++◌, length, drop, take, replicate, Option, Some, None, codes, slice_range}
 use Rattle.std.specs.Borrow.{Bor}
 use Rattle.dconf_model.specs.Bytes.{u32_at}
 use Rattle.dconf_model.specs.Databases.{IsGood}

@@ -1,4 +1,4 @@
-use Rattle.std.proofs.Common.{◌≡◌, ◌∙◌, List, Some, ℕ, inr, refl, sym, subst}
+use Rattle.std.proofs.Common.{◌∙◌, List, Some, ℕ, inr, refl, sym, subst}
 use Rattle.dconf_model.proofs.PathMaps.{no_truth}
 use Rattle.dconf_model.specs.Databases.{IsGood}
 use Rattle.dconfdb_calls.proofs.KeylessLaws.{not_keyless}

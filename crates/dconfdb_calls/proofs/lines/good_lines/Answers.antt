@@ -1,4 +1,4 @@
-use Rattle.std.proofs.Common.{◌≡◌, ◌∙◌, arith, ap, sym, length}
+use Rattle.std.proofs.Common.{◌∙◌, arith, ap, sym, length}
 use Rattle.std.specs.Prelude.{option_map}
 use Rattle.keyfile_core.specs.Feeds.{lines_in}
 use Rattle.dconfdb_calls.specs.GoodLines.{fault_from, first_fault, good_names, line_fault, names_from}

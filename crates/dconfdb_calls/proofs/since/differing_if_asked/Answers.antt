@@ -1,6 +1,5 @@
 use Rattle.std.proofs.Common.{map}
 use Rattle.std.specs.String.{string_bytes}
-use Rattle.std.specs.Prelude.{IfOk}
 use Rattle.std.proofs.lemmas.Result.{IfOk-weaker}
 use Rattle.dconfdb_calls.proofs.SinceLaws.{found_below}
 use Rattle.dconfdb_calls.proofs.since.differing_if_asked.Goals as goal
