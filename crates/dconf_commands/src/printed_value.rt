@@ -40,8 +40,10 @@ fn told(alloc: Global, view: View<'_>) -> Result<String, AllocError>
 {
     match print(alloc, view) {
         Ok(text) => Ok(text),
-        Err(PrintFault::Fault(PrintFlaw::TooLarge)) => String::from_str(alloc, "too large, not printed"),
-        Err(PrintFault::Fault(PrintFlaw::DoubleText)) => String::from_str(alloc, "a double, not printed"),
+        Err(PrintFault::Fault(flaw)) => match flaw {
+            PrintFlaw::TooLarge => String::from_str(alloc, "too large, not printed"),
+            PrintFlaw::DoubleText => String::from_str(alloc, "a double, not printed"),
+        },
         Err(PrintFault::Memory) => Err(AllocError),
     }
 }
