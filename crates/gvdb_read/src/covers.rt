@@ -88,6 +88,7 @@ impl Table<'_> {
     }
 
     /// Whether the byte at a place is a `/`, and the prefix up to it, which has this hash, has a value.
+    #[inline(always)]
     fn has_directory(self, hash: u32, path: &[u8], i: usize) -> bool
         requires within { i < length path.now }
         requires hash_is { hash ≡ hash_of (take (i + 1) path.now) }
@@ -97,6 +98,7 @@ impl Table<'_> {
     }
 
     /// Whether a name of this hash has a value.
+    #[inline(always)]
     fn has_hashed(self, hash: u32, name: &[u8]) -> bool
         requires { hash ≡ hash_of name.now }
         ensures { IsTrue result ↔ IsFound (region self.entry) name.now value_kind }
