@@ -166,9 +166,3 @@ both_taken d c layer s =
     let qs = set_paths (entries c) in
     set_children_are d (entries c) (with_children d ps s) ∙ (sym (fold-append (with_child d) s ps qs)
     ∙ children_alike d (ps ++ qs) (keys (with_changes c (settings_of layer).values)) s (left_there d c layer))
-
--- a change that resets a path below the directory is found among all
-pub reset_found : (d : List ℕ) (before after all : Entries) (x : List ℕ × Option (List ℕ)) → before ≡ x ∷ after → is_reset_below d x.0 x.1 ≡ true →
-    list_any (λ c. is_reset_below d c.0 c.1) before ≡ list_any (λ c. is_reset_below d c.0 c.1) all → true ≡ list_any (λ c. is_reset_below d c.0 c.1) all
-reset_found d before after all x e is same =
-    sym (ap (λ b. b || list_any (λ c. is_reset_below d c.0 c.1) after) is) ∙ (sym (ap (λ (es : Entries). list_any (λ c. is_reset_below d c.0 c.1) es) e) ∙ same)

@@ -24,7 +24,6 @@ mod changes;
 mod engine;
 mod explained;
 mod fault;
-mod first_layer;
 mod list;
 mod reset;
 mod stored_bytes;

@@ -1,13 +1,14 @@
 use Rattle.std.proofs.Common.{◌≡◌, drop, map}
+use Rattle.std.specs.FinMap.{empty}
 use Rattle.dconf_model.specs.Layers.{all_locks}
 use Rattle.dconf_path.specs.Paths.{directory_text}
 use Rattle.dconf_layers.specs.LayerSettings.{settings_of}
 use Rattle.dconf_layers.specs.LockNames.{locks_under}
 use Rattle.dconf_layers.specs.TextSets.{with_texts}
-use Rattle.dconf_engine.proofs.list.add_locks.Given as goal
+use Rattle.dconf_engine.proofs.engine.Engine.locks.Given as goal
 
 -- what is left to add gives what all layers give
 abbrev pub invariant-loop-layer : goal.invariant-loop-layer
 invariant-loop-layer l =
-    with_texts (locks_under (directory_text l.directory) (all_locks (map settings_of (drop l.layer-index l.layers)))) l.paths
-    ≡ with_texts (locks_under (directory_text l.directory) (all_locks (map settings_of l.layers))) l.initial.paths
+    with_texts (locks_under (directory_text l.directory) (all_locks (map settings_of (drop l.layer-index l.later)))) l.paths
+    ≡ with_texts (locks_under (directory_text l.directory) (all_locks (drop 1 l.self.layers))) empty

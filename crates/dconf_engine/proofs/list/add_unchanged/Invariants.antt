@@ -4,7 +4,7 @@ use Rattle.dconf_layers.specs.Entries.{entries_left}
 use Rattle.dconf_layers.specs.LayerRows.{layer_paths, paths_of}
 use Rattle.dconf_layers.specs.TextSets.{with_children}
 use Rattle.dconf_engine.specs.LeftPaths.{unchanged_of}
-use Rattle.dconf_engine.proofs.first_layer.add_unchanged.Given as goal
+use Rattle.dconf_engine.proofs.list.add_unchanged.Given as goal
 
 -- what is left to add gives what all entries give
 abbrev pub invariant-loop-entry : goal.invariant-loop-entry

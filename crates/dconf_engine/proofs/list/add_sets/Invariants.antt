@@ -3,7 +3,7 @@ use Rattle.std.specs.FinMap.{entries}
 use Rattle.dconf_path.specs.Paths.{directory_text}
 use Rattle.dconf_engine.specs.LeftPaths.{with_set_children}
 use Rattle.dconf_engine.specs.UnsavedLeft.{changes_left}
-use Rattle.dconf_engine.proofs.first_layer.add_sets.Given as goal
+use Rattle.dconf_engine.proofs.list.add_sets.Given as goal
 
 -- what is left to add gives what all changes give
 abbrev pub invariant-loop-change : goal.invariant-loop-change

@@ -6,7 +6,7 @@ use Rattle.dconf_layers.specs.LayerRows.{layer_paths}
 use Rattle.dconf_layers.specs.LayerSettings.{settings_of}
 use Rattle.dconf_engine.specs.LeftPaths.{has_reset_below, unchanged_of}
 use Rattle.dconf_layers.specs.TextSets.{with_children}
-use Rattle.dconf_engine.proofs.first_layer.add_file.Goals as goal
+use Rattle.dconf_engine.proofs.list.add_file.Goals as goal
 
 pub returns-then-has_reset_below : goal.returns-then-has_reset_below
 returns-then-has_reset_below c =
