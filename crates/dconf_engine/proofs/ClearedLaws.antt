@@ -1,5 +1,5 @@
 -- Resetting all below a directory: what was changed there and what the first layer has there.
-use Rattle.std.proofs.Common.{◌≡◌, ℕ, Bool, true, false, cond, not, List, [], ◌∷◌, Option, Some, None, Ok, Err, is_some, map, refl, sym, ap, ◌∙◌, ◌&&◌}
+use Rattle.std.proofs.Common.{◌≡◌, ℕ, Bool, true, false, cond, not, List, [], ◌∷◌, Option, Some, None, Ok, Err, is_some, map, refl, slice_get, sym, ap, ◌∙◌, ◌&&◌}
 use Rattle.std.specs.List.{list_any}
 use Rattle.std.specs.Option.{unwrap_or}
 use Rattle.std.specs.Str.{bytes_eq}
@@ -54,6 +54,14 @@ reset_below_all l d c item =
     (λ q yes. get_reset_all l d c names q ∙ ap (λ k. cond (not k && list_any (bytes_eq q) names) (Some None) (cond (not k && contains_key c q) (Some None) (get c q))) yes)
     (λ q out. ap (λ o. unwrap_or o (get base q)) (get_reset_all l d c names q ∙ ap (λ k. cond (not k && list_any (bytes_eq q) names) (Some None) (cond (not k && contains_key c q) (Some None) (get c q))) out)
     ∙ gone (list_any (bytes_eq q) names) (get c q) (get base q) (λ bytes e. each_is_there item q bytes e))
+
+abbrev paths_in : Option Layer → List (List ℕ)
+paths_in (Some x) = layer_paths x
+paths_in None = []
+
+pub first_is : (items : List Layer) (x : Layer) → slice_get items 0 ≡ Some x → layer_paths x ≡ first_paths items
+first_is [] x e = sym (ap paths_in e)
+first_is (y ∷ items) x e = sym (ap paths_in e)
 
 -- over the layers of files
 pub reset_layers : (l : Layers) (d : List ℕ) (c : Unsaved) (items : List Layer) →

@@ -4,8 +4,7 @@ ghost use Rattle.std.specs.FinMap.{entries};
 ghost use Rattle.dconf_path.specs.Paths.{directory_text, key_text};
 ghost use Rattle.dconf_model.specs.Changes.{apply, Change.reset_below_directory};
 ghost use Rattle.dconf_engine.specs.ChangeFaults.{Refuses};
-ghost use Rattle.dconf_engine.specs.Cleared.{changed_paths, cleared, first_paths, keeps};
-ghost use Rattle.dconf_layers.specs.LayerRows.{layer_paths};
+ghost use Rattle.dconf_engine.specs.Cleared.{changed_paths, cleared, first_paths};
 ghost use Rattle.dconf_engine.specs.Unsaved.{and_resets};
 
 use crate::change_fault::{ChangeFault, ChangeFlaw};
@@ -59,22 +58,10 @@ impl<'a> Engine<'a> {
     ) -> Result<(), AllocError>
         ensures { OnOk result (changes.new ≡ and_resets (cleared self.now (directory_text directory.entry) (first_paths layers.now)) changes.old) }
     {
-        match layers.first() {
-            Some(first) => self.reset_layer(*first, directory, changes),
-            None => Ok(()),
-        }
-    }
-
-    /// Resets what a layer has below a directory.
-    fn reset_layer(
-        &self,
-        layer: Layer<'_>,
-        directory: DirPath<'_>,
-        changes: &mut Changes,
-    ) -> Result<(), AllocError>
-        ensures { OnOk result (changes.new ≡ and_resets (cleared self.now (directory_text directory.entry) (layer_paths layer.entry)) changes.old) }
-    {
-        for entry in layer.entries() {
+        let Some(first) = layers.first() else {
+            return Ok(());
+        };
+        for entry in first.entries() {
             let path = entry.path(self.alloc)?;
             self.reset_below(KeyPath::parse(path.as_str()).unwrap(), directory, changes)?;
         }
@@ -90,17 +77,10 @@ impl<'a> Engine<'a> {
     ) -> Result<(), AllocError>
         ensures { OnOk result (changes.new ≡ and_resets (cleared self.now (directory_text directory.entry) (key_text path.entry ∷ [])) changes.old) }
     {
-        if self.keeps(path, directory) {
+        if !is_under(path.as_str(), directory) || self.is_locked(path) {
             return Ok(());
         }
         changes.reset(path)?;
         Ok(())
-    }
-
-    /// Whether a path keeps its value: it is not below the directory, or it is locked.
-    fn keeps(&self, path: KeyPath<'_>, directory: DirPath<'_>) -> bool
-        ensures { result ≡ keeps self.now (directory_text directory.entry) (key_text path.entry) }
-    {
-        !is_under(path.as_str(), directory) || self.is_locked(path)
     }
 }
