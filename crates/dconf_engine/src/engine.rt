@@ -49,7 +49,7 @@ impl<'a> fmt::Debug for Engine<'a> {
 
     fn fmt<W: fmt::Write>(&self, f: &mut fmt::Formatter<W>) -> fmt::Result {
         let writable = self.is_writable();
-        let layers = self.count();
+        let layers = self.layers.len();
         write!(f, "Engine {{ writable: {writable}, layers: {layers} }}")
     }
 }
@@ -192,13 +192,6 @@ impl<'a> Engine<'a> {
         ensures default { self.now.writable ≡ true → without_user (seen_in result) ≡ without_user self.now }
     {
         LentLayers::new(self.writable, &self.layers)
-    }
-
-    /// How many layers there are.
-    pub(crate) fn count(&self) -> usize
-        ensures { result ≡ length self.now.layers }
-    {
-        self.layers.len()
     }
 }
 

@@ -1,9 +1,9 @@
 //! Changes of the first layer.
-ghost use Rattle.std.specs.Prelude.{◌≡◌, true, false, Ok, Err, Some, None, OnOk, OnErr, IfOk, IfErr};
+ghost use Rattle.std.specs.Prelude.{◌≡◌, true, false, Ok, Err, Some, None, OnOk, OnErr, IfErr};
 ghost use Rattle.refused.specs.Faults.{OfFault};
 ghost use Rattle.gv_tree.specs.Wholes.{IsWhole};
-ghost use Rattle.dconf_path.specs.Paths.{key_text, directory_text};
-ghost use Rattle.dconf_model.specs.Changes.{apply, Change.set_value, Change.reset_value, Change.load_values, Change.reset_below_directory, first_locked, paths_of, all_storable, Refusal.too_large};
+ghost use Rattle.dconf_path.specs.Paths.{key_text};
+ghost use Rattle.dconf_model.specs.Changes.{apply, Change.set_value, Change.reset_value, Change.load_values, first_locked, paths_of, all_storable, Refusal.too_large};
 ghost use Rattle.dconf_engine.specs.ChangeFaults.{refusal_of, Refuses, path_refusal, rows_refusal};
 ghost use Rattle.dconf_engine.specs.Loads.{rows_of, not_locked};
 ghost use Rattle.dconf_engine.specs.Unsaved.{and_rows};
