@@ -1,19 +1,17 @@
 -- Changes that are made one after the other, up to one that is refused.
-use Rattle.std.specs.Prelude.{◌≡◌, ◌<◌, ◌+◌, ℕ, List, [], ◌∷◌, ◌++◌, length, take, Some, Ok, Err, slice_get, option_map, refl}
+use Rattle.std.specs.Prelude.{◌≡◌, ◌<◌, ◌+◌, ℕ, List, [], ◌∷◌, ◌++◌, length, take, Some, Ok, Err, slice_get, option_map}
 use Rattle.std.proofs.Common.{◌∙◌, ap, sym, subst, get_or}
 use Rattle.std.proofs.lemmas.List.{map_more, take-map}
 use Rattle.std.proofs.lemmas.Option.{slice_get-map, slice_get-get_or}
 use Rattle.dconf_model.specs.Layers.{Layers}
-use Rattle.dconf_model.specs.Changes.{Change as ModelChange, apply}
+use Rattle.dconf_model.specs.Changes.{apply}
 use Rattle.dconf_model.specs.Stores.{IsWholeChange}
-use Rattle.refused.specs.Faults.{OfFault}
-use Rattle.refused.specs.declared.Refused.{Refused}
-use Rattle.refused.specs.declared.Refused.TheVariants.{Fault, Memory}
 use Rattle.dconf_engine.specs.declared.change_fault.ChangeFlaw.{ChangeFlaw}
-use Rattle.dconf_engine.specs.ChangeFaults.{Refuses}
+use Rattle.dconf_engine.specs.ChangeFaults.{refusal_of}
 use Rattle.dconf_store.specs.declared.change.Change.{Change}
+use Rattle.dconf_store.specs.declared.fault.StoreFlaw.TheVariants as flaws
 use Rattle.dconf_store.specs.Changes.{asked_of, change_of}
-use Rattle.dconf_store.specs.Faults.{IsRefusedAt, store_fault_of}
+use Rattle.dconf_store.specs.Faults.{IsRefusedAt}
 use Rattle.dconf_store.specs.Seen.{HaveChanged}
 use Rattle.dconf_store.proofs.Applied.{made_then}
 
@@ -28,13 +26,12 @@ next_is_made l m n cs i x h is made whole e =
     subst (λ asked. HaveChanged l asked n) (sym (one_more cs i x h))
     (subst (λ y. HaveChanged l (take i (asked_of cs) ++ change_of y ∷ []) n) is (made_then l m n (take i (asked_of cs)) (change_of x) made whole e))
 
-refused_as : (l m : Layers) (asked : List ModelChange) (i : ℕ) (a : ModelChange) (fault : Refused ChangeFlaw) → HaveChanged l (take i asked) m → slice_get asked i ≡ Some a →
-    Refuses (apply m a) fault → OfFault (IsRefusedAt l asked) (store_fault_of i fault)
-refused_as l m asked i a (Fault flaw) made at e = record { reached = m; before = made; change = a; is = at; refused = e }
-refused_as l m asked i a Memory made at e = tt
-
-pub next_is_refused : (l m : Layers) (cs : List Change) (i : ℕ) (x : Change) (fault : Refused ChangeFlaw) → i < length cs → x ≡ get_or cs i x →
-    HaveChanged l (take i (asked_of cs)) m → Refuses (apply m (change_of x)) fault → OfFault (IsRefusedAt l (asked_of cs)) (store_fault_of i fault)
-next_is_refused l m cs i x fault h is made e =
-    refused_as l m (asked_of cs) i (change_of x) fault made
-    (slice_get-map change_of cs i ∙ (ap (option_map change_of) (slice_get-get_or cs i x h) ∙ ap (λ y. Some (change_of y)) (sym is))) e
+pub next_is_refused : (l m : Layers) (cs : List Change) (i : ℕ) (x : Change) (flaw : ChangeFlaw) → i < length cs → x ≡ get_or cs i x →
+    HaveChanged l (take i (asked_of cs)) m → apply m (change_of x) ≡ Err (refusal_of flaw) → IsRefusedAt l (asked_of cs) (flaws.Refused i flaw)
+next_is_refused l m cs i x flaw h is made e = record {
+  reached = m;
+  before = made;
+  change = change_of x;
+  is = slice_get-map change_of cs i ∙ (ap (option_map change_of) (slice_get-get_or cs i x h) ∙ ap (λ y. Some (change_of y)) (sym is));
+  refused = e;
+}

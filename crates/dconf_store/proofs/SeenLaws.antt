@@ -1,7 +1,6 @@
 -- What is seen of a store that was changed, saved and opened again.
-use Rattle.std.specs.Prelude.{◌≡◌, ◌↔◌, ℕ, Bool, List, [], ◌∷◌, ◌++◌, map, Option, Some, Result, Ok, Err, IfOk, IfErr, IsErrAnd, MatchResult, Contains, refl}
+use Rattle.std.specs.Prelude.{◌≡◌, ◌↔◌, ℕ, Bool, List, [], ◌∷◌, ◌++◌, map, Some, Result, Ok, Err, IfOk, IfErr, IsErrAnd, MatchResult, Contains, refl}
 use Rattle.std.proofs.Common.{◌∙◌, ap, sym, subst}
-use Rattle.gv_model.specs.Tree.{Tree}
 use Rattle.dconf_model.specs.Bytes.{MaybeBytes}
 use Rattle.dconf_model.specs.Settings.{Settings}
 use Rattle.dconf_model.specs.Databases.{AreLayers, IsFirstBad, Verdict}

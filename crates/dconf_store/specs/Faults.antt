@@ -8,9 +8,6 @@ use Rattle.dconf_model.specs.FaultTexts.{bad_database_text}
 use Rattle.dconf_model.specs.Outcomes.{verdict_text}
 use Rattle.gv_model.specs.Tree.{Tree}
 use Rattle.gv_model.specs.Printed.{is_too_large}
-use Rattle.refused.specs.declared.Refused as refused
-use Rattle.refused.specs.declared.Refused.TheVariants.{Fault, Memory}
-use Rattle.dconf_engine.specs.declared.change_fault.ChangeFlaw.{ChangeFlaw}
 use Rattle.dconf_engine.specs.ChangeFaults.{refusal_of, change_fault_text}
 use Rattle.dconf_layers.specs.Verdicts.{verdict_of}
 use Rattle.dconf_store.specs.declared.fault.StoreFlaw.{StoreFlaw}
@@ -44,11 +41,7 @@ abbrev pub IsNoValue : List MaybeBytes → Bool → List Change → List ℕ →
 IsNoValue files writable changes path TooLarge = (v : Option Tree) × IsValueAfter files changes path v × IsTooLarge v
 IsNoValue files writable changes path flaw = IsFaultOf files writable changes flaw
 
--- ---- which fault one of a change is, and how it is printed
-
-abbrev pub store_fault_of : ℕ → refused.Refused ChangeFlaw → refused.Refused StoreFlaw
-store_fault_of i (Fault flaw) = Fault (Refused i flaw)
-store_fault_of i Memory = Memory
+-- ---- how it is printed
 
 abbrev pub store_fault_text : StoreFlaw → List ℕ
 store_fault_text (BadDatabase i fault) = bad_database_text i (verdict_text (verdict_of fault))

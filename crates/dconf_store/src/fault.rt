@@ -1,9 +1,8 @@
 //! Why a store has no answer.
 ghost use Rattle.std.specs.Prelude.{◌≡◌};
-ghost use Rattle.dconf_store.specs.Faults.{store_fault_of};
 ghost use Rattle.dconf_store.specs.declared.fault.StoreFlaw.TheVariants as flaws;
 
-use dconf_engine::{BadDatabase, ChangeFault, ChangeFlaw};
+use dconf_engine::{BadDatabase, ChangeFlaw};
 use dconf_layers::DatabaseFault;
 use gv_view::TooLarge;
 use gvdb_write::TooBig;
@@ -26,16 +25,6 @@ pub enum StoreFlaw {
     TooBig,
     /// The value is more than 128 levels deep.
     TooLarge,
-}
-
-/// That of a change of this index.
-pub(crate) fn of_change(i: usize, fault: ChangeFault) -> StoreFault
-    ensures { result ≡ store_fault_of i fault }
-{
-    match fault {
-        Refused::Fault(flaw) => Refused::Fault(StoreFlaw::Refused(i, flaw)),
-        Refused::Memory => Refused::Memory,
-    }
 }
 
 impl fmt::Display for StoreFlaw {

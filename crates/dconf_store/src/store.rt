@@ -1,9 +1,8 @@
 //! What is saved of a store after changes, and what is seen when that is opened again.
-ghost use Rattle.std.specs.Prelude.{◌≡◌, [], IfErr, IfOk, IsOk, None, OnErr, OnOk, length, map, string_bytes};
+ghost use Rattle.std.specs.Prelude.{◌≡◌, [], IfErr, IfOk, IsOk, None, OnOk, length, map, string_bytes};
 ghost use Rattle.refused.specs.Faults.{OfFault};
-ghost use Rattle.dconf_model.specs.Databases.{IsDatabaseOf};
 ghost use Rattle.dconf_model.specs.Changes.{saved};
-ghost use Rattle.dconf_model.specs.Layers.{Layers, visible};
+ghost use Rattle.dconf_model.specs.Layers.{visible};
 ghost use Rattle.dconf_model.specs.Profiles.{has_writable};
 ghost use Rattle.dconf_path.specs.Paths.{directory_text, key_text};
 ghost use Rattle.dconf_path.specs.Profiles.{databases_of};
@@ -11,10 +10,10 @@ ghost use Rattle.dconf_layers.specs.Files.{bytes_of_file, bytes_of_files};
 ghost use Rattle.dconf_store.specs.Changes.{asked_of};
 ghost use Rattle.dconf_store.specs.Faults.{IsFaultOf, IsNoValue, IsRefusedAt, IsTooLarge};
 ghost use Rattle.dconf_store.specs.Files.{with_first_file};
-ghost use Rattle.dconf_store.specs.Seen.{AreAccepted, AreChanged, AreChildrenAfter, HaveChanged, IsSavedAfter, IsValueAfter};
+ghost use Rattle.dconf_store.specs.Seen.{AreAccepted, AreChildrenAfter, HaveChanged, IsSavedAfter, IsValueAfter};
 
 use crate::change::Change;
-use crate::fault::{StoreFault, of_change};
+use crate::fault::{StoreFault, StoreFlaw};
 use dconf_engine::Engine;
 use dconf_path::{DirPath, KeyPath, Profile};
 use gv_tree::Tree;
@@ -97,8 +96,10 @@ fn make_all(engine: &mut Engine<'_>, changes: &[Change<'_>]) -> Result<(), Store
     ensures fault { IfErr result (OfFault (IsRefusedAt engine.old (asked_of changes.now))) }
 {
     for (i, change) in changes.iter().enumerate() {
-        if let Err(fault) = change.make(engine) {
-            return Err(of_change(i, fault));
+        match change.make(engine) {
+            Ok(()) => {}
+            Err(Refused::Fault(flaw)) => return Err(StoreFault::Fault(StoreFlaw::Refused(i, flaw))),
+            Err(Refused::Memory) => return Err(StoreFault::Memory),
         }
     }
     Ok(())
