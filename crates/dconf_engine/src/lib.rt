@@ -26,7 +26,6 @@ mod explained;
 mod fault;
 mod list;
 mod reset;
-mod stored_bytes;
 mod user_database;
 mod write;
 

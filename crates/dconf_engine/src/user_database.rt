@@ -15,7 +15,7 @@ ghost use Rattle.dconf_engine.specs.Unsaved.{with_changes};
 use crate::change_fault::ChangeFault;
 use crate::changes::Changes;
 use crate::engine::Engine;
-use crate::stored_bytes::stored_bytes;
+use crate::write::stored_bytes;
 use dconf_layers::Layer;
 use dconf_path::KeyPath;
 use gv_tree::Tree;

@@ -1,7 +1,8 @@
 //! Changes of the first layer.
-ghost use Rattle.std.specs.Prelude.{◌≡◌, true, false, Ok, Err, Some, None, OnOk, OnErr, IfErr};
+ghost use Rattle.std.specs.Prelude.{◌≡◌, true, false, Ok, Err, Some, None, OnOk, OnErr, IfErr, IfOk};
 ghost use Rattle.refused.specs.Faults.{OfFault};
 ghost use Rattle.gv_tree.specs.Wholes.{IsWhole};
+ghost use Rattle.dconf_model.specs.Values.{stored, is_storable};
 ghost use Rattle.dconf_path.specs.Paths.{key_text};
 ghost use Rattle.dconf_model.specs.Changes.{apply, Change.set_value, Change.reset_value, Change.load_values, first_locked, paths_of, all_storable, Refusal.too_large};
 ghost use Rattle.dconf_engine.specs.ChangeFaults.{refusal_of, Refuses, path_refusal, rows_refusal};
@@ -11,9 +12,11 @@ ghost use Rattle.dconf_engine.specs.Unsaved.{and_rows};
 use crate::change_fault::{ChangeFault, ChangeFlaw};
 use crate::changes::Changes;
 use crate::engine::Engine;
-use crate::stored_bytes::stored_bytes;
 use dconf_path::KeyPath;
+use gv_build::variant_bytes;
 use gv_tree::Tree;
+use refused::Refused;
+use std::alloc::Global;
 
 impl<'a> Engine<'a> {
     /// Sets the value of a key.
@@ -120,4 +123,16 @@ impl<'a> Engine<'a> {
         }
         Ok(())
     }
+}
+
+/// The bytes of a value as it is stored: those of a variant that holds it.
+///
+/// `TooLarge` comes exactly where it may not be stored, and `Memory` where a growth is refused. It writes each byte once.
+pub(crate) fn stored_bytes(alloc: Global, value: &Tree) -> Result<Vec<u8>, ChangeFault>
+    ensures bytes { IfOk result (λ bytes. bytes.items ≡ stored value.now) }
+    ensures whole { OnOk result (IsWhole value.now) }
+    ensures storable { OnOk result (is_storable value.now ≡ true) }
+    ensures fault { IfErr result (OfFault (λ e. (refusal_of e ≡ too_large) × (is_storable value.now ≡ false))) }
+{
+    variant_bytes(alloc, value).map_err(Refused::into_fault)
 }
