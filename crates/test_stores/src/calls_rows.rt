@@ -146,6 +146,11 @@ fn each_row_of_the_calls_is_so(rt: HostRuntime) -> Result<(), Fail> {
         table(rt.alloc(), &mut of, rows)?;
     }
     let (memory, deep) = (PrintFault::Memory, PrintFault::Fault(PrintFlaw::TooLarge));
-    assert!(rt; (Unprinted::Value(memory).number(), Unprinted::Value(deep).number()) == (1, 17));
+    assert!(rt;
+        (
+            Unprinted::Value(memory).number(),
+            Unprinted::Value(deep).number()
+        ) == (1, 17)
+    );
     Ok(())
 }
