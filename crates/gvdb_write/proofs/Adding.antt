@@ -16,8 +16,7 @@ use Rattle.dconf_model.proofs.NameOrder.{before_longer}
 use Rattle.gvdb_write.specs.declared.names.Content.{Content}
 use Rattle.gvdb_write.specs.declared.names.Content.TheVariants.{Value, List as Listed}
 use Rattle.gvdb_write.specs.declared.names.Named.{Named}
-use Rattle.gvdb_write.specs.PlanWords.{kind_of, entry_of}
-use Rattle.gvdb_write.specs.Names.{named, name_at, kind_at, IsBefore, HasNoSlash, EndsAs, IsFit, NameHasParent, ArePlaced, AreGood, IsDirectoryAt, IsBeyond, last_name, IsNewDirectory, IsAdded}
+use Rattle.gvdb_write.specs.PlanWords.{kind_of, entry_of, named, name_at, kind_at, IsBefore, HasNoSlash, EndsAs, IsFit, NameHasParent, ArePlaced, AreGood, IsDirectoryAt, IsBeyond, last_name, IsNewDirectory, IsAdded}
 use Rattle.gvdb_write.proofs.PathTexts.{IsText}
 use Rattle.gvdb_write.proofs.PushedNames.{kept, pushed, last_pushed, AreGoodBut, placed_within, before_last, good_push, none_missing, all_good, directory_kept}
 

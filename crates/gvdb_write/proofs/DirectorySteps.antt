@@ -8,8 +8,7 @@ use Rattle.std.proofs.lemmas.Bool.Decides.{Decides-eqb}
 use Rattle.std.proofs.lemmas.Slice.Eq.{starts_is}
 use Rattle.dconf_model.specs.Table.{list_kind}
 use Rattle.gvdb_write.specs.declared.names.Named.{Named}
-use Rattle.gvdb_write.specs.PlanWords.{kind_of}
-use Rattle.gvdb_write.specs.Names.{named, name_at, kind_at, IsSlash, HasNoSlash, EndsAs, LiesIn, NameHasParent, ArePlaced, IsDirectoryAt}
+use Rattle.gvdb_write.specs.PlanWords.{kind_of, named, name_at, kind_at, IsSlash, HasNoSlash, EndsAs, LiesIn, NameHasParent, ArePlaced, IsDirectoryAt}
 
 -- a list whose name begins another; where that has a slash up to which it is as the text, this has it too
 pub record IsUpFrom (names : List Named) (name text : List ℕ) (at : ℕ) : Type 0 where

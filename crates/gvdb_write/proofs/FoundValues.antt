@@ -9,9 +9,8 @@ use Rattle.dconf_model.specs.Plans.{with_new}
 use Rattle.gvdb_write.specs.declared.names.Content.{Content}
 use Rattle.gvdb_write.specs.declared.names.Content.TheVariants.{Value, List as Listed, Locks}
 use Rattle.gvdb_write.specs.declared.names.Named.{Named}
-use Rattle.gvdb_write.specs.Names.{named, kind_at}
-use Rattle.gvdb_write.specs.PlanWords.{kind_of, content_bytes, no_name}
-use Rattle.gvdb_write.specs.Contents.{own_value, own_values, HavePlaces}
+use Rattle.gvdb_write.specs.PlanWords.{named, kind_at, kind_of, content_bytes, no_name}
+use Rattle.gvdb_write.specs.LayoutParts.{own_value, own_values, HavePlaces}
 use Rattle.std.specs.List.{list_any}
 use Rattle.std.specs.Str.{bytes_eq}
 use Rattle.gvdb_write.proofs.ValuePlaces.{there}

@@ -1,5 +1,5 @@
 -- The entries of a map in order: each path has its bytes.
-use Rattle.std.proofs.Common.{ℕ, ◌≡◌, ◌<◌, ◌+◌, drop, zero, suc, Bool, true, false, cond, List, [], ◌∷◌, length, get_or, Some, refl, sym, ◌∙◌, ap, subst, arith}
+use Rattle.std.proofs.Common.{ℕ, ◌≡◌, ◌<◌, ◌+◌, drop, zero, suc, Bool, true, false, cond, List, [], ◌∷◌, length, get_or, Some, refl, sym, ◌∙◌, ap, subst, arith, map}
 use Rattle.std.specs.Prelude.{IsTrue}
 use Rattle.std.specs.Cmp.{eq_by_cmp_equiv}
 use Rattle.std.specs.Cmp.Lexicographic.{slice_cmp}
@@ -13,9 +13,21 @@ use Rattle.std.proofs.lemmas.Cmp.{nat_list_cmp_total}
 use Rattle.std.proofs.lemmas.List.Elements.{All-from_get_or, All-head, All-rest}
 use Rattle.dconf_model.specs.Paths.{is_key_path}
 use Rattle.dconf_model.specs.Settings.{AtPaths}
-use Rattle.gvdb_write.specs.Maps.{AreHeld, AreKeyPaths, AreSorted, lent_entries, path_and_bytes, paths_of}
-use Rattle.gvdb_write.specs.Rows.{Entry, LentEntry}
+use Rattle.gvdb_write.specs.Maps.{AreKeyPaths, AreSorted, lent_entries, path_and_bytes, Entry}
 use Rattle.std.proofs.lemmas.List.{drop_more}
+use Rattle.std.specs.List.{All}
+use Rattle.std.specs.Borrow.{Bor}
+
+abbrev pub LentEntry : Type 0
+LentEntry = Bor (List ℕ) × Bor (List ℕ)
+
+-- the paths of entries
+abbrev pub paths_of : List (List ℕ × List ℕ) → List (List ℕ)
+paths_of es = map (λ e. e.0) es
+
+-- each path has these bytes
+abbrev pub AreHeld : AtPaths (List ℕ) → List (List ℕ × List ℕ) → Type 0
+AreHeld values es = All (λ e. get values e.0 ≡ Some e.1) es
 
 no_entry : List ℕ × List ℕ
 no_entry = ([], [])

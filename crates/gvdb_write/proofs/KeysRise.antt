@@ -1,5 +1,5 @@
 -- The paths at which something is kept are in the order of their bytes.
-use Rattle.std.proofs.Common.{◌≡◌, ◌<◌, ◌+◌, ℕ, zero, suc, Bool, true, false, T, List, [], ◌∷◌, ◌++◌, length, get_or, map, refl, sym, ap, ◌∙◌, subst, arith, length-append}
+use Rattle.std.proofs.Common.{◌≡◌, ◌<◌, ◌+◌, ℕ, zero, suc, Bool, true, false, T, List, [], ◌∷◌, ◌++◌, length, get_or, map, refl, sym, ap, ◌∙◌, arith, length-append}
 use Rattle.std.specs.Prelude.{IsTrue, Contains}
 use Rattle.std.specs.Cmp.Lexicographic.{slice_cmp}
 use Rattle.std.specs.Cmp.{eq_by_cmp_equiv}
@@ -11,10 +11,8 @@ use Rattle.std.proofs.lemmas.Cmp.{nat_list_cmp_total}
 use Rattle.std.proofs.lemmas.List.{get_or_at, get_or_default}
 use Rattle.std.proofs.lemmas.Map.Views.{tells_apart, Contains-from_any, list_any-from_Contains}
 use Rattle.dconf_model.proofs.RisingTexts.{less_of}
-use Rattle.dconf_model.specs.Settings.{AtPaths, Settings, IsSettings}
-use Rattle.dconf_model.specs.Paths.{is_path, is_key_path}
-use Rattle.gvdb_write.specs.Maps.{AreKeyPaths, ArePaths}
-use Rattle.gvdb_write.specs.Names.{IsBefore}
+use Rattle.dconf_model.specs.Settings.{AtPaths}
+use Rattle.gvdb_write.specs.PlanWords.{IsBefore}
 
 -- each path of these precedes the next ones
 pub record Rise (paths : List (List ℕ)) : Type 0 where
@@ -65,10 +63,3 @@ pub kept_at : {X : Type 0} (m : AtPaths X) (path : List ℕ) → IsTrue (contain
 kept_at m path kept =
     let found = Contains-from_any (tells_apart (slice_cmp-IsAntisymmetric nat_cmp-IsAntisymmetric)) path (keys m) (sym (contains_key-keys m path) ∙ kept) in
     (found.0, found.1, get_or_default (keys m) found.0 [] path found.1 ∙ found.2)
-
--- settings whose listed paths are those of keys, and whose listed locks are paths
-pub are_settings : (s : Settings) → AreKeyPaths (keys s.values) → ArePaths (keys s.locks) → IsSettings s
-are_settings s values locks = record {
-  valued = λ path kept. let at = kept_at s.values path kept in subst (λ (x : List ℕ). IsTrue (is_key_path x)) at.2 (values at.0 [] at.1);
-  locked = λ path kept. let at = kept_at s.locks path kept in subst (λ (x : List ℕ). IsTrue (is_path x)) at.2 (locks at.0 [] at.1);
-}

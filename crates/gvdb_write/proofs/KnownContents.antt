@@ -13,14 +13,9 @@ use Rattle.gvdb_write.specs.declared.names.Content.{Content}
 use Rattle.gvdb_write.specs.declared.names.Content.TheVariants.{Value, List as Listed, Locks}
 use Rattle.gvdb_write.specs.declared.names.Named.{Named}
 use Rattle.gvdb_write.specs.declared.table.TablePlan.{TablePlan}
-use Rattle.gvdb_write.specs.Names.{named, kind_at}
-use Rattle.gvdb_write.specs.PlanWords.{kind_of, entries_of, children_of, plan_of}
-use Rattle.gvdb_write.specs.LayoutParts.{CanBeLaid, AreLocks, values_at}
-use Rattle.gvdb_write.specs.Layouts.{AreContentsOf, IsLayoutOf}
-use Rattle.gvdb_write.specs.Values.{bytes_of_each}
-use Rattle.gvdb_write.specs.CursorPlaces.{laid_end}
-use Rattle.gvdb_write.specs.ContentPlaces.{CanPoint, CanPointAt, content_pointer}
-use Rattle.gvdb_write.specs.Contents.{pointer_at, IsShort, HavePlaces, ArePointers}
+use Rattle.gvdb_write.specs.PlanWords.{named, kind_at, kind_of, entries_of, children_of, plan_of}
+use Rattle.gvdb_write.specs.LayoutParts.{CanBeLaid, AreLocks, values_at, laid_end, bytes_of_each, pointer_at, IsShort, HavePlaces, ArePointers, CanPoint, CanPointAt, content_pointer}
+use Rattle.gvdb_write.specs.PlannedTables.{AreContentsOf, IsLayoutOf}
 use Rattle.gvdb_write.proofs.LaidValues.{pointers_short}
 use Rattle.gvdb_write.proofs.LayoutEnds.{root_ends}
 

@@ -12,11 +12,8 @@ use Rattle.gvdb_write.specs.declared.layout.Pointer.{Pointer}
 use Rattle.gvdb_write.specs.declared.names.Content.{Content}
 use Rattle.gvdb_write.specs.declared.names.Content.TheVariants.{Value, List as Listed, Locks}
 use Rattle.gvdb_write.specs.declared.names.Named.{Named}
-use Rattle.gvdb_write.specs.ContentPlaces.{content_pointer}
-use Rattle.gvdb_write.specs.Contents.{pointer_at}
-use Rattle.gvdb_write.specs.LayoutParts.{row, HasPointer, IsRecordOf, AreNumbersOf}
-use Rattle.gvdb_write.specs.Names.{named, name_at}
-use Rattle.gvdb_write.specs.PlanWords.{kind_of, entries_of}
+use Rattle.gvdb_write.specs.LayoutParts.{content_pointer, pointer_at, row, HasPointer, IsRecordOf, AreNumbersOf}
+use Rattle.gvdb_write.specs.PlanWords.{named, name_at, kind_of, entries_of}
 use Rattle.gvdb_write.specs.WrittenParts.{HasRecords, records_of}
 use Rattle.dconf_model.specs.Plans.{keys_end}
 use Rattle.dconf_model.proofs.PlanEnds.{keys_grow}

@@ -11,8 +11,7 @@ use Rattle.refused.specs.declared.Refused.{Refused}
 use Rattle.refused.specs.declared.Refused.TheVariants.{Fault, Memory}
 use Rattle.gvdb_write.specs.declared.write_fault.TooBig.{TooBig}
 use Rattle.gvdb_write.specs.Limits.{IsPast, IsOver}
-use Rattle.gvdb_write.specs.LayoutParts.{value_start}
-use Rattle.gvdb_write.specs.Contents.{pointer_at, IsShort, ArePointers}
+use Rattle.gvdb_write.specs.LayoutParts.{value_start, pointer_at, IsShort, ArePointers}
 use Rattle.gvdb_write.proofs.WithValues.{prefix_ends_below}
 
 -- so many values are laid, and end there

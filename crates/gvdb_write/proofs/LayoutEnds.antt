@@ -1,17 +1,19 @@
 -- Where the parts of a layout end is where its plan says.
 use Rattle.std.proofs.lemmas.Grind.{common_steps}
-use Rattle.std.proofs.Common.{ℕ, ◌≡◌, ◌<◌, ◌≤◌, ◌+◌, List, length, refl, sym, ap, ◌∙◌, arith}
+use Rattle.std.proofs.Common.{ℕ, ◌≡◌, ◌<◌, ◌≤◌, ◌+◌, List, length, refl, sym, ap, ◌∙◌, arith, ◌*◌}
 use Rattle.gv_model.specs.Layout.{round_up}
 use Rattle.dconf_model.specs.Table.{list_kind}
-use Rattle.dconf_model.specs.Entries.{EachEntry, IsRootEntry, AreChildren}
+use Rattle.dconf_model.specs.Entries.{EachEntry, IsRootEntry, AreChildren, Children}
 use Rattle.dconf_model.specs.Plans.{size_of_table, keys_end, root_end, locks_end, values_end, length_of, once_each, all_values}
 use Rattle.dconf_model.proofs.PlanEnds.{lists_end_is, locks_rise}
 use Rattle.gvdb_write.specs.declared.table.TablePlan.{TablePlan}
-use Rattle.gvdb_write.specs.Names.{kind_at}
-use Rattle.gvdb_write.specs.PlanWords.{entries_of, children_of, plan_of}
-use Rattle.gvdb_write.specs.LayoutParts.{CanBeLaid, root_keys_at}
-use Rattle.gvdb_write.specs.CursorPlaces.{table_end, laid_end, all_lists_end}
+use Rattle.gvdb_write.specs.PlanWords.{kind_at, entries_of, children_of, plan_of}
+use Rattle.gvdb_write.specs.LayoutParts.{CanBeLaid, root_keys_at, table_end, laid_end}
 use Rattle.gvdb_write.proofs.WithValues.{values_rise}
+
+-- where all lists end
+abbrev pub all_lists_end : ℕ → Children → ℕ
+all_lists_end at c = round_up 4 at + 4 * c.count
 
 -- a header ends at a multiple of 4
 pub header_end : round_up 4 24 ≡ 24

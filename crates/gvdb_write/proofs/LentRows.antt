@@ -5,8 +5,8 @@ use Rattle.std.specs.declared.string.String.{String}
 use Rattle.std.specs.String.{string_bytes}
 use Rattle.std.proofs.lemmas.List.{append-nil, append_assoc, drop_all, drop_more, map-append}
 use Rattle.dconf_model.specs.Order.{in_order}
-use Rattle.gvdb_write.specs.Maps.{lent_entries, path_and_bytes, value_entries}
-use Rattle.gvdb_write.specs.Rows.{Entry, LentEntry, StandForSame, kept, values_after}
+use Rattle.gvdb_write.specs.Maps.{lent_entries, path_and_bytes, value_entries, Entry, StandForSame, kept, values_after}
+use Rattle.gvdb_write.proofs.HeldEntries.{LentEntry}
 
 abbrev Row : Type 0
 Row = String Global × Vec ℕ Global

@@ -11,6 +11,7 @@ pub mod Adding
 pub mod ItemOrders
 pub mod KeysRise
 pub mod RootNames
+pub mod SortedEntries
 pub mod TableOrder
 pub mod NamesEntries
 pub mod TablePlans

@@ -10,8 +10,7 @@ use Rattle.dconf_model.specs.Settings.{Settings}
 use Rattle.dconf_model.specs.Table.{value_kind}
 use Rattle.gvdb_write.specs.declared.names.Content.{Content}
 use Rattle.gvdb_write.specs.declared.names.Named.{Named}
-use Rattle.gvdb_write.specs.PlanWords.{kind_of, content_bytes, no_name, entry_of}
-use Rattle.gvdb_write.specs.Names.{named, IsLockNamed, AreLockNames}
+use Rattle.gvdb_write.specs.PlanWords.{kind_of, content_bytes, no_name, entry_of, named, IsLockNamed, AreLockNames}
 use Rattle.gvdb_write.proofs.ItemOrders.{each_more}
 
 -- a name without a directory, with the value at a lock

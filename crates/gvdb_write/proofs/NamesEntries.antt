@@ -13,8 +13,7 @@ use Rattle.dconf_model.specs.Entries.{IsSpelled, IsEntry, AreEntries, IsPartEntr
 use Rattle.dconf_model.specs.Plans.{IsDirectoryOf, IsRootName}
 use Rattle.dconf_model.specs.Plans.IsRootName.{top, key, directory, locks}
 use Rattle.gvdb_write.specs.declared.names.Named.{Named}
-use Rattle.gvdb_write.specs.PlanWords.{entry_of, entries_of}
-use Rattle.gvdb_write.specs.Names.{named, name_at, kind_at, IsSlash, EndsAs, IsFit, NameHasParent, IsPlaced, ArePlaced, AreAscending, AreGood, IsThere, AreNamesOf}
+use Rattle.gvdb_write.specs.PlanWords.{entry_of, entries_of, named, name_at, kind_at, IsSlash, EndsAs, IsFit, NameHasParent, IsPlaced, ArePlaced, AreAscending, AreGood, IsThere, AreNamesOf}
 use Rattle.gvdb_write.proofs.PathTexts.{end_is}
 use Rattle.gvdb_write.proofs.KeysRise.{kept_at}
 use Rattle.std.specs.Prelude.{IsTrue}

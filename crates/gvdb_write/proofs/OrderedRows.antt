@@ -24,8 +24,7 @@ use Rattle.dconf_model.proofs.OrderLaws.{order_is_stable}
 use Rattle.dconf_model.proofs.PathMaps.{get_inserted}
 use Rattle.dconf_model.proofs.RisingTexts.{IsLess, less_of, never_less}
 use Rattle.dconf_model.proofs.SameBytes.{path_itself, same_or_not, same_path}
-use Rattle.gvdb_write.specs.Maps.{AreSorted, locks_of, sorted_settings, value_entries}
-use Rattle.gvdb_write.specs.Rows.{Entry, StandForSame, kept, kept_from, settings_of_rows, values_after}
+use Rattle.gvdb_write.specs.Maps.{AreSorted, locks_of, sorted_settings, value_entries, Entry, StandForSame, kept, kept_from, settings_of_rows, values_after}
 
 abbrev after : AtPaths (List ℕ) → List Entry → AtPaths (List ℕ)
 after m es = fold (λ m e. insert m e.0 e.1) m es

@@ -12,14 +12,13 @@ use Rattle.dconf_model.proofs.PlanLocks.{table_has_locks}
 use Rattle.gvdb_format.specs.declared.record.ItemRecord.{ItemRecord as Numbers}
 use Rattle.gvdb_write.specs.declared.layout.Layout.{Layout}
 use Rattle.gvdb_write.specs.declared.table.TablePlan.{TablePlan}
-use Rattle.gvdb_write.specs.PlanWords.{children_of, plan_of}
-use Rattle.gvdb_write.specs.Names.{kind_at}
-use Rattle.gvdb_write.specs.LayoutParts.{HasPointer, HasPlacedValue, row, lists_at, locks_at, lock_keys_at, value_start, values_at}
+use Rattle.gvdb_write.specs.PlanWords.{children_of, plan_of, kind_at}
+use Rattle.gvdb_write.specs.LayoutParts.{HasPointer, row, lists_at, locks_at, lock_keys_at, value_start, values_at}
 use Rattle.gvdb_write.specs.WrittenParts.{numbers_of}
 use Rattle.gvdb_write.specs.PlannedTables.{AreTables}
 use Rattle.gvdb_write.proofs.TableWritten.{HasContentAt, length-words}
 use Rattle.gvdb_write.proofs.PartEnds.{locks_fit}
-use Rattle.gvdb_write.proofs.WholeLayout.{IsLaid}
+use Rattle.gvdb_write.proofs.WholeLayout.{IsLaid, HasPlacedValue}
 use Rattle.gvdb_write.proofs.PartPlaces.{AreParts, file_length, lists_occur, value_in}
 
 whole_8 : (n : ℕ) → round_up 8 n % 8 ≡ 0

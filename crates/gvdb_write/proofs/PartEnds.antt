@@ -14,11 +14,9 @@ use Rattle.gvdb_write.specs.declared.contents.Contents.{Contents}
 use Rattle.gvdb_write.specs.declared.layout.Layout.{Layout}
 use Rattle.gvdb_write.specs.declared.table.TablePlan.{TablePlan}
 use Rattle.gvdb_write.specs.PlanWords.{entries_of, plan_of}
-use Rattle.gvdb_write.specs.Values.{bytes_of_each}
-use Rattle.gvdb_write.specs.LayoutParts.{AreRecords, root_keys_at, lists_at, locks_at, lock_keys_at, values_at}
-use Rattle.gvdb_write.specs.Layouts.{IsLayoutOf}
+use Rattle.gvdb_write.specs.LayoutParts.{bytes_of_each, AreRecords, root_keys_at, lists_at, locks_at, lock_keys_at, values_at}
+use Rattle.gvdb_write.specs.PlannedTables.{IsLayoutOf, AreTables}
 use Rattle.gvdb_write.specs.WrittenParts.{HaveNumbers, HasItsTable, HasTable, HasTableOfLocks, numbers_of, with_padding}
-use Rattle.gvdb_write.specs.PlannedTables.{AreTables}
 use Rattle.gvdb_write.proofs.WithValues.{values_rise}
 use Rattle.gvdb_write.proofs.TableWritten.{length-padded_4, length-words, table_length, few_items}
 

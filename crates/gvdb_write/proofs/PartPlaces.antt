@@ -10,8 +10,7 @@ use Rattle.gvdb_write.specs.declared.contents.Contents.{Contents}
 use Rattle.gvdb_write.specs.declared.layout.Layout.{Layout}
 use Rattle.gvdb_write.specs.declared.table.TablePlan.{TablePlan}
 use Rattle.gvdb_write.specs.PlanWords.{plan_of}
-use Rattle.gvdb_write.specs.Values.{bytes_of_each}
-use Rattle.gvdb_write.specs.LayoutParts.{root_keys_at, lists_at, locks_at, values_at, value_start}
+use Rattle.gvdb_write.specs.LayoutParts.{bytes_of_each, root_keys_at, lists_at, locks_at, values_at, value_start}
 use Rattle.gvdb_write.specs.WrittenParts.{HasTable, HasItsTable, HasTableOfLocks, keys_bytes, records_of, numbers_of, with_padding, with_values}
 use Rattle.gvdb_write.specs.PlannedTables.{AreTables}
 use Rattle.gvdb_write.proofs.WithValues.{length-with_values, occurs_before, value_occurs}

@@ -9,7 +9,7 @@ use Rattle.std.proofs.lemmas.List.{get_or_past}
 use Rattle.std.proofs.lemmas.Slice.Eq.{ends_is}
 use Rattle.dconf_model.specs.Paths.{is_key_path, is_path, starts_with_slash, has_two_slashes, ends_with_slash, is_short, has_zero_byte}
 use Rattle.dconf_model.proofs.PathLaws.{ends_in}
-use Rattle.gvdb_write.specs.Names.{IsSlash}
+use Rattle.gvdb_write.specs.PlanWords.{IsSlash}
 
 pub record IsPathText (text : List ℕ) : Type 0 where
   pub first : IsSlash text 0

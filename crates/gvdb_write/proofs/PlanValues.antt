@@ -9,10 +9,8 @@ use Rattle.gvdb_write.specs.declared.names.Content.{Content}
 use Rattle.gvdb_write.specs.declared.names.Content.TheVariants.{Value, List as Listed, Locks}
 use Rattle.gvdb_write.specs.declared.names.Named.{Named}
 use Rattle.gvdb_write.specs.declared.table.TablePlan.{TablePlan}
-use Rattle.gvdb_write.specs.LayoutParts.{AreLocks}
-use Rattle.gvdb_write.specs.Names.{named, kind_at}
-use Rattle.gvdb_write.specs.PlanWords.{kind_of, content_bytes, plan_of}
-use Rattle.gvdb_write.specs.Contents.{own_value, own_values}
+use Rattle.gvdb_write.specs.LayoutParts.{AreLocks, own_value, own_values}
+use Rattle.gvdb_write.specs.PlanWords.{named, kind_at, kind_of, content_bytes, plan_of}
 use Rattle.gvdb_write.proofs.FoundValues.{twice_is_once, values_more}
 
 -- ---- the values of the root table

@@ -7,8 +7,7 @@ use Rattle.std.proofs.lemmas.Cmp.{nat_list_cmp_total}
 use Rattle.dconf_model.specs.Table.{list_kind}
 use Rattle.dconf_model.specs.Entries.{IsTopEntry}
 use Rattle.gvdb_write.specs.declared.names.Named.{Named}
-use Rattle.gvdb_write.specs.PlanWords.{kind_of, entry_of, no_name}
-use Rattle.gvdb_write.specs.Names.{named, name_at, kind_at, IsBefore, IsFit, LiesIn, NameHasParent, IsPlaced, ArePlaced, AreAscending, HasChild, AreGood, IsDirectoryAt, last_name}
+use Rattle.gvdb_write.specs.PlanWords.{kind_of, entry_of, no_name, named, name_at, kind_at, IsBefore, IsFit, LiesIn, NameHasParent, IsPlaced, ArePlaced, AreAscending, HasChild, AreGood, IsDirectoryAt, last_name}
 
 pub kept : (names more : List Named) (i : ℕ) → i < length names → named (names ++ more) i ≡ named names i
 kept names more i here = get_or_append_left names more no_name i here

@@ -12,8 +12,7 @@ use Rattle.dconf_model.specs.Plans.IsRootName.{key, directory, top, locks}
 use Rattle.dconf_model.proofs.NameOrder.{before_prefix}
 use Rattle.dconf_model.proofs.PathLaws.{ends_in, slash_is_ascii, slash_no_zero}
 use Rattle.gvdb_write.specs.declared.names.Named.{Named}
-use Rattle.gvdb_write.specs.PlanWords.{kind_of, entry_of}
-use Rattle.gvdb_write.specs.Names.{name_at, IsBefore, IsSlash, AreRootNames, HoldsValue, HoldValues, IsThere, IsDirectoryAt, IsBeyond, last_name, IsNewDirectory, IsAdded, AreNamesWith, AreNamesOf, IsFit, AreGood}
+use Rattle.gvdb_write.specs.PlanWords.{kind_of, entry_of, name_at, IsBefore, IsSlash, AreRootNames, HoldsValue, HoldValues, IsThere, IsDirectoryAt, IsBeyond, last_name, IsNewDirectory, IsAdded, AreNamesWith, AreNamesOf, IsFit, AreGood}
 use Rattle.gvdb_write.proofs.PathTexts.{IsText, text_of_key}
 use Rattle.gvdb_write.proofs.PushedNames.{pushed, last_pushed, placed_top, good_push, none_missing, all_good}
 use Rattle.gvdb_write.proofs.KeysRise.{Rise, rise_rest, first_before, listed_is_kept, keys_rise, kept_at}

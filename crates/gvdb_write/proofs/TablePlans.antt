@@ -14,10 +14,8 @@ use Rattle.dconf_model.specs.Plans.{IsRootName, IsLockName, AreNamed, Precedes, 
 use Rattle.dconf_model.proofs.Renumbered.{name_at as name_by_number, kind_at as kind_by_number, name_is, entries_renumbered, root_renumbered}
 use Rattle.gvdb_write.specs.declared.names.Named.{Named}
 use Rattle.gvdb_write.specs.declared.table.TablePlan.{TablePlan}
-use Rattle.gvdb_write.specs.Groups.{ComesFirst}
-use Rattle.gvdb_write.specs.PlanWords.{kind_of, content_bytes, no_name, entries_of, plan_of}
-use Rattle.gvdb_write.specs.Names.{named, name_at, IsBefore, AreAscending, AreNamesOf, AreLockNames}
-use Rattle.gvdb_write.specs.ItemOrder.{IsTableOf}
+use Rattle.gvdb_write.specs.ItemOrder.{ComesFirst, IsTableOf}
+use Rattle.gvdb_write.specs.PlanWords.{kind_of, content_bytes, no_name, entries_of, plan_of, named, name_at, IsBefore, AreAscending, AreNamesOf, AreLockNames}
 use Rattle.gvdb_write.proofs.NamesEntries.{are_entries, once_each, are_root_entries, path_there, all_there}
 use Rattle.gvdb_write.proofs.PathTexts.{IsPathText, path_text}
 use Rattle.gvdb_write.proofs.KeysRise.{keys_rise, kept_is_listed, kept_at}

@@ -20,8 +20,7 @@ use Rattle.gvdb_format.specs.declared.record.ItemRecord.{ItemRecord as Numbers}
 use Rattle.gvdb_write.specs.declared.names.Named.{Named}
 use Rattle.gvdb_write.specs.declared.table.TablePlan.{TablePlan}
 use Rattle.gvdb_format.specs.ItemRecords.{record_of}
-use Rattle.gvdb_write.specs.PlanWords.{entries_of}
-use Rattle.gvdb_write.specs.Names.{named, name_at, kind_at}
+use Rattle.gvdb_write.specs.PlanWords.{entries_of, named, name_at, kind_at}
 use Rattle.gvdb_write.specs.LayoutParts.{AreRecords, IsRecordOf, row, no_numbers}
 use Rattle.gvdb_write.specs.WrittenParts.{HaveFourBytes, HaveBits, HasTable, keys_bytes, records_of, with_padding}
 use Rattle.gvdb_write.specs.PlannedTables.{AreItems}

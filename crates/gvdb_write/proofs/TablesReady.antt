@@ -18,8 +18,7 @@ use Rattle.refused.specs.declared.Refused.{Refused}
 use Rattle.refused.proofs.Faults.{OfFault-weaker}
 use Rattle.gvdb_write.specs.declared.write_fault.TooBig.{TooBig}
 use Rattle.gvdb_write.specs.Limits.{IsOver, IsRefusal}
-use Rattle.gvdb_write.specs.PlanWords.{content_bytes, entries_of, plan_of}
-use Rattle.gvdb_write.specs.Names.{named, name_at, kind_at, IsThere, AreNamesOf, AreLockNames}
+use Rattle.gvdb_write.specs.PlanWords.{content_bytes, entries_of, plan_of, named, name_at, kind_at, IsThere, AreNamesOf, AreLockNames}
 use Rattle.gvdb_write.specs.ItemOrder.{IsTableOf}
 use Rattle.gvdb_write.specs.LayoutParts.{CanBeLaid, AreLocks}
 use Rattle.gvdb_write.specs.PlannedTables.{AreItems, AreReady, IsFileOf}

@@ -13,7 +13,7 @@ use Rattle.std.proofs.lemmas.Option.{same_Some}
 use Rattle.dconf_model.specs.Plans.{with_new}
 use Rattle.dconf_model.proofs.SameBytes.{itself, path_itself, other_path, same_path as same_bytes}
 use Rattle.dconf_model.specs.Bytes.{hash_of}
-use Rattle.gvdb_write.specs.Values.{ArePlaces, Others, by_bytes, place_by, slot_of}
+use Rattle.gvdb_write.specs.LayoutParts.{ArePlaces, Others, by_bytes, place_by, slot_of}
 use Rattle.gvdb_write.proofs.Read.{same_path}
 
 -- a value that has no place is not there, and one that has a place is there

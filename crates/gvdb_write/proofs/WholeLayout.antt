@@ -8,15 +8,20 @@ use Rattle.gvdb_write.specs.declared.layout.Layout.{Layout}
 use Rattle.gvdb_write.specs.declared.layout.Pointer.{Pointer}
 use Rattle.gvdb_write.specs.declared.names.Named.{Named}
 use Rattle.gvdb_write.specs.declared.table.TablePlan.{TablePlan}
-use Rattle.gvdb_write.specs.Names.{named, kind_at}
-use Rattle.gvdb_write.specs.PlanWords.{plan_of, content_bytes}
-use Rattle.gvdb_write.specs.LayoutParts.{AreRecords, AreLocks, HasPlacedValue, HasPointer, root_keys_at, lists_at, locks_at, lock_keys_at, values_at, row, value_start}
-use Rattle.gvdb_write.specs.Layouts.{AreContentsOf, IsLayoutOf}
-use Rattle.gvdb_write.specs.ContentPlaces.{ArePointed}
-use Rattle.gvdb_write.specs.Contents.{HavePlaces, ArePointers}
+use Rattle.gvdb_write.specs.PlanWords.{named, kind_at, plan_of, content_bytes}
+use Rattle.gvdb_write.specs.LayoutParts.{AreRecords, AreLocks, HasPointer, root_keys_at, lists_at, locks_at, lock_keys_at, values_at, row, value_start, ArePointed, HavePlaces, ArePointers}
+use Rattle.gvdb_write.specs.PlannedTables.{AreContentsOf, IsLayoutOf}
 use Rattle.gvdb_write.specs.WrittenParts.{AreRowsOf}
 use Rattle.gvdb_write.proofs.KnownContents.{places_known, pointers_known}
 use Rattle.gvdb_write.proofs.LaidRows.{of_list, of_table, of_value}
+use Rattle.std.specs.Prelude.{slice_index_or, []}
+
+-- the content is that value, at one of its places
+pub record HasPlacedValue (at : ℕ) (values : List (List ℕ)) (value : List ℕ) (r : Numbers) : Type 0 where
+  pub place : ℕ
+  pub within : place < length values
+  pub is : slice_index_or values place [] ≡ value
+  pub pointed : HasPointer r (value_start at values place) (value_start at values place + length value)
 
 -- each item's value is where its row says
 pub value_placed : (items : List Named) (c : Contents) (at : ℕ) (rows : List Numbers) (values : List (List ℕ))

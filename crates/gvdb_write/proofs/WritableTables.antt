@@ -5,8 +5,7 @@ use Rattle.gvdb_write.specs.declared.contents.Contents.{Contents}
 use Rattle.gvdb_write.specs.declared.layout.Layout.{Layout}
 use Rattle.gvdb_write.specs.declared.table.TablePlan.{TablePlan}
 use Rattle.dconf_model.specs.Settings.{Settings}
-use Rattle.gvdb_write.specs.Layouts.{AreContentsOf, IsLayoutOf}
-use Rattle.gvdb_write.specs.PlannedTables.{AreReady}
+use Rattle.gvdb_write.specs.PlannedTables.{AreContentsOf, IsLayoutOf, AreReady}
 use Rattle.gvdb_write.specs.WrittenParts.{CanBeWritten}
 use Rattle.gvdb_write.proofs.KnownContents.{contents_known, root_lists, lock_lists}
 use Rattle.gvdb_write.proofs.PartEnds.{few_root, few_locks, root_keys_fit, lists_fit}

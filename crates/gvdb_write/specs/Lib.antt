@@ -1,17 +1,9 @@
 pub mod Maps
 pub mod PathsLeft
 pub mod Limits
-pub mod Groups
 pub mod PlanWords
-pub mod Names
 pub mod ItemOrder
-pub mod Values
 pub mod WrittenParts
 pub mod LayoutParts
-pub mod Contents
-pub mod ContentPlaces
-pub mod CursorPlaces
-pub mod Layouts
 pub mod PlannedTables
-pub mod Rows
 pub mod Salvaged

@@ -10,9 +10,7 @@ use Rattle.gvdb_write.specs.declared.contents.Contents.{Contents}
 use Rattle.gvdb_write.specs.declared.names.Named.{Named}
 use Rattle.gvdb_write.specs.declared.table.TablePlan.{TablePlan}
 use Rattle.gvdb_format.specs.ItemRecords.{record_of}
-use Rattle.gvdb_write.specs.ContentPlaces.{ArePointed, CanPoint}
-use Rattle.gvdb_write.specs.CursorPlaces.{all_keys_end}
-use Rattle.gvdb_write.specs.LayoutParts.{AreRecords, CanBeLaid}
+use Rattle.gvdb_write.specs.LayoutParts.{ArePointed, CanPoint, all_keys_end, AreRecords, CanBeLaid}
 use Rattle.gvdb_write.specs.PlanWords.{no_name}
 
 -- each has four bytes

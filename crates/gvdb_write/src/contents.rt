@@ -2,9 +2,7 @@
 ghost use Rattle.std.specs.Prelude.{ℕ, ◌≡◌, ◌≤◌, Some, length};
 ghost use Rattle.gvdb_write.specs.Limits.{limit};
 ghost use Rattle.gvdb_write.specs.PlanWords.{kind_of};
-ghost use Rattle.gvdb_write.specs.LayoutParts.{AreNumbersOf, HasPointer};
-ghost use Rattle.gvdb_write.specs.Contents.{IsShort};
-ghost use Rattle.gvdb_write.specs.ContentPlaces.{CanPointAt, content_pointer};
+ghost use Rattle.gvdb_write.specs.LayoutParts.{AreNumbersOf, HasPointer, IsShort, CanPointAt, content_pointer};
 
 use crate::layout::Pointer;
 use crate::names::{Content, Named};

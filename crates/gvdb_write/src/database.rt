@@ -8,20 +8,17 @@ ghost use Rattle.dconf_model.specs.Databases.{IsDatabaseOf};
 ghost use Rattle.dconf_model.specs.Sound.{IsSound};
 ghost use Rattle.dconf_model.specs.Plans.{values_end, HoldsValues, HoldsLocks, HasLength};
 ghost use Rattle.gvdb_write.specs.Limits.{limit, IsRefusal};
-ghost use Rattle.gvdb_write.specs.Values.{bytes_of_each};
-ghost use Rattle.gvdb_write.specs.ContentPlaces.{CanPoint};
-ghost use Rattle.gvdb_write.specs.CursorPlaces.{all_keys_end};
-ghost use Rattle.gvdb_write.specs.LayoutParts.{CanBeLaid};
-ghost use Rattle.gvdb_write.specs.Layouts.{IsLayoutOf};
-ghost use Rattle.gvdb_write.specs.PlannedTables.{AreReady, IsFileOf};
+ghost use Rattle.gvdb_write.specs.Maps.{lent_entries, sorted_settings};
+ghost use Rattle.gvdb_write.specs.LayoutParts.{bytes_of_each, CanPoint, all_keys_end, CanBeLaid};
+ghost use Rattle.gvdb_write.specs.PlannedTables.{IsLayoutOf, AreReady, IsFileOf};
 ghost use Rattle.gvdb_write.specs.WrittenParts.{CanBeWritten, HaveFourBytes, HaveNumbers, HaveKeys, HaveBits, HasItsTable, HasRecords, keys_bytes, numbers_of, with_padding, with_values, HasTable, HasTableOfLocks};
 ghost use Rattle.refused.specs.declared.Refused.TheVariants.{Memory};
 
 use crate::contents::Contents;
+use crate::entries::Sorted;
 use crate::layout::{Layout, Pointer, bloom_words};
 use crate::map::Map;
 use crate::names::{Named, lock_names, root_names};
-use crate::sorted::Sorted;
 use crate::table::TablePlan;
 use crate::write_fault::WriteFault;
 use gvdb_format::{SIGNATURE, head_number, push_u32};
@@ -49,8 +46,8 @@ pub fn write(alloc: Global, map: &Map) -> Result<Vec<u8>, WriteFault>
 
 /// The same, of settings in order.
 pub(crate) fn write_sorted(alloc: Global, sorted: Sorted<'_>) -> Result<Vec<u8>, WriteFault>
-    ensures database { IfOk result (λ file. IsDatabaseOf sorted.entry file.items) }
-    ensures fault { IfErr result (IsRefusal sorted.entry) }
+    ensures database { IfOk result (λ file. IsDatabaseOf (sorted_settings (lent_entries sorted.entry.entries.items) sorted.entry.locks.now) file.items) }
+    ensures fault { IfErr result (IsRefusal (sorted_settings (lent_entries sorted.entry.entries.items) sorted.entry.locks.now)) }
 {
     let (root, locks) = tables(alloc, sorted)?;
     let layout = Layout::new(alloc, &root, &locks)?;
@@ -62,7 +59,7 @@ fn tables<'a>(
     alloc: Global,
     sorted: Sorted<'a>,
 ) -> Result<(TablePlan<'a>, TablePlan<'a>), WriteFault>
-    ensures tables { IfOk result (λ tables. AreReady sorted.entry tables.0 tables.1) }
+    ensures tables { IfOk result (λ tables. AreReady (sorted_settings (lent_entries sorted.entry.entries.items) sorted.entry.locks.now) tables.0 tables.1) }
     ensures fault { IfErr result (λ e. e ≡ Memory) }
 {
     let names = root_names(alloc, &sorted)?;

@@ -1,11 +1,20 @@
 //! Rows as entries: paths with the bytes of their values, lent, and put into order.
 ghost use Rattle.std.specs.Prelude.{◌≡◌, ◌++◌, [], IfOk, OnOk};
 ghost use Rattle.dconf_model.specs.Order.{in_order};
-ghost use Rattle.gvdb_write.specs.Maps.{AreSorted, lent_entries, value_entries};
-ghost use Rattle.gvdb_write.specs.Rows.{StandForSame, kept, values_after};
+ghost use Rattle.dconf_model.specs.Settings.{IsSettings};
+ghost use Rattle.gvdb_write.specs.Maps.{AreSorted, lent_entries, sorted_settings, value_entries, StandForSame, kept, values_after};
 
 use std::alloc::{AllocError, Global};
-use std::collections::BTreeMap;
+use std::collections::{BTreeMap, BTreeSet};
+
+/// Settings: each path that has a value, in the order of the paths' bytes, with the bytes of its value; and the paths that are locked.
+#[derive(Drop)]
+pub(crate) struct Sorted<'a> {
+    pub(crate) entries: Vec<(&'a str, &'a [u8])>,
+    pub(crate) locks: &'a BTreeSet<String>,
+    ghost settings: { IsSettings (sorted_settings (lent_entries entries.items) locks.now) },
+    ghost rising: { AreSorted (lent_entries entries.items) },
+}
 
 /// Lends rows, in their order but that those which lie side by side in one directory are in order among themselves.
 ///

@@ -6,13 +6,9 @@ ghost use Rattle.dconf_model.specs.Table.{list_kind};
 ghost use Rattle.dconf_model.specs.Entries.{EachEntry, IsRootEntry, AreChildren};
 ghost use Rattle.dconf_model.specs.Plans.{length_of, locks_end, values_end};
 ghost use Rattle.gvdb_write.specs.Limits.{limit, IsPast, IsOver};
-ghost use Rattle.gvdb_write.specs.Names.{kind_at};
-ghost use Rattle.gvdb_write.specs.PlanWords.{entries_of, children_of, plan_of};
-ghost use Rattle.gvdb_write.specs.LayoutParts.{CanBeLaid, AreLocks};
-ghost use Rattle.gvdb_write.specs.CursorPlaces.{table_end, all_keys_end, laid_end, all_lists_end};
-ghost use Rattle.gvdb_write.specs.Contents.{IsShort, ArePointers};
-ghost use Rattle.gvdb_write.specs.Layouts.{AreContentsOf, IsLayoutOf};
-ghost use Rattle.gvdb_write.specs.Values.{bytes_of_each};
+ghost use Rattle.gvdb_write.specs.PlanWords.{kind_at, entries_of, children_of, plan_of};
+ghost use Rattle.gvdb_write.specs.LayoutParts.{CanBeLaid, AreLocks, table_end, all_keys_end, laid_end, IsShort, ArePointers, bytes_of_each};
+ghost use Rattle.gvdb_write.specs.PlannedTables.{AreContentsOf, IsLayoutOf};
 
 use crate::contents::Contents;
 use crate::names::Named;

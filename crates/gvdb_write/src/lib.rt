@@ -24,7 +24,6 @@ mod map;
 mod map_builder;
 mod names;
 mod salvaged;
-mod sorted;
 mod table;
 mod values;
 mod write_fault;

@@ -1,13 +1,12 @@
 //! A map of paths to the bytes of their values, and a set of locked paths.
-ghost use Rattle.std.specs.Prelude.{◌≡◌, IsTrue, IfOk, OnOk, OnErr, option_map, string_bytes};
+ghost use Rattle.std.specs.Prelude.{◌≡◌, ℕ, List, IsTrue, IfOk, OnOk, OnErr, option_map, string_bytes};
 ghost use Rattle.std.specs.FinMap.{contains_key, get, keys, len};
-ghost use Rattle.dconf_model.specs.Paths.{is_key_path};
+ghost use Rattle.dconf_model.specs.Paths.{is_key_path, is_path};
 ghost use Rattle.dconf_model.specs.Settings.{no_settings, with_value, with_lock};
 ghost use Rattle.dconf_path.specs.Paths.{key_text, lock_text};
-ghost use Rattle.gvdb_write.specs.Maps.{AreKeyPaths, AreLocked, ArePaths, locks_of, texts};
+ghost use Rattle.gvdb_write.specs.Maps.{AreKeyPaths, ArePaths, lent_entries, locks_of, sorted_settings, texts};
 
-use crate::entries::listed;
-use crate::sorted::Sorted;
+use crate::entries::{Sorted, listed};
 use dconf_path::{KeyPath, LockPath};
 use std::alloc::{AllocError, Global};
 use std::collections::{BTreeMap, BTreeSet, btree_map, btree_set};
@@ -132,10 +131,11 @@ impl Map {
 
     /// The values in the order of their paths, and the locks.
     pub(crate) fn sorted(&self) -> Result<Sorted<'_>, AllocError>
-        ensures { IfOk result (λ sorted. sorted ≡ self.now) }
+        ensures { IfOk result (λ sorted. sorted_settings (lent_entries sorted.entries.items) sorted.locks.now ≡ self.now) }
     {
         let entries = listed(self.alloc, &self.values)?;
-        Ok(Sorted::new(entries, &self.locks))
+        let locks = &self.locks;
+        Ok(Sorted { entries, locks })
     }
 
     /// The paths that are locked, in the order of their bytes.
@@ -196,7 +196,7 @@ impl<'a> Locks<'a> {
 
     /// All of these.
     pub(crate) fn of(locks: &'a BTreeSet<String>) -> Locks<'a>
-        requires { AreLocked locks.now }
+        requires { (path : List ℕ) → IsTrue (contains_key (locks_of locks.now) path) → IsTrue (is_path path) }
         ensures { locks_left result ≡ keys (locks_of locks.entry.now) }
     {
         let rest = locks.iter();

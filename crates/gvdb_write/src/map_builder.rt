@@ -7,8 +7,7 @@ ghost use Rattle.dconf_path.specs.Paths.{lock_text};
 ghost use Rattle.gvdb_write.specs.Limits.{IsRefusal};
 
 use crate::database::write_sorted;
-use crate::entries::{last_of_each, lent, sort_by_path};
-use crate::sorted::Sorted;
+use crate::entries::{Sorted, last_of_each, lent, sort_by_path};
 use crate::write_fault::WriteFault;
 use dconf_path::LockPath;
 use std::alloc::{AllocError, Global};
@@ -28,7 +27,7 @@ pub struct MapBuilder {
 
 impl Model for MapBuilder {
     ghost use Rattle.dconf_model.specs.Settings.{IsSettings, Settings, settings_code};
-    ghost use Rattle.gvdb_write.specs.Rows.{settings_of_rows};
+    ghost use Rattle.gvdb_write.specs.Maps.{settings_of_rows};
 
     ghost Value = { Settings };
 
@@ -83,6 +82,8 @@ impl MapBuilder {
         sort_by_path(&mut rows)?;
         let entries = last_of_each(self.alloc, &rows)?;
         drop(rows);
-        write_sorted(self.alloc, Sorted::new(entries, &self.locks))
+        let locks = &self.locks;
+        let sorted = Sorted { entries, locks };
+        write_sorted(self.alloc, sorted)
     }
 }

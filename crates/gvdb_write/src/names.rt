@@ -3,13 +3,13 @@
 ghost use Rattle.std.specs.Prelude.{◌≡◌, ◌<◌, ◌+◌, ℕ, length, take, None, IfOk, IfErr, IsTrue, IsUtf8};
 ghost use Rattle.dconf_model.specs.Bytes.{hash_of};
 ghost use Rattle.dconf_model.specs.Table.{list_kind};
-ghost use Rattle.dconf_model.specs.Settings.{IsSettings};
-ghost use Rattle.gvdb_write.specs.PlanWords.{kind_of, entry_of};
+ghost use Rattle.gvdb_write.specs.Maps.{lent_entries, sorted_settings};
+ghost use Rattle.gvdb_write.specs.PlanWords.{kind_of, entry_of, ArePlaced, AreGood, IsDirectoryAt, IsBeyond, IsAdded, AreNamesOf, AreLockNames, last_name, name_at, kind_at, IsSlash};
 ghost use Rattle.dconf_model.specs.Paths.{is_key_path};
-ghost use Rattle.gvdb_write.specs.Names.{ArePlaced, AreGood, IsDirectoryAt, IsBeyond, IsAdded, AreNamesOf, AreLockNames, last_name, name_at, kind_at, IsSlash};
 ghost use Rattle.refused.specs.declared.Refused.TheVariants.{Memory};
 
-use crate::sorted::Sorted;
+use crate::entries::Sorted;
+use crate::map::Locks;
 use crate::write_fault::WriteFault;
 use gvdb_format::{LOCKS, hash, hash_with};
 use std::alloc::Global;
@@ -48,17 +48,16 @@ pub(crate) fn root_names<'a>(
     alloc: Global,
     sorted: &Sorted<'a>,
 ) -> Result<Vec<Named<'a>>, WriteFault>
-    ensures names { IfOk result (λ names. AreNamesOf sorted.now names.items) }
-    ensures settings { IfOk result (λ names. IsSettings sorted.now) }
+    ensures names { IfOk result (λ names. AreNamesOf (sorted_settings (lent_entries sorted.now.entries.items) sorted.now.locks.now) names.items) }
     ensures fault { IfErr result (λ e. e ≡ Memory) }
 {
     let mut names = Vec::new(alloc);
-    if sorted.locks().next().is_some() {
+    if Locks::of(sorted.locks).next().is_some() {
         names.push(top(LOCKS.as_bytes(), Content::Locks))?;
     }
     let mut directory = names.len();
     names.push(top(b"/", Content::List))?;
-    for &(path, value) in sorted.entries() {
+    for &(path, value) in &sorted.entries {
         let text = path.as_bytes();
         directory = innermost(&names, directory, text);
         directory = add(text, value, directory, &mut names)?;
@@ -71,11 +70,11 @@ pub(crate) fn lock_names<'a>(
     alloc: Global,
     sorted: &Sorted<'a>,
 ) -> Result<Vec<Named<'a>>, WriteFault>
-    ensures names { IfOk result (λ names. AreLockNames sorted.now names.items) }
+    ensures names { IfOk result (λ names. AreLockNames (sorted_settings (lent_entries sorted.now.entries.items) sorted.now.locks.now) names.items) }
     ensures fault { IfErr result (λ e. e ≡ Memory) }
 {
     let mut names = Vec::new(alloc);
-    for path in sorted.locks() {
+    for path in Locks::of(sorted.locks) {
         names.push(top(path.as_str().as_bytes(), Content::Value(NOTHING)))?;
     }
     Ok(names)

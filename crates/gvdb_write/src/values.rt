@@ -3,8 +3,7 @@
 //! value, and else with as many as that map is deep, whatever their hashes are.
 ghost use Rattle.std.specs.Prelude.{◌≡◌, ◌<◌, ◌≤◌, [], fold, length, slice_index_or, OnOk, IfOk};
 ghost use Rattle.dconf_model.specs.Plans.{with_new};
-ghost use Rattle.gvdb_write.specs.Contents.{own_values, HavePlaces};
-ghost use Rattle.gvdb_write.specs.Values.{bytes_of_each, place_by, ArePlaces};
+ghost use Rattle.gvdb_write.specs.LayoutParts.{own_values, HavePlaces, bytes_of_each, place_by, ArePlaces};
 
 use crate::names::{Content, Named};
 use gvdb_format::hash;

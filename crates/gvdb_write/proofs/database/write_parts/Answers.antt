@@ -1,5 +1,5 @@
 use Rattle.std.proofs.Common.{List, ℕ, sym, ap, ◌∙◌, subst, arith, Bor}
-use Rattle.gvdb_write.specs.Values.{bytes_of_each}
+use Rattle.gvdb_write.specs.LayoutParts.{bytes_of_each}
 use Rattle.gvdb_write.specs.WrittenParts.{HaveNumbers, with_values}
 use Rattle.gvdb_write.proofs.KnownContents.{contents_are}
 use Rattle.gvdb_write.proofs.PartEnds.{header_long, root_fits, have_children, lists_within, values_within, root_given, lists_given, locks_given}

@@ -2,10 +2,8 @@ use Rattle.std.proofs.Common.{ℕ, ◌≡◌, ◌≤◌, ◌<◌, List, length, 
 use Rattle.std.proofs.lemmas.List.{get_or_default}
 use Rattle.dconf_model.proofs.PlanEnds.{keys_grow}
 use Rattle.gvdb_write.specs.declared.names.Named.{Named}
-use Rattle.gvdb_write.specs.ContentPlaces.{content_pointer}
-use Rattle.gvdb_write.specs.Contents.{IsShort}
-use Rattle.gvdb_write.specs.Names.{named}
-use Rattle.gvdb_write.specs.PlanWords.{entries_of, no_name}
+use Rattle.gvdb_write.specs.LayoutParts.{content_pointer, IsShort}
+use Rattle.gvdb_write.specs.PlanWords.{named, entries_of, no_name}
 use Rattle.gvdb_write.proofs.LaidRows.{no_item, none_written, record_more, all_written}
 use Rattle.gvdb_write.proofs.database.write_records.Goals as goal
 

@@ -1,4 +1,5 @@
 use Rattle.std.proofs.lemmas.Result.{IfOk-weaker, err_from_is_err_and}
+use Rattle.gvdb_write.proofs.SortedEntries.{settings_in}
 use Rattle.gvdb_write.proofs.TablesReady.{refused, file_is_sound, file_holds_values, file_holds_locks, file_has_length, file_fits}
 use Rattle.gvdb_write.proofs.database.write_sorted.Goals as goal
 
@@ -25,7 +26,7 @@ new-requires-clause-entries c = c.in_ok-root.ensures.tables.plan.places
 pub returns-in_err-layout-clause-fault : goal.returns-in_err-layout-clause-fault
 returns-in_err-layout-clause-fault c =
     let p = err_from_is_err_and c.from_residual-in_err-layout.result c.from_residual-in_err-layout.ensures.1 in
-    rw (p.1, p.2) (refused c.args.sorted c.in_ok-root.root c.in_ok-root.locks c.in_err-layout.field-0.0 c.in_ok-root.ensures.tables.plan c.in_err-layout.ensures.fault)
+    rw (p.1, p.2) (refused (settings_in c.args.sorted) c.in_ok-root.root c.in_ok-root.locks c.in_err-layout.field-0.0 c.in_ok-root.ensures.tables.plan c.in_err-layout.ensures.fault)
 
 -- ---- the file
 
@@ -34,7 +35,7 @@ write_parts-requires-clause-tables c = (_, c.in_ok-root.ensures.tables)
 
 pub returns-clause-database : goal.returns-clause-database
 returns-clause-database c =
-    let s = c.args.sorted in
+    let s = settings_in c.args.sorted in
     let root = c.in_ok-root.root in
     let locks = c.in_ok-root.locks in
     let ready = c.in_ok-root.ensures.tables in

@@ -3,9 +3,7 @@ use Rattle.std.proofs.lemmas.Result.{on_ok_weaker}
 use Rattle.dconf_model.specs.TableBytes.{words_bytes, head_bytes, table_bytes, ItemRecord, records_bytes}
 use Rattle.gvdb_write.specs.declared.names.Named.{Named}
 use Rattle.gv_model.specs.Limits.{limit}
-use Rattle.gvdb_write.specs.ContentPlaces.{CanPoint}
-use Rattle.gvdb_write.specs.CursorPlaces.{all_keys_end}
-use Rattle.gvdb_write.specs.LayoutParts.{CanBeLaid}
+use Rattle.gvdb_write.specs.LayoutParts.{CanPoint, all_keys_end, CanBeLaid}
 use Rattle.gvdb_write.specs.WrittenParts.{AreRowsOf, HaveBits, HaveKeys, keys_bytes, records_of}
 use Rattle.gvdb_write.proofs.Pieces.{appended_of}
 use Rattle.gvdb_write.proofs.WithValues.{next_4, padded_is}

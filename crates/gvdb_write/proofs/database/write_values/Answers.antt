@@ -2,7 +2,7 @@ use Rattle.std.proofs.Common.{◌≡◌, ◌<◌, List, ℕ, ◌++◌, [], lengt
 use Rattle.std.proofs.Math.ListN.{get_or-map}
 use Rattle.std.proofs.lemmas.List.{length-map}
 use Rattle.gvdb_write.specs.WrittenParts.{with_values}
-use Rattle.gvdb_write.specs.Values.{bytes_of_each}
+use Rattle.gvdb_write.specs.LayoutParts.{bytes_of_each}
 use Rattle.gvdb_write.proofs.Pieces.{all_taken, no_bytes}
 use Rattle.gvdb_write.proofs.WithValues.{next_8, padded_is, value_appended}
 use Rattle.gvdb_write.proofs.database.write_values.Goals as goal

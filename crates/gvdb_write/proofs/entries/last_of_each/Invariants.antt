@@ -1,6 +1,5 @@
 use Rattle.std.proofs.Common.{◌≡◌, ◌++◌, drop}
-use Rattle.gvdb_write.specs.Maps.{lent_entries}
-use Rattle.gvdb_write.specs.Rows.{kept}
+use Rattle.gvdb_write.specs.Maps.{lent_entries, kept}
 use Rattle.gvdb_write.proofs.entries.last_of_each.Given as goal
 
 abbrev pub invariant-loop-i : goal.invariant-loop-i

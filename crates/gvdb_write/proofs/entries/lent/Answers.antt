@@ -1,7 +1,7 @@
 use Rattle.std.proofs.Common.{◌++◌, ◌∙◌, List, ap, arith}
-use Rattle.gvdb_write.specs.Maps.{lent_entries, value_entries}
-use Rattle.gvdb_write.specs.Rows.{LentEntry, values_after}
+use Rattle.gvdb_write.specs.Maps.{lent_entries, value_entries, values_after}
 use Rattle.gvdb_write.proofs.LentRows.{all_lent, row_lent}
+use Rattle.gvdb_write.proofs.HeldEntries.{LentEntry}
 use Rattle.gvdb_write.proofs.entries.lent.Goals as goal
 
 pub loop-path-init : goal.loop-path-init

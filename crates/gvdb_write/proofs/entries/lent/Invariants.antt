@@ -1,6 +1,5 @@
 use Rattle.std.proofs.Common.{◌≡◌, ◌++◌, drop}
-use Rattle.gvdb_write.specs.Maps.{lent_entries, value_entries}
-use Rattle.gvdb_write.specs.Rows.{values_after}
+use Rattle.gvdb_write.specs.Maps.{lent_entries, value_entries, values_after}
 use Rattle.gvdb_write.proofs.entries.lent.Given as goal
 
 abbrev pub invariant-loop-path : goal.invariant-loop-path

@@ -1,9 +1,9 @@
 use Rattle.std.proofs.Common.{◌++◌, ◌∙◌, List, ap, subst, sym}
 use Rattle.std.proofs.lemmas.List.{append-nil}
 use Rattle.gvdb_write.specs.Maps.{AreSorted, lent_entries, value_entries}
-use Rattle.gvdb_write.specs.Rows.{LentEntry}
 use Rattle.gvdb_write.proofs.LentRows.{row_listed}
 use Rattle.gvdb_write.proofs.Order.{sorted_values}
+use Rattle.gvdb_write.proofs.HeldEntries.{LentEntry}
 use Rattle.gvdb_write.proofs.entries.listed.Goals as goal
 
 pub loop-path-init : goal.loop-path-init

@@ -1,9 +1,9 @@
 use Rattle.std.proofs.Common.{◌≡◌, ◌++◌, ◌∙◌, List, ap}
 use Rattle.std.proofs.lemmas.List.{append-nil, map-append}
 use Rattle.dconf_model.specs.Order.{in_order}
-use Rattle.gvdb_write.specs.Maps.{lent_entries, path_and_bytes}
-use Rattle.gvdb_write.specs.Rows.{Entry, LentEntry, values_after}
+use Rattle.gvdb_write.specs.Maps.{lent_entries, path_and_bytes, Entry, values_after}
 use Rattle.gvdb_write.proofs.OrderedRows.{part_in_order}
+use Rattle.gvdb_write.proofs.HeldEntries.{LentEntry}
 use Rattle.gvdb_write.proofs.entries.move_sorted.Goals as goal
 
 pub returns-clause-same : goal.returns-clause-same

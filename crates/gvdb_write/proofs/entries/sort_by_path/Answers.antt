@@ -1,8 +1,8 @@
 use Rattle.std.proofs.Common.{rules, ap, ◌∙◌}
 use Rattle.std.proofs.lemmas.List.Sorted.{answers_always}
 use Rattle.dconf_model.proofs.OneSortedList.{in_order-map, sorted_is_in_order}
-use Rattle.gvdb_write.specs.Maps.{lent_entries, path_and_bytes}
-use Rattle.gvdb_write.specs.Rows.{Entry, LentEntry}
+use Rattle.gvdb_write.specs.Maps.{lent_entries, path_and_bytes, Entry}
+use Rattle.gvdb_write.proofs.HeldEntries.{LentEntry}
 use Rattle.gvdb_write.proofs.entries.sort_by_path.Goals as goal
 
 pub returns : goal.returns

@@ -2,7 +2,7 @@ use Rattle.std.proofs.Common.{rules, length, arith, subst, ◌<◌}
 use Rattle.dconf_model.proofs.PlanEnds.{keys_rise}
 use Rattle.gvdb_write.specs.PlanWords.{entries_of}
 use Rattle.gv_model.specs.Limits.{limit}
-use Rattle.gvdb_write.specs.CursorPlaces.{all_keys_end, table_end, laid_end}
+use Rattle.gvdb_write.specs.LayoutParts.{all_keys_end, table_end, laid_end}
 use Rattle.gvdb_write.proofs.PastEnds.{still_past}
 use Rattle.gvdb_write.proofs.layout.lay_items.Goals as goal
 

@@ -2,7 +2,7 @@ use Rattle.std.proofs.Common.{rules, ℕ, ◌+◌, ◌-◌, length, get_or, refl
 use Rattle.std.proofs.lemmas.List.{get_or_default}
 use Rattle.gv_model.specs.Limits.{limit}
 use Rattle.gvdb_write.specs.declared.names.Named.{Named}
-use Rattle.gvdb_write.specs.CursorPlaces.{all_keys_end}
+use Rattle.gvdb_write.specs.LayoutParts.{all_keys_end}
 use Rattle.gvdb_write.specs.PlanWords.{no_name}
 use Rattle.gvdb_write.proofs.PastEnds.{still_past}
 use Rattle.gvdb_write.proofs.LaidRows.{no_item, past_all}

@@ -5,7 +5,7 @@ use Rattle.std.proofs.lemmas.Result.{IfErr-weaker}
 use Rattle.gv_model.specs.Layout.{round_up}
 use Rattle.dconf_model.specs.Plans.{values_end}
 use Rattle.gvdb_write.specs.Limits.{IsPast, IsOver}
-use Rattle.gvdb_write.specs.Values.{bytes_of_each}
+use Rattle.gvdb_write.specs.LayoutParts.{bytes_of_each}
 use Rattle.gvdb_write.proofs.LaidValues.{none_laid, one_laid, all_laid, whole_end, past_at_align, past_at_lay}
 use Rattle.gvdb_write.proofs.Pieces.{no_bytes}
 use Rattle.gvdb_write.proofs.layout.lay_values.Goals as goal

@@ -1,4 +1,4 @@
-use Rattle.gvdb_write.specs.Values.{bytes_of_each}
+use Rattle.gvdb_write.specs.LayoutParts.{bytes_of_each}
 use Rattle.gvdb_write.proofs.LaidValues.{AreLaid}
 use Rattle.gvdb_write.proofs.layout.lay_values.Given as goal
 

@@ -2,8 +2,7 @@ use Rattle.std.proofs.Common.{◌≡◌, Some, nat_eq, ap, sym, ◌∙◌}
 use Rattle.std.specs.List.{starts_with}
 use Rattle.std.proofs.lemmas.List.{get_or_default}
 use Rattle.gvdb_write.specs.declared.names.Named.{Named}
-use Rattle.gvdb_write.specs.PlanWords.{no_name}
-use Rattle.gvdb_write.specs.Names.{named, name_at}
+use Rattle.gvdb_write.specs.PlanWords.{no_name, named, name_at}
 use Rattle.gvdb_write.proofs.DirectorySteps.{up_one, lies_there}
 use Rattle.gvdb_write.proofs.names.innermost.Goals as goal
 

@@ -1,4 +1,4 @@
-use Rattle.gvdb_write.specs.Names.{name_at}
+use Rattle.gvdb_write.specs.PlanWords.{name_at}
 use Rattle.gvdb_write.proofs.DirectorySteps.{IsUpFrom}
 use Rattle.gvdb_write.proofs.names.innermost.Given as goal
 

@@ -1,7 +1,7 @@
 use Rattle.std.proofs.Common.{ℕ, ◌≡◌, ◌+◌, List, ◌∷◌, [], ◌++◌, sym, ap, ◌∙◌, subst, arith, Bor}
 use Rattle.std.proofs.lemmas.List.{length-map}
 use Rattle.gvdb_write.specs.declared.values.Values.{Values}
-use Rattle.gvdb_write.specs.Values.{bytes_of_each, ArePlaces}
+use Rattle.gvdb_write.specs.LayoutParts.{bytes_of_each, ArePlaces}
 use Rattle.gvdb_write.proofs.FoundValues.{AreFound, none_found, value_found, other_found, all_found, all_distinct}
 use Rattle.gvdb_write.proofs.values.value_places.Goals as goal
 use Rattle.gvdb_write.proofs.values.value_places.Goals.{in-Value+in_ok-place-in-Value, in_default}

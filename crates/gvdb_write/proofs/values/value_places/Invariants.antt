@@ -1,4 +1,4 @@
-use Rattle.gvdb_write.specs.Values.{bytes_of_each, ArePlaces}
+use Rattle.gvdb_write.specs.LayoutParts.{bytes_of_each, ArePlaces}
 use Rattle.gvdb_write.proofs.FoundValues.{AreFound}
 use Rattle.gvdb_write.proofs.values.value_places.Given as goal
 

@@ -1,5 +1,5 @@
 use Rattle.std.proofs.Common.{rules, ◌<◌, length, get_or, subst}
-use Rattle.gvdb_write.specs.ContentPlaces.{CanPointAt}
+use Rattle.gvdb_write.specs.LayoutParts.{CanPointAt}
 use Rattle.gvdb_write.proofs.contents.Contents.pointer.Goals as goal
 
 pub offset_bounds-self-self : goal.offset_bounds-self-self

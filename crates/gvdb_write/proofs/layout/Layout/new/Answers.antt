@@ -5,9 +5,7 @@ use Rattle.gv_model.specs.Limits.{limit}
 use Rattle.dconf_model.specs.Plans.{length_of, root_end, locks_end, values_end}
 use Rattle.gvdb_write.specs.declared.names.Named.{Named}
 use Rattle.gvdb_write.specs.PlanWords.{plan_of, entries_of}
-use Rattle.gvdb_write.specs.Values.{bytes_of_each}
-use Rattle.gvdb_write.specs.CursorPlaces.{all_keys_end, table_end, laid_end}
-use Rattle.gvdb_write.specs.Contents.{HavePlaces}
+use Rattle.gvdb_write.specs.LayoutParts.{bytes_of_each, HavePlaces, all_keys_end, table_end, laid_end}
 use Rattle.gvdb_write.proofs.KnownContents.{lists_end_there}
 use Rattle.gvdb_write.proofs.LayoutEnds.{header_end, root_keys, locks_within, root_within, whole_is}
 use Rattle.gvdb_write.proofs.PastEnds.{past_is_over, still_over}

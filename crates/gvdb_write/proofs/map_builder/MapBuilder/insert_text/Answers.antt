@@ -1,7 +1,7 @@
 use Rattle.std.proofs.Common.{ap, rules, subst, sym, ◌∙◌}
 use Rattle.std.specs.String.{string_bytes}
 use Rattle.dconf_model.specs.Settings.{IsSettings, Settings, with_value}
-use Rattle.gvdb_write.specs.Rows.{settings_of_rows}
+use Rattle.gvdb_write.specs.Maps.{settings_of_rows}
 use Rattle.gvdb_write.proofs.OrderedRows.{pushed_row}
 use Rattle.gvdb_write.proofs.KeyPaths.{valued_at_path}
 use Rattle.gvdb_write.proofs.map_builder.MapBuilder.insert_text.Goals as goal

@@ -2,8 +2,7 @@ use Rattle.std.proofs.Common.{◌≡◌, ◌∙◌, ap, rules}
 use Rattle.std.specs.String.{string_bytes}
 use Rattle.dconf_model.specs.Settings.{Settings, AtPaths, Lock, with_lock}
 use Rattle.dconf_path.specs.Paths.{lock_text}
-use Rattle.gvdb_write.specs.Maps.{value_entries}
-use Rattle.gvdb_write.specs.Rows.{values_after}
+use Rattle.gvdb_write.specs.Maps.{value_entries, values_after}
 use Rattle.gvdb_write.proofs.Read.{locked}
 use Rattle.gvdb_write.proofs.KeyPaths.{kept_where_locked, lock_is_path}
 use Rattle.gvdb_write.proofs.map_builder.MapBuilder.lock.Goals as goal

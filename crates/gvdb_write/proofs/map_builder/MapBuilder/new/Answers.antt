@@ -3,8 +3,7 @@ use Rattle.std.specs.FinMap.{empty, from_entries}
 use Rattle.std.specs.declared.alloc.Global.{Global}
 use Rattle.std.specs.declared.string.String.{String}
 use Rattle.dconf_model.specs.Settings.{IsSettings, no_settings}
-use Rattle.gvdb_write.specs.Maps.{lock_entries}
-use Rattle.gvdb_write.specs.Rows.{settings_of_rows}
+use Rattle.gvdb_write.specs.Maps.{lock_entries, settings_of_rows}
 use Rattle.gvdb_write.proofs.KeyPaths.{no_paths}
 use Rattle.gvdb_write.proofs.map_builder.MapBuilder.new.Goals as goal
 

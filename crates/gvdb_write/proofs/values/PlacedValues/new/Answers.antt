@@ -1,7 +1,6 @@
 use Rattle.std.proofs.Common.{ℕ, List, ap, ◌∙◌, fold}
 use Rattle.dconf_model.specs.Plans.{with_new}
-use Rattle.gvdb_write.specs.Contents.{own_values}
-use Rattle.gvdb_write.specs.Values.{bytes_of_each}
+use Rattle.gvdb_write.specs.LayoutParts.{own_values, bytes_of_each}
 use Rattle.gvdb_write.proofs.FoundValues.{places_stay}
 use Rattle.gvdb_write.proofs.values.PlacedValues.new.Goals as goal
 

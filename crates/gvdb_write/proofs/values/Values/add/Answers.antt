@@ -3,7 +3,7 @@ use Rattle.std.proofs.lemmas.List.{length-map, map-append, get_or_default}
 use Rattle.std.specs.BTreeMap.{get}
 use Rattle.std.specs.Ordering.{eq_by_cmp}
 use Rattle.gvdb_write.specs.declared.values.Values.{Values}
-use Rattle.gvdb_write.specs.Values.{bytes_of_each, by_bytes, ArePlaces}
+use Rattle.gvdb_write.specs.LayoutParts.{bytes_of_each, by_bytes, ArePlaces}
 use Rattle.gvdb_write.proofs.ValuePlaces.{IsPlaceOf, is_slot, place_is, there, slot_filled, others_added}
 use Rattle.gvdb_write.proofs.values.Values.add.Goals as goal
 use Rattle.gvdb_write.proofs.values.Values.add.Goals.{then-index-eq0, else-index-eq0+in_ok-insert}

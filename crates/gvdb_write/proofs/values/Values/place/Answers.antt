@@ -1,7 +1,7 @@
 use Rattle.std.proofs.Common.{◌≡◌, ◌<◌, ◌-◌, [], Bool, Bor, ℕ, List, length, sym, ap, ◌∙◌, arith, get_or}
 use Rattle.std.specs.Str.{bytes_eq}
 use Rattle.std.proofs.lemmas.List.{get_or-map}
-use Rattle.gvdb_write.specs.Values.{bytes_of_each}
+use Rattle.gvdb_write.specs.LayoutParts.{bytes_of_each}
 use Rattle.gvdb_write.proofs.ValuePlaces.{placed}
 use Rattle.gvdb_write.proofs.values.Values.place.Goals as goal
 
