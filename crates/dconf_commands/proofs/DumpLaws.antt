@@ -20,7 +20,7 @@ use Rattle.dconf_model.proofs.PathMaps.{and_false}
 use Rattle.dconf_model.proofs.RisingTexts.{kept_is_there}
 use Rattle.dconf_model.proofs.WalkedSettings.{walk_has_the_others, walk_leaves_out}
 use Rattle.dconf_layers.specs.declared.seen.SeenKey.{SeenKey}
-use Rattle.dconf_layers.specs.SeenKeys.{seen_path, seen_row, shown_at}
+use Rattle.dconf_layers.specs.Children.{seen_path, seen_row, shown_at}
 use Rattle.dconf_commands.specs.declared.printed_setting.PrintedSetting.{PrintedSetting}
 use Rattle.dconf_commands.specs.Dumps.{IsSeen, dump_onto, setting_of, with_earlier}
 

@@ -5,7 +5,7 @@ use Rattle.dconf_model.specs.Keyfiles.{Setting}
 use Rattle.dconf_model.specs.Layers.{Layers, visible, visible_bytes}
 use Rattle.dconf_model.specs.Outcomes.{Outcome, dump_of, settings_at, with_lines}
 use Rattle.dconf_layers.specs.declared.seen.SeenKey.{SeenKey}
-use Rattle.dconf_layers.specs.SeenKeys.{seen_path}
+use Rattle.dconf_layers.specs.Children.{seen_path}
 use Rattle.dconf_commands.specs.declared.printed_setting.PrintedSetting.{PrintedSetting}
 use Rattle.dconf_commands.specs.declared.dump_parts.DumpParts.{DumpParts}
 

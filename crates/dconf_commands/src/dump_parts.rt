@@ -6,7 +6,7 @@ ghost use Rattle.dconf_model.specs.Doubles.{comment_lines};
 ghost use Rattle.dconf_model.specs.Layers.{Layers, visible};
 ghost use Rattle.dconf_model.specs.Outcomes.{dump_at};
 ghost use Rattle.keyfile_core.specs.DumpRows.{AreAllBelow};
-ghost use Rattle.dconf_layers.specs.SeenKeys.{seen_path};
+ghost use Rattle.dconf_layers.specs.Children.{seen_path};
 ghost use Rattle.dconf_streams.specs.Answers.{GivesOutcome};
 
 use crate::printed_setting::PrintedSetting;

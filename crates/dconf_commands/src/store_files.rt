@@ -4,7 +4,7 @@ ghost use Rattle.dconf_model.specs.Databases.{AreLayers};
 ghost use Rattle.dconf_model.specs.Outcomes.{OrLine, OrNoDatabase, WithDatabases, WithLayers};
 ghost use Rattle.dconf_model.specs.Profiles.{database_file, has_writable, profile_of};
 ghost use Rattle.dconf_path.specs.Profiles.{database_of, databases_of};
-ghost use Rattle.dconf_layers.specs.Files.{bytes_of_files};
+ghost use Rattle.dconf_layers.specs.Verdicts.{bytes_of_files};
 ghost use Rattle.dconf_layers.specs.LayerSettings.{settings_of};
 ghost use Rattle.dconf_streams.specs.Answers.{GivesOutcome};
 ghost use Rattle.dconf_streams.specs.Readings.{Decides, HasRead, NothingIfAny, found_read, one_read};

@@ -2,7 +2,7 @@
 use Rattle.std.proofs.Common.{◌≡◌, ◌+◌, ◌<◌, ℕ, List, [], ◌∷◌, ◌++◌, length, take, drop, get_or, Option, Some, None, ap, sym, ◌∙◌, subst, arith}
 use Rattle.std.proofs.lemmas.List.{take_more, drop_more, take-append-drop, length-take-le, length-map, get_or-map}
 use Rattle.std.specs.Borrow.{Bor}
-use Rattle.dconf_layers.specs.Files.{bytes_of_file, bytes_of_files}
+use Rattle.dconf_layers.specs.Verdicts.{bytes_of_file, bytes_of_files}
 use Rattle.dconf_model.specs.Databases.{AreLayers, IsLayer, IsGood, IsBad, IsFirstBad, Verdict}
 use Rattle.dconf_model.specs.Settings.{Settings}
 

@@ -8,9 +8,8 @@ ghost use Rattle.dconf_model.specs.Layers.{first_from, is_locked, origin, place_
 ghost use Rattle.dconf_model.specs.Profiles.{has_writable};
 ghost use Rattle.dconf_path.specs.Paths.{key_text};
 ghost use Rattle.dconf_path.specs.Profiles.{databases_of};
-ghost use Rattle.dconf_layers.specs.Files.{bytes_of_files};
+ghost use Rattle.dconf_layers.specs.Verdicts.{bytes_of_files, verdict_of};
 ghost use Rattle.dconf_layers.specs.LayerSettings.{settings_of};
-ghost use Rattle.dconf_layers.specs.Verdicts.{verdict_of};
 
 use crate::changes::Changes;
 use crate::fault::{BadDatabase, EngineFault};

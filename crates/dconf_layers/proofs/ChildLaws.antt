@@ -50,13 +50,18 @@ use Rattle.gvdb_read.specs.Lookups.{IsItemListOf}
 use Rattle.gvdb_read.specs.Tables.{region}
 use Rattle.dconf_layers.specs.declared.children.Child.{Child}
 use Rattle.dconf_layers.specs.declared.layer.Layer.{Layer}
-use Rattle.dconf_layers.specs.Children.{AreChildren, ChildRow, child_row, found_row, item_row, listed_rows, names_of, row_found}
+use Rattle.dconf_layers.specs.Children.{AreChildren, ChildRow, child_row, found_row, item_row, names_of, row_found}
 use Rattle.dconf_layers.specs.LayerRows.{items_of}
 use Rattle.dconf_layers.specs.LayerSettings.{locks_of, settings_of}
 use Rattle.dconf_layers.specs.SoundTables.{AreOfSoundDatabase}
 use Rattle.dconf_layers.specs.TextSets.{TextSet, with_text, with_texts}
 use Rattle.dconf_layers.proofs.ListedNames.{names_listed, not_listed_in, some_bytes}
 use Rattle.dconf_layers.proofs.SoundLayers.{says, settings_at}
+
+-- so many items, whose numbers occur from that place on
+abbrev pub listed_rows : ℕ → Region → ℕ → ℕ → List ChildRow
+listed_rows index t at zero = []
+listed_rows index t at (suc n) = item_row index t (u32_at t.file at) ∷ listed_rows index t (at + 4) n
 
 -- ---- the numbers of a list
 

@@ -1,6 +1,6 @@
 -- The level of a path and the place of its value, layer by layer.
 use Rattle.std.proofs.Common.{◌≡◌, ◌+◌, ◌<◌, ◌≤◌, ℕ, zero, suc, Bool, true, false, cond, List, [], ◌∷◌, length, drop, get_or, Option, Some, None, refl, sym, ap, ◌∙◌, arith, ne_eqb, map, subst}
-use Rattle.std.proofs.lemmas.List.{get_or-map, drop_more, drop_all, length-map}
+use Rattle.std.proofs.lemmas.List.{get_or-map, drop_all, length-map}
 use Rattle.std.proofs.lemmas.Option.{same_Some}
 use Rattle.std.specs.Cmp.Lexicographic.{slice_cmp}
 use Rattle.std.specs.Ordering.{nat_cmp}
@@ -81,10 +81,6 @@ told_level (suc n) k above none = above (omega arith)
 
 -- ---- the place
 
-pub place_step : (xs : List Settings) (i : ℕ) (path : List ℕ) → i < length xs →
-    first_from i (drop i xs) path ≡ place_or i (get (get_or xs i no_settings).values path) (first_from (i + 1) (drop (i + 1) xs) path)
-place_step xs i path within = ap (λ (ss : List Settings). first_from i ss path) (drop_more xs i no_settings within)
-
 pub place_end : (xs : List Settings) (i : ℕ) (path : List ℕ) → length xs ≤ i → first_from i (drop i xs) path ≡ None
 place_end xs i path past = ap (λ (ss : List Settings). first_from i ss path) (drop_all i xs past)
 
@@ -147,9 +143,3 @@ default_low l path n writable low is = go l.layers (sym is ∙ low) ∙ sym (ap 
     go : (xs : List Settings) → greatest_from 1 (locks_path path) (drop 1 xs) ≡ 0 → first_from 1 (drop 1 xs) path ≡ place_of (record { layers = emptied xs; writable = true }) path
     go [] e = refl
     go (s ∷ more) e = sym (ap (λ k. first_from k (drop k (emptied (s ∷ more))) path) e ∙ default_first s more path)
-
-pub default_high : (xs : List Settings) (path : List ℕ) (n : ℕ) → 0 < n → greatest_from 1 (locks_path path) (drop 1 xs) ≡ n →
-    place_of (without_user (record { layers = xs; writable = true })) path ≡ first_from n (drop n xs) path
-default_high [] path n some e = absurd (let z : 0 ≡ n = e in omega (arith, some, z))
-default_high (s ∷ more) path zero some e = absurd (omega (arith, some))
-default_high (s ∷ more) path (suc k) some e = ap (λ k. first_from k (drop k (emptied (s ∷ more))) path) e

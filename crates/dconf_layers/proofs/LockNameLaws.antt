@@ -25,11 +25,16 @@ use Rattle.gvdb_read.specs.Tables.{region}
 use Rattle.gvdb_write.specs.Salvaged.{HasNoShortText}
 use Rattle.dconf_layers.specs.declared.layer.Layer.{Layer}
 use Rattle.dconf_layers.specs.LayerSettings.{locks_of, settings_of}
-use Rattle.dconf_layers.specs.LockNames.{lock_name, lock_count, lock_name_at, lock_names}
+use Rattle.dconf_layers.specs.LayerRows.{lock_name, lock_count, lock_name_at}
 use Rattle.dconf_layers.specs.SoundTables.{AreOfSoundDatabase}
 use Rattle.dconf_layers.proofs.EntryLaws.{name_utf8, short_path}
 use Rattle.dconf_layers.proofs.PathTests.{any_gathered, any_of_gathered}
 use Rattle.dconf_layers.proofs.SoundLayers.{item_of_lock, locks_at, none_is_named, said_of, settings_at}
+use Rattle.dconf_model.specs.Databases.{gathered}
+
+-- those of so many items, in their order
+abbrev pub lock_names : Option Table → ℕ → List (List ℕ)
+lock_names locks n = gathered (lock_name_at locks) n
 
 -- ---- what the name of an item is found to be
 

@@ -28,8 +28,7 @@ use Rattle.dconf_layers.specs.LayerSettings.{locks_of, settings_of}
 use Rattle.dconf_layers.proofs.SoundLayers.{says}
 use Rattle.dconf_layers.specs.declared.children.Child.{Child}
 use Rattle.dconf_layers.specs.declared.seen.SeenKey.{SeenKey}
-use Rattle.dconf_layers.specs.Children.{child_name, place_shown}
-use Rattle.dconf_layers.specs.SeenKeys.{IsShown, seen_path, seen_row, shown_at}
+use Rattle.dconf_layers.specs.Children.{child_name, place_shown, IsShown, seen_path, seen_row, shown_at}
 
 abbrev pub Keys : Type 0
 Keys = List SeenKey

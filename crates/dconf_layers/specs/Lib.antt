@@ -1,10 +1,7 @@
 pub mod Verdicts
 pub mod SoundTables
 pub mod LayerSettings
-pub mod Files
 pub mod LayerRows
 pub mod Entries
 pub mod TextSets
-pub mod LockNames
 pub mod Children
-pub mod SeenKeys

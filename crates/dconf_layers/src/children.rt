@@ -1,5 +1,5 @@
 //! What a directory has in layers, by the directory's lists: no item that a list names is searched for.
-ghost use Rattle.std.specs.Prelude.{◌≡◌, ◌++◌, ◌+◌, ◌<◌, [], ◌∷◌, IfOk, IsTrue, List, OnOk, length, map};
+ghost use Rattle.std.specs.Prelude.{◌≡◌, ◌++◌, ◌+◌, ◌<◌, [], ◌∷◌, IfOk, IsTrue, List, OnOk, map};
 ghost use Rattle.std.specs.List.{All};
 ghost use Rattle.dconf_model.specs.Layers.{all_paths, first_from};
 ghost use Rattle.dconf_model.specs.Paths.{is_key_path};

@@ -17,7 +17,7 @@ use crate::fault::DatabaseFault;
 use dconf_path::KeyPath;
 use gvdb_alike::is_shaped_as;
 use gvdb_format::LOCKS;
-use gvdb_read::{HashedName, Table, Unsound};
+use gvdb_read::{Table, Unsound};
 
 /// A database without items.
 const EMPTY: &[u8] = b"GVariant\0\0\0\0\0\0\0\0\x18\0\0\0\x20\0\0\0\0\0\0\0\0\0\0\0";
@@ -37,8 +37,7 @@ pub struct Layer<'a> {
 
 impl<'a> Layer<'a> {
     ghost use Rattle.dconf_layers.specs.LayerSettings.{has_locks, locks_of, settings_of};
-    ghost use Rattle.dconf_layers.specs.Files.{bytes_of_file};
-    ghost use Rattle.gvdb_read.specs.Lookups.{name_text};
+    ghost use Rattle.dconf_layers.specs.Verdicts.{bytes_of_file};
 
     /// Opens the bytes of a file, or None where there is no file: that is an empty database. Bytes
     /// that open as no database, or as one that isn't sound, are refused.
@@ -133,13 +132,7 @@ impl<'a> Layer<'a> {
     fn empty() -> Layer<'a>
         ensures { settings_of result ≡ no_settings }
     {
-        let values = Table::open(EMPTY).unwrap();
-        Layer {
-            values,
-            locks: values,
-            has_locks: false,
-            locks_directories: false,
-        }
+        Layer::without_locks(Table::open(EMPTY).unwrap())
     }
 
     /// Its root table.
@@ -157,14 +150,6 @@ impl<'a> Layer<'a> {
             return None;
         }
         self.values.find_bytes(path)
-    }
-
-    /// As `get`, of a path that is hashed already.
-    #[inline(always)]
-    pub(crate) fn get_hashed(self, path: HashedName<'_>) -> Option<&'a [u8]>
-        ensures { option_map (λ bytes. bytes.now) result ≡ get (settings_of self.entry).values (name_text path.entry) }
-    {
-        self.values.find_hashed_bytes(path)
     }
 
     /// Whether a lock covers a key: its own path is locked, or a directory above it.

@@ -4,7 +4,7 @@ ghost use Rattle.std.specs.FinMap.{keys};
 ghost use Rattle.dconf_model.specs.Locks.{is_below};
 ghost use Rattle.dconf_model.specs.Paths.{is_path};
 ghost use Rattle.dconf_path.specs.Paths.{directory_text};
-ghost use Rattle.dconf_layers.specs.LockNames.{lock_count, lock_name, lock_name_at, locks_under};
+ghost use Rattle.dconf_layers.specs.LayerRows.{lock_count, lock_name, lock_name_at, locks_under};
 ghost use Rattle.dconf_layers.specs.TextSets.{with_children, with_texts};
 
 use crate::layer::Layer;

@@ -209,7 +209,7 @@ impl<'a, 'l> LentLayers<'a, 'l> {
         requires { i < length (seen_in self).layers }
         ensures { option_map (λ bytes. bytes.now) result ≡ get (slice_index_or (seen_in self.entry).layers i no_settings).values (name_text path.entry) }
     {
-        self.layers[i].get_hashed(path)
+        self.layers[i].values.find_hashed_bytes(path)
     }
 }
 

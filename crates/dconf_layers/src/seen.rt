@@ -27,7 +27,7 @@ pub struct SeenKey<'a> {
 
 impl<'a> LentLayers<'a, '_> {
     ghost use Rattle.dconf_layers.specs.LayerSettings.{seen_in};
-    ghost use Rattle.dconf_layers.specs.SeenKeys.{IsShown, seen_path, seen_row, shown_at};
+    ghost use Rattle.dconf_layers.specs.Children.{IsShown, seen_path, seen_row, shown_at};
 
     /// The keys below a directory, in byte order, and what is seen at them. Of a key without a value a lock hides it.
     ///

@@ -3,7 +3,7 @@ use Rattle.std.specs.Prelude.{◌≡◌, ◌<◌, ◌+◌, ℕ, List, [], ◌∷
 use Rattle.std.specs.Borrow.{Bor}
 use Rattle.std.proofs.Common.{◌∙◌, ap, sym, get_or}
 use Rattle.std.proofs.lemmas.List.{map-append, map_more, take-map}
-use Rattle.dconf_layers.specs.Files.{bytes_of_file, bytes_of_files}
+use Rattle.dconf_layers.specs.Verdicts.{bytes_of_file, bytes_of_files}
 
 abbrev File : Type 0
 File = Option (Bor (List ℕ))

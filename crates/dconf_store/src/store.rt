@@ -6,7 +6,7 @@ ghost use Rattle.dconf_model.specs.Layers.{visible};
 ghost use Rattle.dconf_model.specs.Profiles.{has_writable};
 ghost use Rattle.dconf_path.specs.Paths.{directory_text, key_text};
 ghost use Rattle.dconf_path.specs.Profiles.{databases_of};
-ghost use Rattle.dconf_layers.specs.Files.{bytes_of_file, bytes_of_files};
+ghost use Rattle.dconf_layers.specs.Verdicts.{bytes_of_file, bytes_of_files};
 ghost use Rattle.dconf_store.specs.Changes.{asked_of};
 ghost use Rattle.dconf_store.specs.Faults.{IsFaultOf, IsNoValue, IsRefusedAt, IsTooLarge};
 ghost use Rattle.dconf_store.specs.Files.{with_first_file};

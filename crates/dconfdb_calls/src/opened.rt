@@ -2,8 +2,7 @@
 ghost use Rattle.std.specs.Prelude.{◌≡◌, IfErr, IfOk};
 ghost use Rattle.dconf_model.specs.Databases.{IsLayer};
 ghost use Rattle.dconf_layers.specs.LayerSettings.{settings_of};
-ghost use Rattle.dconf_layers.specs.Files.{bytes_of_file};
-ghost use Rattle.dconf_layers.specs.Verdicts.{verdict_of};
+ghost use Rattle.dconf_layers.specs.Verdicts.{bytes_of_file, verdict_of};
 ghost use Rattle.dconf_model.specs.Sound.{rule_number};
 ghost use Rattle.gvdb_format.specs.Faults.{open_fault_of};
 ghost use Rattle.gvdb_check.specs.Unsounds.{rule_of};

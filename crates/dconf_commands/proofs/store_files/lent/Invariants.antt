@@ -1,5 +1,5 @@
 use Rattle.std.proofs.Common.{◌≡◌, map, take}
-use Rattle.dconf_layers.specs.Files.{bytes_of_files}
+use Rattle.dconf_layers.specs.Verdicts.{bytes_of_files}
 use Rattle.dconf_commands.specs.StoreReads.{bytes_of}
 use Rattle.dconf_commands.proofs.store_files.lent.Given as goal
 

@@ -3,8 +3,7 @@ use Rattle.std.proofs.lemmas.List.{map-append}
 use Rattle.dconf_model.specs.Databases.{AreLayers}
 use Rattle.dconf_model.specs.Settings.{Settings}
 use Rattle.dconf_layers.specs.declared.layer.Layer.{Layer}
-use Rattle.dconf_layers.specs.Verdicts.{verdict_of}
-use Rattle.dconf_layers.specs.Files.{bytes_of_files}
+use Rattle.dconf_layers.specs.Verdicts.{verdict_of, bytes_of_files}
 use Rattle.dconf_layers.specs.LayerSettings.{settings_of}
 use Rattle.dconf_engine.proofs.Opened.{opened_more, bad_at}
 use Rattle.dconf_engine.proofs.engine.open_layers.Goals as goal

@@ -1,6 +1,6 @@
 use Rattle.std.proofs.Common.{take, map}
 use Rattle.dconf_model.specs.Databases.{AreLayers}
-use Rattle.dconf_layers.specs.Files.{bytes_of_files}
+use Rattle.dconf_layers.specs.Verdicts.{bytes_of_files}
 use Rattle.dconf_layers.specs.LayerSettings.{settings_of}
 use Rattle.dconf_engine.proofs.engine.open_layers.Given as goal
 

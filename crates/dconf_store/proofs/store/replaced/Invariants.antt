@@ -1,5 +1,5 @@
 use Rattle.std.proofs.Common.{◌≡◌, ◌∷◌, Some, take}
-use Rattle.dconf_layers.specs.Files.{bytes_of_files}
+use Rattle.dconf_layers.specs.Verdicts.{bytes_of_files}
 use Rattle.dconf_store.proofs.store.replaced.Given as goal
 
 -- the first, and of the others those so far

@@ -7,8 +7,7 @@ use Rattle.dconf_model.specs.Layers.{visible}
 use Rattle.dconf_model.specs.Profiles.{has_writable}
 use Rattle.dconf_path.specs.Paths.{key_text}
 use Rattle.dconf_path.specs.Profiles.{databases_of}
-use Rattle.dconf_layers.specs.Files.{bytes_of_files}
-use Rattle.dconf_layers.specs.Verdicts.{verdict_of}
+use Rattle.dconf_layers.specs.Verdicts.{bytes_of_files, verdict_of}
 use Rattle.dconf_store.specs.declared.fault.StoreFlaw.TheVariants as flaws
 use Rattle.gv_view.specs.declared.owned.TooLarge.{TooLarge}
 use Rattle.dconf_store.specs.declared.fault.StoreFlaw.{StoreFlaw}

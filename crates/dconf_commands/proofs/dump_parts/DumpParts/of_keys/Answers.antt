@@ -6,7 +6,7 @@ use Rattle.std.proofs.lemmas.Result.{err_from_is_err_and}
 use Rattle.gv_view.specs.Views.{value}
 use Rattle.dconf_model.specs.Outcomes.{dump_at}
 use Rattle.dconf_layers.specs.declared.seen.SeenKey.{SeenKey}
-use Rattle.dconf_layers.specs.SeenKeys.{seen_path}
+use Rattle.dconf_layers.specs.Children.{seen_path}
 use Rattle.dconf_streams.specs.Answers.{GivesOutcome}
 use Rattle.dconf_commands.specs.Dumps.{IsSeen, goes_on}
 use Rattle.dconf_commands.proofs.DumpLaws.{first_of_all, none_seen, nothing_seen, some_seen}

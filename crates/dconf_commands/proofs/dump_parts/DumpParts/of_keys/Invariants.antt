@@ -5,7 +5,7 @@ use Rattle.std.specs.Vec.Iter.{into_iter_items}
 use Rattle.dconf_model.specs.Layers.{Layers}
 use Rattle.dconf_model.specs.Outcomes.{dump_at}
 use Rattle.keyfile_core.specs.DumpRows.{AreAllBelow}
-use Rattle.dconf_layers.specs.SeenKeys.{seen_path}
+use Rattle.dconf_layers.specs.Children.{seen_path}
 use Rattle.dconf_commands.specs.Dumps.{IsSeen, goes_on, setting_of}
 use Rattle.dconf_commands.proofs.dump_parts.DumpParts.of_keys.Given as goal
 

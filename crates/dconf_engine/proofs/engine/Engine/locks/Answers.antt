@@ -7,7 +7,7 @@ use Rattle.dconf_model.specs.Layers.{Layers, all_locks, locks_below}
 use Rattle.dconf_path.specs.Paths.{directory_text}
 use Rattle.dconf_layers.specs.declared.layer.Layer.{Layer}
 use Rattle.dconf_layers.specs.LayerSettings.{settings_of}
-use Rattle.dconf_layers.specs.LockNames.{locks_under}
+use Rattle.dconf_layers.specs.LayerRows.{locks_under}
 use Rattle.dconf_layers.specs.TextSets.{TextSet, with_texts}
 use Rattle.dconf_layers.proofs.TextSetLaws.{keys_are_listed}
 use Rattle.dconf_engine.specs.EngineLayers.{layers_of}

@@ -3,7 +3,7 @@ use Rattle.std.specs.FinMap.{empty}
 use Rattle.dconf_model.specs.Layers.{all_locks}
 use Rattle.dconf_path.specs.Paths.{directory_text}
 use Rattle.dconf_layers.specs.LayerSettings.{settings_of}
-use Rattle.dconf_layers.specs.LockNames.{locks_under}
+use Rattle.dconf_layers.specs.LayerRows.{locks_under}
 use Rattle.dconf_layers.specs.TextSets.{with_texts}
 use Rattle.dconf_engine.proofs.engine.Engine.locks.Given as goal
 

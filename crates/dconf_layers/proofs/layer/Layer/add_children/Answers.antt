@@ -8,9 +8,9 @@ use Rattle.dconf_model.specs.Table.{list_kind}
 use Rattle.dconf_path.specs.Paths.{directory_text}
 use Rattle.gvdb_read.specs.Lookups.{IsItemListOf}
 use Rattle.gvdb_read.specs.Tables.{region}
-use Rattle.dconf_layers.specs.Children.{child_row, item_row, listed_rows}
+use Rattle.dconf_layers.specs.Children.{child_row, item_row}
 use Rattle.dconf_layers.specs.LayerRows.{items_of}
-use Rattle.dconf_layers.proofs.ChildLaws.{child_counted, list_children, no_children, no_row_left, one_row_more}
+use Rattle.dconf_layers.proofs.ChildLaws.{child_counted, list_children, no_children, no_row_left, one_row_more, listed_rows}
 use Rattle.dconf_layers.proofs.layer.Layer.add_children.Goals as goal
 
 pub returns-in_default : goal.returns-in_default

@@ -1,6 +1,7 @@
 use Rattle.std.proofs.Common.{◌≡◌, ◌+◌, ◌*◌, ◌-◌, ◌++◌, map}
 use Rattle.gvdb_read.specs.Tables.{region}
-use Rattle.dconf_layers.specs.Children.{child_row, listed_rows}
+use Rattle.dconf_layers.specs.Children.{child_row}
+use Rattle.dconf_layers.proofs.ChildLaws.{listed_rows}
 use Rattle.dconf_layers.proofs.layer.Layer.add_children.Given as goal
 
 abbrev pub invariant-loop-k : goal.invariant-loop-k

@@ -10,11 +10,11 @@ use Rattle.dconf_model.specs.Table.{key, list_kind}
 use Rattle.dconf_path.specs.Paths.{directory_text}
 use Rattle.gvdb_read.specs.Lookups.{IsItemListOf}
 use Rattle.gvdb_read.specs.Tables.{region}
-use Rattle.dconf_layers.specs.Children.{listed_rows, names_of}
+use Rattle.dconf_layers.specs.Children.{names_of}
 use Rattle.dconf_layers.specs.LayerRows.{items_of}
 use Rattle.dconf_layers.specs.LayerSettings.{locks_of, settings_of}
 use Rattle.dconf_layers.specs.TextSets.{with_texts}
-use Rattle.dconf_layers.proofs.ChildLaws.{child_counted, list_names, no_name_left, one_name_more}
+use Rattle.dconf_layers.proofs.ChildLaws.{child_counted, list_names, no_name_left, one_name_more, listed_rows}
 use Rattle.dconf_layers.proofs.ListedNames.{not_listed_in}
 use Rattle.dconf_layers.proofs.TextSetLaws.{children_are, texts_alike}
 use Rattle.dconf_layers.proofs.layer.Layer.add_listed.Goals as goal

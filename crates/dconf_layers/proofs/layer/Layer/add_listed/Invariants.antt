@@ -1,7 +1,8 @@
 use Rattle.std.proofs.Common.{◌≡◌, ◌+◌, ◌*◌, ◌-◌}
 use Rattle.gvdb_read.specs.Tables.{region}
-use Rattle.dconf_layers.specs.Children.{listed_rows, names_of}
+use Rattle.dconf_layers.specs.Children.{names_of}
 use Rattle.dconf_layers.specs.TextSets.{with_texts}
+use Rattle.dconf_layers.proofs.ChildLaws.{listed_rows}
 use Rattle.dconf_layers.proofs.layer.Layer.add_listed.Given as goal
 
 -- what is left to add gives what the whole list gives

@@ -3,9 +3,9 @@ use Rattle.std.specs.FinMap.{keys}
 use Rattle.dconf_model.specs.Locks.{is_below}
 use Rattle.dconf_path.specs.Paths.{directory_text}
 use Rattle.dconf_layers.specs.LayerSettings.{locks_of, settings_of}
-use Rattle.dconf_layers.specs.LockNames.{lock_count, lock_names, locks_under}
+use Rattle.dconf_layers.specs.LayerRows.{lock_count, locks_under}
 use Rattle.dconf_layers.specs.TextSets.{with_texts}
-use Rattle.dconf_layers.proofs.LockNameLaws.{locks_of_layer}
+use Rattle.dconf_layers.proofs.LockNameLaws.{locks_of_layer, lock_names}
 use Rattle.dconf_layers.proofs.TextSetLaws.{passing_alike}
 use Rattle.dconf_layers.proofs.layer.Layer.add_locks.Goals as goal
 

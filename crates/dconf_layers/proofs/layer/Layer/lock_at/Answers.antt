@@ -6,7 +6,7 @@ use Rattle.dconf_model.specs.Names.{HasName}
 use Rattle.gvdb_read.specs.declared.table.Table.{Table}
 use Rattle.gvdb_read.specs.Tables.{region}
 use Rattle.gvdb_write.specs.Salvaged.{HasNoShortText}
-use Rattle.dconf_layers.specs.LockNames.{lock_name, lock_name_at}
+use Rattle.dconf_layers.specs.LayerRows.{lock_name, lock_name_at}
 use Rattle.dconf_layers.specs.SoundTables.{AreOfSoundDatabase}
 use Rattle.dconf_layers.proofs.LockNameLaws.{found_lock_in}
 use Rattle.dconf_layers.proofs.layer.Layer.lock_at.Goals as goal

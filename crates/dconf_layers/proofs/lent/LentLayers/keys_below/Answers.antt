@@ -6,7 +6,7 @@ use Rattle.dconf_model.specs.Walks.{keys_below}
 use Rattle.dconf_path.specs.Paths.{directory_text}
 use Rattle.dconf_layers.specs.declared.seen.SeenKey.{SeenKey}
 use Rattle.dconf_layers.specs.LayerSettings.{seen_in}
-use Rattle.dconf_layers.specs.SeenKeys.{IsShown}
+use Rattle.dconf_layers.specs.Children.{IsShown}
 use Rattle.dconf_layers.proofs.Walks.{all_shown, found_are_keys, layers_have_keys, next_work, step_found, walk_is_over, walk_starts}
 use Rattle.dconf_layers.proofs.lent.LentLayers.keys_below.Goals as goal
 

@@ -4,7 +4,7 @@ use Rattle.dconf_model.specs.Layers.{all_paths}
 use Rattle.dconf_model.specs.Walks.{keys_below}
 use Rattle.dconf_path.specs.Paths.{directory_text}
 use Rattle.dconf_layers.specs.LayerSettings.{seen_in}
-use Rattle.dconf_layers.specs.SeenKeys.{IsShown}
+use Rattle.dconf_layers.specs.Children.{IsShown}
 use Rattle.dconf_layers.proofs.Walks.{ahead, texts, work}
 use Rattle.dconf_layers.proofs.lent.LentLayers.keys_below.Given as goal
 

@@ -5,7 +5,7 @@ use Rattle.dconf_model.specs.Layers.{all_paths}
 use Rattle.dconf_model.specs.Walks.{names_in}
 use Rattle.dconf_path.specs.Paths.{directory_text}
 use Rattle.dconf_layers.specs.LayerSettings.{seen_in}
-use Rattle.dconf_layers.specs.SeenKeys.{IsShown}
+use Rattle.dconf_layers.specs.Children.{IsShown}
 use Rattle.dconf_layers.proofs.Walks.{IsFirst, children_start, place_pushed}
 use Rattle.dconf_layers.proofs.lent.LentLayers.push_places.Goals as goal
 

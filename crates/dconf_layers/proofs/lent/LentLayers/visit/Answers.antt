@@ -7,7 +7,7 @@ use Rattle.dconf_model.specs.Layers.{all_paths}
 use Rattle.dconf_model.specs.Paths.{is_directory_path}
 use Rattle.dconf_model.specs.Walks.{places_in}
 use Rattle.dconf_layers.specs.LayerSettings.{seen_in}
-use Rattle.dconf_layers.specs.SeenKeys.{IsShown, seen_path}
+use Rattle.dconf_layers.specs.Children.{IsShown, seen_path}
 use Rattle.dconf_layers.proofs.Walks.{directory_found, directory_less, key_found, layers_have_keys, texts}
 use Rattle.dconf_layers.proofs.lent.LentLayers.visit.Goals as goal
 
