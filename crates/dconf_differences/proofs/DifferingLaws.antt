@@ -5,8 +5,7 @@ use Rattle.dconf_model.specs.Layers.{Layers, is_locked, visible}
 use Rattle.dconf_model.specs.Order.{listing}
 use Rattle.dconf_model.proofs.PathMaps.{no_truth, same_bool}
 use Rattle.dconf_model.specs.Settings.{Settings}
-use Rattle.dconf_differences.specs.Differing.{AreDiffering, Differs, differs, same_truth, with_first}
-use Rattle.dconf_differences.specs.SameValues.{same_value}
+use Rattle.dconf_differences.specs.Differing.{AreDiffering, Differs, differs, same_truth, with_first, same_value}
 use Rattle.dconf_differences.proofs.SameValueLaws.{values_told}
 
 truths_told : (a b : Bool) → IsTrue (not (same_truth a b)) ↔ (a ≢ b)

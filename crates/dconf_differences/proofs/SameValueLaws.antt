@@ -1,5 +1,5 @@
 -- Values that are told apart, and views that are compared child by child.
-use Rattle.std.proofs.Common.{◌≡◌, ◌≢◌, ◌<◌, ◌+◌, ◌++◌, ◌∷◌, [], ◌∙◌, ℕ, suc, Bool, true, false, not, List, Option, Some, None, ap, ap₂, sym, subst, refl, arith, eqb-true, eq-eqb}
+use Rattle.std.proofs.Common.{◌≡◌, ◌≢◌, ◌<◌, ◌+◌, ◌++◌, ◌∷◌, [], ◌∙◌, ℕ, suc, Bool, true, not, List, Option, Some, None, ap, ap₂, sym, subst, refl, arith, eqb-true, eq-eqb}
 use Rattle.std.specs.Prelude.{◌↔◌, ◌&&◌, IsTrue}
 use Rattle.std.proofs.lemmas.Bool.{and_parts, false_from_ne_true, not-true}
 use Rattle.std.proofs.lemmas.Option.{same_Some}
@@ -20,7 +20,7 @@ use Rattle.gv_view.specs.Views.{shown, value, view_bytes, view_ty}
 use Rattle.gv_view.proofs.Depths.{depth_children}
 use Rattle.gv_view.proofs.PartValues.{basic_is_leaf}
 use Rattle.dconf_model.proofs.PathMaps.{no_truth}
-use Rattle.dconf_differences.specs.SameValues.{same_code, same_tree, same_value, AreSame, IsSame, work}
+use Rattle.dconf_differences.specs.Differing.{same_code, same_tree, same_value, AreSame, IsSame, work}
 use Rattle.dconf_differences.specs.declared.same_values.Compared.{Compared}
 
 -- ---- values, by what they are coded as
@@ -43,11 +43,6 @@ told_apart v w = (
   λ e. coded_tree.inj v w (same_codes (coded_tree.code v) (coded_tree.code w) e),
   λ e. subst (λ (u : Tree). same_code (coded_tree.code v) (coded_tree.code u) ≡ true) e (code_itself (coded_tree.code v)),
 )
-
--- what is asked of two values, in the words of `same_value`
-pub told_same : (same : Bool) (v w : Tree) → IsTrue same ↔ (v ≡ w) → same ≡ same_value (Some v) (Some w)
-told_same true v w h = sym ((told_apart v w).1 (h.0 refl))
-told_same false v w h = sym (false_from_ne_true (same_tree v w) (λ e. no_truth (h.1 ((told_apart v w).0 e))))
 
 -- values that may be missing
 pub values_told : (v w : Option Tree) → IsTrue (not (same_value v w)) ↔ (v ≢ w)
@@ -156,13 +151,6 @@ module _ (left new : List Compared) (p : Compared) (ps qs pss qss : List Part) (
 
 pub both_then : {A B C : Type 0} → A ↔ B → B ↔ C → A ↔ C
 both_then f g = (λ a. g.0 (f.0 a), λ c. f.1 (g.1 c))
-
--- the second has no more
-pub no_other : (left : List Compared) (p : Part) (ps pss qss : List Part) (X : Type 0) → pss ≡ p ∷ ps → qss ≡ [] → AreLeft pss qss left ↔ X → IsTrue false × AreSame left ↔ X
-no_other left p ps pss qss X e f h = (
-  λ no. absurd (no_truth no.0),
-  λ x. absurd (not_none (decode p.0 p.1) (part_trees ps) (sym (ap part_trees e) ∙ ((h.1 x).0 ∙ ap part_trees f))),
-)
 
 -- the first has no more
 pub at_the_end : (left : List Compared) (pss qss : List Part) (ended : Bool) (X : Type 0) → pss ≡ [] → (IsTrue ended ↔ (qss ≡ [])) → AreLeft pss qss left ↔ X → (IsTrue ended × AreSame left) ↔ X

@@ -1,6 +1,6 @@
 -- What twins have alike is seen alike, and items of the same names and bytes give the same paths.
 use Rattle.std.specs.Prelude.{filter, option_map, option_and_then, nat_lt}
-use Rattle.std.proofs.Common.{◌≡◌, ◌<◌, ◌≤◌, ◌⊎◌, ◌+◌, ◌-◌, ◌++◌, ◌∙◌, append-nil, cond, arith, ℕ, zero, suc, Bool, false, List, [], ◌∷◌, drop, Option, Some, None, ap, sym, subst, refl, inl, inr}
+use Rattle.std.proofs.Common.{◌≡◌, ◌<◌, ◌≤◌, ◌+◌, ◌-◌, ◌++◌, ◌∙◌, append-nil, cond, arith, ℕ, zero, suc, Bool, false, List, [], ◌∷◌, drop, Option, Some, None, ap, sym, subst, refl, inl, inr}
 use Rattle.std.specs.FinMap.{get}
 use Rattle.std.proofs.lemmas.Bool.{false_from_ne_true}
 use Rattle.std.proofs.lemmas.List.Elements.{filter-append}
@@ -12,18 +12,22 @@ use Rattle.dconf_model.specs.Names.{full_name}
 use Rattle.dconf_model.specs.Settings.{Settings}
 use Rattle.dconf_model.specs.Table.{Table as Region}
 use Rattle.dconf_model.specs.Values.{held_value}
-use Rattle.dconf_model.proofs.ParentLaws.{by_bool}
 use Rattle.dconf_model.proofs.ComputedNames.{name_of_named, named_of_name}
 use Rattle.gvdb_read.specs.Tables.{region}
 use Rattle.dconf_layers.specs.declared.layer.Layer.{Layer}
-use Rattle.dconf_differences.specs.Differing.{differs}
+use Rattle.dconf_differences.specs.Differing.{differs, HaveAlike, HaveAlikeOutside, PassesAlike}
 use Rattle.dconf_layers.specs.LayerRows.{AreOf, items_of, layer_paths, paths_of, row_at, rows_from, value_in}
 use Rattle.dconf_layers.specs.LayerSettings.{settings_of}
-use Rattle.dconf_differences.specs.Twins.{AreTwins, HaveAlike, HaveAlikeOutside, PassesAlike}
 use Rattle.gvdb_alike.specs.NamesAlike.{AreNamedAlike}
 use Rattle.gvdb_alike.specs.ValuesAlike.{AreAlikeOutside, HasElsewhere}
 use Rattle.dconf_differences.proofs.DifferingLaws.{differs_told}
 use Rattle.dconf_layers.proofs.EntryLaws.{all_rows, bytes_there, no_row, row_there, rows_split, there_too}
+
+-- the layers are the same but for the first
+pub record AreTwins (l m : Layers) (s t : Settings) : Type 0 where
+  pub others : List Settings
+  pub first : l.layers ≡ s ∷ others
+  pub second : m.layers ≡ t ∷ others
 
 -- ---- what is alike in the first layers is seen alike
 

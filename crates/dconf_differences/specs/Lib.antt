@@ -1,3 +1,1 @@
-pub mod SameValues
 pub mod Differing
-pub mod Twins

@@ -7,8 +7,7 @@ ghost use Rattle.dconf_path.specs.Paths.{key_text};
 ghost use Rattle.dconf_layers.specs.Entries.{entry_row};
 ghost use Rattle.dconf_layers.specs.LayerSettings.{settings_of, seen_in};
 ghost use Rattle.dconf_layers.specs.TextSets.{with_texts};
-ghost use Rattle.dconf_differences.specs.Differing.{AreDiffering, Differs, differs, first_keys, with_first};
-ghost use Rattle.dconf_differences.specs.Twins.{PassesAlike};
+ghost use Rattle.dconf_differences.specs.Differing.{AreDiffering, Differs, differs, first_keys, with_first, PassesAlike};
 
 use crate::same_values::show_same;
 use crate::twins::Twins;

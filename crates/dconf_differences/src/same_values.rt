@@ -1,7 +1,7 @@
 //! Whether two views show the same value.
-ghost use Rattle.std.specs.Prelude.{◌≡◌, ◌≤◌, ◌<◌, ◌+◌, ◌↔◌, true, IfOk, IsTrue, OnOk};
+ghost use Rattle.std.specs.Prelude.{◌≡◌, ◌<◌, ◌+◌, ◌↔◌, true, IfOk, IsTrue, OnOk};
 ghost use Rattle.gv_model.specs.Printed.{is_too_large};
-ghost use Rattle.gv_model.specs.Tree.{children, nodes, nodes_of};
+ghost use Rattle.gv_model.specs.Tree.{children, nodes};
 ghost use Rattle.gv_view.specs.Views.{value, view_ty};
 
 use gv_normal::is_normal;
@@ -41,7 +41,7 @@ pub fn show_same(alloc: Global, first: View<'_>, second: View<'_>) -> Result<boo
 }
 
 impl<'a, 'b> Compared<'a, 'b> {
-    ghost use Rattle.dconf_differences.specs.SameValues.{AreSame, IsSame, work};
+    ghost use Rattle.dconf_differences.specs.Differing.{AreSame, IsSame, work};
 
     /// Whether they are the same bytes at one type.
     fn are_alike(self) -> bool

@@ -4,7 +4,7 @@ ghost use Rattle.gvdb_alike.specs.NamesAlike.{AreNamedAlike};
 ghost use Rattle.gvdb_read.specs.Tables.{region};
 ghost use Rattle.dconf_layers.specs.Entries.{entries_left};
 ghost use Rattle.dconf_layers.specs.LayerRows.{AreOf};
-ghost use Rattle.dconf_differences.specs.Twins.{AreAsked, HaveAlikeOutside};
+ghost use Rattle.dconf_differences.specs.Differing.{AreAsked, HaveAlikeOutside};
 
 use dconf_layers::{Entries, Layer};
 use gvdb_alike::{ItemSpan, differing_items};

@@ -1,7 +1,7 @@
 use Rattle.std.proofs.Common.{◌≡◌, sym, ◌∙◌, refl, subst, rules, []}
 use Rattle.gv_view.specs.Views.{value}
 use Rattle.dconf_model.proofs.PathMaps.{no_truth}
-use Rattle.dconf_differences.specs.SameValues.{AreSame}
+use Rattle.dconf_differences.specs.Differing.{AreSame}
 use Rattle.dconf_differences.proofs.SameValueLaws.{compared_one, less_work}
 use Rattle.dconf_differences.proofs.same_values.show_same.Goals as goal
 

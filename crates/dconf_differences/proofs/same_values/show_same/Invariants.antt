@@ -1,6 +1,6 @@
 use Rattle.std.specs.Prelude.{◌≡◌, ◌↔◌}
 use Rattle.gv_view.specs.Views.{value}
-use Rattle.dconf_differences.specs.SameValues.{AreSame, work}
+use Rattle.dconf_differences.specs.Differing.{AreSame, work}
 use Rattle.dconf_differences.proofs.same_values.show_same.Given as goal
 
 -- the two are the same where those that are left are

@@ -4,7 +4,7 @@ use Rattle.gv_model.specs.Parts.{part_trees}
 use Rattle.gv_model.specs.Tree.{nodes, nodes_of}
 use Rattle.gv_view.specs.Children.{children_left}
 use Rattle.gv_view.specs.Views.{value}
-use Rattle.dconf_differences.specs.SameValues.{AreSame, IsSame, work}
+use Rattle.dconf_differences.specs.Differing.{AreSame, IsSame, work}
 use Rattle.dconf_differences.proofs.SameValueLaws.{AreLeft}
 use Rattle.dconf_differences.proofs.same_values.Compared.add_children.Given as goal
 

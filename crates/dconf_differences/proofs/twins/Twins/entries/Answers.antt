@@ -1,7 +1,6 @@
 use Rattle.std.proofs.Common.{◌∙◌, ◌-◌, ap, arith, subst, sym, List, ℕ}
 use Rattle.std.specs.Prelude.{filter}
-use Rattle.gvdb_read.specs.Tables.{region}
-use Rattle.dconf_layers.specs.LayerRows.{AreOf, items_of, paths_of}
+use Rattle.dconf_layers.specs.LayerRows.{AreOf, paths_of}
 use Rattle.dconf_layers.proofs.EntryLaws.{rows_in}
 use Rattle.dconf_differences.proofs.TwinLaws.{asked_within}
 use Rattle.dconf_differences.proofs.twins.Twins.entries.Goals as goal
