@@ -1,6 +1,6 @@
 -- What counts of a bad database, by the fault of what was tried.
 use Rattle.std.proofs.Common.{◌≡◌, ◌⊎◌, inl, inr, ℕ, List, Option, Some, None, refl, sym, ◌∙◌, ap}
-use Rattle.dconf_model.specs.Databases.{IsBad, IsTooBig, Verdict}
+use Rattle.dconf_model.specs.Databases.{IsBad, IsTooBig, Verdict, IsGood}
 use Rattle.dconf_model.specs.Opening.{IsOpenFault, OpenFault}
 use Rattle.dconf_model.specs.Opening.OpenFault.{short, bad_signature, bad_version, bad_root, bad_table}
 use Rattle.dconf_model.specs.Salvaging.{IsSalvaged}
@@ -13,7 +13,7 @@ use Rattle.dconfdb_calls.specs.Salvaged.{IsSalvageOf, IsUnsalvaged, IsUnwritten}
 use Rattle.dconfdb_calls.specs.declared.fault.Fault.{Fault}
 use Rattle.dconfdb_calls.specs.declared.fault.Fault.TheVariants.{Memory, TooBig, Unsound}
 use Rattle.dconfdb_calls.specs.declared.opened.BadFile.{BadFile}
-use Rattle.dconf_found.specs.Counts.{CountsBad, IsOfNoDatabase, SoundCountsAsItself, nothing_of}
+use Rattle.dconf_found.specs.FoundFolders.{CountsBad, IsOfNoDatabase, nothing_of, Counts}
 use Rattle.dconf_found.specs.declared.bad_databases.Loss.{Loss}
 
 pub not_keyless : (file : List ℕ) → IsNotKeyless file Unsound → (mended : List ℕ) → ¬ IsKeyless file mended
@@ -41,7 +41,9 @@ counts_nothing file fault bad_file counted loss bad unsalvaged none c l =
       inr (inr (record { lost = nothing_of bad_file; fault = open_fault.0; none = open_fault.1; counted_is = c; loss_is = l; keys = refl; locks = refl })),
     )
 
-pub sound_counts_as_itself : SoundCountsAsItself
+-- a sound one counts as itself, whole
+pub sound_counts_as_itself : (file : List ℕ) (counted : Option (List ℕ)) (loss : Option Loss) → IsGood (Some file) → Counts file counted loss →
+    (counted ≡ Some file) × (loss ≡ None)
 sound_counts_as_itself file counted loss good (inl is) = (is.1, is.2)
 sound_counts_as_itself file counted loss good (inr bad) = absurd (not_bad (Some file) bad.0 good bad.1)
 

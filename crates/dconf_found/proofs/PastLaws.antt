@@ -67,10 +67,6 @@ module _ {F : Type 0} (Past : F → List Event → Type 0) (f g : FoundFolder F)
     own = own;
   }
 
-  -- what is shown is what there is, before it is written
-  pub unwritten_is : f.is_written ≡ false → es ≡ shown_of f
-  unwritten_is is = past.es_is ∙ ap (λ (x : List Event). x ++ shown_of f) (past.unwritten is)
-
 -- ---- by the answer of a call
 
 pub ok_from : {T E : Type 0} (r s : Result T E) (P Q : Type 0) → r ≡ s → OnOk s P → (P → Q) → OnOk r Q

@@ -1,12 +1,140 @@
--- What a folder that was found shows, by what the inner folder holds.
-use Rattle.std.specs.Prelude.{◌≡◌, ◌⊎◌, ℕ, Bool, false, List, [], ◌∷◌, ◌++◌, IfSome, IsSome}
+-- What counts of a bad database's file, what a read of a store that was found gives, and what its folder shows.
+use Rattle.std.specs.Prelude.{◌≡◌, ◌⊎◌, ℕ, Bool, false, List, [], ◌∷◌, ◌++◌, IfSome, IsSome, true, not, ◌&&◌, map, Option, Some, None, codes, ◌≢◌}
 use Rattle.std.specs.String.{string_bytes}
 use Rattle.dconf_model.specs.Folders.{Event, file_of, read_content}
 use Rattle.dconf_model.specs.Folders.Event.{touch}
 use Rattle.dconf_disk.specs.Notes.{events_noted, is_honest}
-use Rattle.dconf_found.specs.Lookups.{Lost, IsShown, losses}
 use Rattle.dconf_found.specs.declared.found.FoundFolder.{FoundFolder}
 use Rattle.dconf_found.specs.declared.lookup.Lookup.{Lookup}
+use Rattle.std.specs.Str.{bytes_eq}
+use Rattle.dconf_model.specs.Paths.{starts_with_slash}
+use Rattle.dconf_model.specs.Reads.{IsOverSize}
+use Rattle.dconf_found.specs.declared.bad.BadDatabase.{BadDatabase}
+use Rattle.dconf_found.specs.declared.bad_databases.Loss.{Loss}
+use Rattle.dconf_model.specs.Databases.{IsBad, IsGood, IsTooBig, Verdict}
+use Rattle.dconf_model.specs.Opening.{IsOpenFault, OpenFault}
+use Rattle.dconf_model.specs.Salvaging.{IsSalvaged}
+use Rattle.dconf_model.specs.Settings.{Settings}
+use Rattle.dconfdb_calls.specs.Keyless.{IsKeyless}
+use Rattle.dconfdb_calls.specs.Salvaged.{IsSalvageOf}
+use Rattle.dconfdb_calls.specs.declared.fault.Fault.{Fault}
+use Rattle.dconfdb_calls.specs.declared.fault.Fault.TheVariants.{Memory, TooBig}
+use Rattle.dconfdb_calls.specs.declared.opened.BadFile.{BadFile}
+
+-- it is a database of another kind: what is salvaged, so many values and locks
+pub record CountsSalvaged (file : List ℕ) (counted : Option (List ℕ)) (loss : Option Loss) : Type 0 where
+  pub it : List ℕ
+  pub lost : Loss
+  pub other : (mended : List ℕ) → ¬ IsKeyless file mended
+  pub salvaged : IsSalvageOf file it lost.keys lost.locks
+  pub counted_is : counted ≡ Some it
+  pub loss_is : loss ≡ Some lost
+
+-- it is none: nothing
+pub record CountsNothing (file : List ℕ) (counted : Option (List ℕ)) (loss : Option Loss) : Type 0 where
+  pub lost : Loss
+  pub fault : OpenFault
+  pub none : IsOpenFault file fault
+  pub counted_is : counted ≡ None
+  pub loss_is : loss ≡ Some lost
+  pub keys : lost.keys ≡ 0
+  pub locks : lost.locks ≡ 0
+
+-- of one that dconf made of no key counts the sound database that it stands for
+abbrev pub CountsBad : List ℕ → Option (List ℕ) → Option Loss → Type 0
+CountsBad file counted loss =
+    (v : Verdict) × IsBad (Some file) v
+    × (((it : List ℕ) × IsKeyless file it × (counted ≡ Some it) × (loss ≡ None)) ⊎ (CountsSalvaged file counted loss ⊎ CountsNothing file counted loss))
+
+-- a sound database as it is
+abbrev pub Counts : List ℕ → Option (List ℕ) → Option Loss → Type 0
+Counts file counted loss = (IsGood (Some file) × (counted ≡ Some file) × (loss ≡ None)) ⊎ CountsBad file counted loss
+
+-- what is salvaged of it has no database that could be read
+abbrev pub IsTooBigToCount : List ℕ → Type 0
+IsTooBigToCount file =
+    ((v : Verdict) × IsBad (Some file) v × ((s : Settings) × IsSalvaged file s × IsTooBig s))
+    ⊎ ((it : Option (List ℕ)) × ((loss : Option Loss) × Counts file it loss × IsOverSize it))
+
+-- ---- words of private parts
+
+abbrev pub nothing_of : BadFile → Loss
+nothing_of bad = record { bad = bad; keys = 0; locks = 0 }
+
+-- a fault of a file, and not of what is written
+abbrev pub IsOfNoDatabase : Fault → Type 0
+IsOfNoDatabase fault = (fault ≢ Memory) × (fault ≢ TooBig)
+
+-- ---- what is lost of databases
+
+-- of which one what is lost
+abbrev pub Lost : Type 0
+Lost = List ℕ × Loss
+
+abbrev pub losses : List BadDatabase → List Lost
+losses bad = map (λ b. (string_bytes b.name, b.loss)) bad
+
+abbrev pub losses_of : List ℕ → Option Loss → List Lost
+losses_of name None = []
+losses_of name (Some loss) = (name, loss) ∷ []
+
+-- ---- what a read gives
+
+-- the profile as it is, or that of the user alone
+abbrev pub IsProfile : Bool → Option (List ℕ) → Option (List ℕ) → Type 0
+IsProfile true held given = given ≡ held
+IsProfile false held given = given ≡ Some (codes "user-db:user")
+
+-- of a database what counts
+abbrev pub IsDatabaseGiven : Option (List ℕ) → Option (List ℕ) → Option Loss → Type 0
+IsDatabaseGiven None given lost = (given ≡ None) × (lost ≡ None)
+IsDatabaseGiven (Some file) given lost = Counts file given lost
+
+abbrev pub is_profile : Lookup → List ℕ → Bool
+is_profile lookup name = bytes_eq name (string_bytes lookup.profile)
+
+-- without a folder no name in it has a file
+abbrev pub is_nowhere : Lookup → List ℕ → Bool
+is_nowhere lookup name = not lookup.has_folder && not (starts_with_slash name)
+
+-- by whether the name is the profile's, and whether it is nowhere
+abbrev pub IsGivenBy : Bool → Bool → Bool → Option (List ℕ) → Option (List ℕ) → Option Loss → Type 0
+IsGivenBy true nowhere has_profile held given lost = IsProfile has_profile held given × (lost ≡ None)
+IsGivenBy false true has_profile held given lost = (given ≡ None) × (lost ≡ None)
+IsGivenBy false false has_profile held given lost = IsDatabaseGiven held given lost
+
+-- where the name has this file, a read gives this, and this is lost
+abbrev pub IsGiven : Lookup → List ℕ → Option (List ℕ) → Option (List ℕ) → Option Loss → Type 0
+IsGiven lookup name held given lost = IsGivenBy (is_profile lookup name) (is_nowhere lookup name) lookup.has_profile held given lost
+
+-- and what was lost before, with that
+abbrev pub IsLookedUp : Lookup → List ℕ → Option (List ℕ) → Option (List ℕ) → List Lost → List Lost → Type 0
+IsLookedUp lookup name held given old new = (lost : Option Loss) × IsGiven lookup name held given lost × (new ≡ old ++ losses_of name lost)
+
+-- ---- what is too big to be read
+
+abbrev pub IsTooBigProfile : Bool → Option (List ℕ) → Type 0
+IsTooBigProfile true held = IsOverSize held
+IsTooBigProfile false held = ⊥
+
+abbrev pub IsTooBigDatabase : Option (List ℕ) → Type 0
+IsTooBigDatabase None = ⊥
+IsTooBigDatabase (Some file) = IsOverSize (Some file) ⊎ IsTooBigToCount file
+
+abbrev pub IsTooBigBy : Bool → Bool → Bool → Option (List ℕ) → Type 0
+IsTooBigBy true nowhere has_profile held = IsTooBigProfile has_profile held
+IsTooBigBy false true has_profile held = ⊥
+IsTooBigBy false false has_profile held = IsTooBigDatabase held
+
+abbrev pub IsTooBigAt : Lookup → List ℕ → Option (List ℕ) → Type 0
+IsTooBigAt lookup name held = IsTooBigBy (is_profile lookup name) (is_nowhere lookup name) lookup.has_profile held
+
+-- ---- the folder that is shown
+
+-- where the name has this file, it shows this: what a read gives, or something too big if that is too big
+abbrev pub IsShown : Lookup → List ℕ → Option (List ℕ) → Option (List ℕ) → Type 0
+IsShown lookup name held shown =
+    ((lost : Option Loss) × IsGiven lookup name held shown lost) ⊎ (IsTooBigAt lookup name held × IsOverSize shown)
 
 module _ {F : Type 0} (folder : FoundFolder F) where
   -- the folder that is asked

@@ -1,6 +1,6 @@
 //! The databases that were bad when they were read.
 ghost use Rattle.std.specs.Prelude.{◌≡◌, ◌∷◌, ◌++◌, [], OnErr, OnOk};
-ghost use Rattle.dconf_found.specs.Lookups.{losses};
+ghost use Rattle.dconf_found.specs.FoundFolders.{losses};
 
 use crate::bad_databases::Loss;
 use std::alloc::{AllocError, Global};

@@ -1,10 +1,10 @@
 //! What counts of a database's file where a bad one is not refused.
-ghost use Rattle.std.specs.Prelude.{◌≡◌, ◌≢◌, ℕ, List, IfOk, IfNone, IfSome, IsErrOf, None, Some, option_map, vec_items};
+ghost use Rattle.std.specs.Prelude.{◌≡◌, ℕ, List, IfOk, IfNone, IfSome, IsErrOf, None, Some, option_map, vec_items};
 ghost use Rattle.dconf_model.specs.Databases.{IsBad, IsGood, IsTooBig, Verdict};
 ghost use Rattle.dconf_model.specs.Salvaging.{IsSalvaged};
 ghost use Rattle.dconf_model.specs.Settings.{Settings};
 ghost use Rattle.dconfdb_calls.specs.Keyless.{IsKeyless};
-ghost use Rattle.dconf_found.specs.Counts.{Counts, CountsBad, IsOfNoDatabase, IsTooBigToCount, nothing_of};
+ghost use Rattle.dconf_found.specs.FoundFolders.{Counts, CountsBad, IsOfNoDatabase, IsTooBigToCount, nothing_of};
 
 use dconf_disk::FolderFault;
 use dconfdb_calls::{BadFile, Fault, keyless_file, open_layer, salvaged_file};

@@ -1,5 +1,5 @@
 //! A folder in which bad databases count as what can be saved of them.
-ghost use Rattle.std.specs.Prelude.{◌≡◌, ◌⊎◌, ◌≤◌, ◌∷◌, [], ℕ, List, IfOk, IfSome, IsErrOf, IsSomeAnd, IsTrue, None, OnErr, OnOk, Some, false, length, option_map, string_bytes, vec_items};
+ghost use Rattle.std.specs.Prelude.{◌≡◌, ◌≤◌, [], List, IfOk, IfSome, IsErrOf, IsSomeAnd, IsTrue, None, OnErr, OnOk, Some, false, length, option_map, string_bytes, vec_items};
 ghost use Rattle.dconf_model.specs.Folders.{Event, read_content};
 ghost use Rattle.dconf_model.specs.Reads.{IsOverSize};
 ghost use Rattle.dconf_disk.specs.Failures.{HasCause};
@@ -36,8 +36,7 @@ pub struct FoundFolder<F> {
 
 impl<F: Folder> FoundFolder<F> {
     ghost use Rattle.std.specs.Prelude.{true};
-    ghost use Rattle.dconf_found.specs.FoundFolders.{agrees, failures_of, inner_of, lost_of};
-    ghost use Rattle.dconf_found.specs.Lookups.{losses};
+    ghost use Rattle.dconf_found.specs.FoundFolders.{agrees, failures_of, inner_of, lost_of, losses};
 
     /// The folder `inner`, with the profile in the file `profile`, or that of the user alone if there is none.
     pub fn new(
@@ -108,8 +107,7 @@ fn is_name(own: &Option<String>, name: &str) -> bool
 
 impl<F: Folder> Folder for FoundFolder<F> {
     ghost use Rattle.std.specs.Prelude.{◌&&◌};
-    ghost use Rattle.dconf_found.specs.FoundFolders.{IsPast, agrees, failures_of, inner_of, lookup_of, lost_of};
-    ghost use Rattle.dconf_found.specs.Lookups.{IsLookedUp, IsTooBigAt};
+    ghost use Rattle.dconf_found.specs.FoundFolders.{IsPast, agrees, failures_of, inner_of, lookup_of, lost_of, IsLookedUp, IsTooBigAt};
 
     ghost past = { IsPast F.past };
 

@@ -2,8 +2,7 @@
 ghost use Rattle.std.specs.Prelude.{◌≡◌, ◌≤◌, ◌++◌, List, Option, IfOk, IfSome, IsTrue, IsErrOf, OnErr, false, length, option_map, vec_items};
 ghost use Rattle.dconf_model.specs.Folders.{Event, read_content};
 ghost use Rattle.dconf_model.specs.Reads.{IsOverSize};
-ghost use Rattle.dconf_found.specs.Counts.{Counts, IsTooBigToCount};
-ghost use Rattle.dconf_found.specs.Lookups.{IsDatabaseGiven, IsLookedUp, IsProfile, IsTooBigAt, IsTooBigDatabase, IsTooBigProfile, is_nowhere, losses, losses_of};
+ghost use Rattle.dconf_found.specs.FoundFolders.{Counts, IsTooBigToCount, IsDatabaseGiven, IsLookedUp, IsProfile, IsTooBigAt, IsTooBigDatabase, IsTooBigProfile, is_nowhere, losses, losses_of};
 ghost use Rattle.dconf_found.specs.declared.bad_databases.Loss.{Loss};
 
 use crate::bad::{BadDatabase, note};

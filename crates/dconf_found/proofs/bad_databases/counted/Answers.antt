@@ -3,7 +3,7 @@ use Rattle.std.proofs.lemmas.Result.{IfOk-weaker}
 use Rattle.dconf_model.specs.Databases.{IsBad, IsTooBig, Verdict}
 use Rattle.dconf_model.specs.Salvaging.{IsSalvaged}
 use Rattle.dconf_model.specs.Settings.{Settings}
-use Rattle.dconf_found.specs.Counts.{CountsBad}
+use Rattle.dconf_found.specs.FoundFolders.{CountsBad}
 use Rattle.dconf_found.proofs.bad_databases.counted.Goals as goal
 
 pub returns-in-Some-clause-counts : goal.returns-in-Some-clause-counts
