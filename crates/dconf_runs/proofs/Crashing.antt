@@ -13,8 +13,11 @@ use Rattle.dconf_model.specs.Survivals.RunEnd.{stopped, crashed}
 use Rattle.dconf_model.proofs.FolderLaws.{counts_now, longer}
 use Rattle.dconf_model.proofs.SurvivalLaws.{nothing_is_lost, next_run_finds_all}
 use Rattle.dconf_runs.specs.declared.attempt.Attempt.{Attempt}
-use Rattle.dconf_runs.specs.Requests.{asked_of}
-use Rattle.dconf_runs.specs.Attempts.{AreAttempts, HaveComeInTurn, IsAttempt, NothingIsLostBy}
+use Rattle.dconf_runs.specs.Programs.{asked_of, AreAttempts, IsAttempt, NothingIsLostBy}
+
+-- one after another, in a folder that nothing else changes
+abbrev pub HaveComeInTurn : List Event → List Attempt → List (Option ℕ) → List Event → Type 0
+HaveComeInTurn old attempts statuses new = (tried : List Tried) × AreAttempts attempts statuses tried × CameInTurn old tried new
 
 -- ---- one attempt more
 

@@ -13,8 +13,7 @@ use Rattle.dconf_model.specs.Programs.{IsChangeOf, OnlyReads, Prints, RanInTurn,
 use Rattle.dconf_model.specs.Survivals.{AskedCommand}
 use Rattle.dconf_model.proofs.RunChanges.{program_gives}
 use Rattle.dconf_runs.specs.declared.request.Request.{Request}
-use Rattle.dconf_runs.specs.Requests.{asked_of}
-use Rattle.dconf_runs.specs.Programs.{AreRunsOf, GivesWhatWasWritten, HasRunInTurn, IsRunOf, changes_done}
+use Rattle.dconf_runs.specs.Programs.{asked_of, AreRunsOf, GivesWhatWasWritten, HasRunInTurn, IsRunOf, changes_done}
 
 -- ---- one run more
 

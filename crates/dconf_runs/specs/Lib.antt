@@ -1,3 +1,1 @@
-pub mod Requests
 pub mod Programs
-pub mod Attempts

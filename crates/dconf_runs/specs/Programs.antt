@@ -1,17 +1,24 @@
--- What a program of runs gives.
-use Rattle.std.specs.Prelude.{◌≡◌, ◌⊎◌, ◌++◌, ℕ, List, [], ◌∷◌}
+-- What a program of runs gives, and what is left by runs some of which a crash stops.
+use Rattle.std.specs.Prelude.{◌≡◌, ◌⊎◌, ◌++◌, ℕ, List, [], ◌∷◌, false, Option, Some, None}
 use Rattle.std.specs.List.{AllByRecursion}
-use Rattle.dconf_model.specs.Profiles.{Database}
+use Rattle.dconf_model.specs.Profiles.{Database, database_file}
 use Rattle.dconf_model.specs.Sources.{Given}
 use Rattle.dconf_model.specs.Changes.{Change}
-use Rattle.dconf_model.specs.Folders.{Event}
+use Rattle.dconf_model.specs.Folders.{Event, MayLeave, read_content}
 use Rattle.dconf_model.specs.Commands.{Command}
 use Rattle.dconf_model.specs.Reads.{Content}
 use Rattle.dconf_model.specs.Outcomes.{Output}
 use Rattle.dconf_model.specs.Runs.{NoMemory}
 use Rattle.dconf_model.specs.Stores.{OwnValues, own_after}
 use Rattle.dconf_model.specs.Programs.{AreApart, FolderHolds, IsChangeOf, IsQuestion, OnlyReads, Prints, RanInTurn, Run, asked_change, if_done}
-use Rattle.dconf_model.specs.Survivals.{AskedCommand}
+use Rattle.dconf_model.specs.Survivals.{AskedCommand, AreKept, AreSettled, Attempt as Tried, FileHolds, RunEnd, asked_changes}
+use Rattle.dconf_args.specs.Commands.{command_of}
+use Rattle.dconf_runs.specs.declared.request.Request.{Request}
+use Rattle.dconf_model.specs.Bytes.{MaybeBytes}
+use Rattle.dconf_model.specs.Survivals.RunEnd.{ended, stopped, crashed}
+use Rattle.dconf_runs.specs.declared.attempt.Attempt.{Attempt}
+use Rattle.dconf_runs.specs.declared.attempt.End.{End}
+use Rattle.dconf_runs.specs.declared.attempt.End.TheVariants.{Whole, Stopped, Crashed}
 
 -- a run of this command and its input, with this status
 pub record IsRunOf (asked : AskedCommand) (status : ℕ) (r : Run) : Type 0 where
@@ -41,3 +48,40 @@ GivesWhatWasWritten content earlier statuses last output =
     AreApart profile d ds → FolderHolds content profile d ds own gs → AllByRecursion (λ asked. IsChangeOf profile asked.0 ⊎ OnlyReads asked.0) earlier →
     IsQuestion profile last →
     Prints (d ∷ ds) (own_after gs own (changes_done earlier statuses)) gs last output ⊎ NoMemory output
+
+abbrev pub asked_of : Request → AskedCommand
+asked_of r = (command_of r.command, record { bytes = r.input.items; fails = false })
+
+-- it came to its end with this status, or a crash stopped it or came before it
+abbrev pub IsEndOf : End → Option ℕ → RunEnd → Type 0
+IsEndOf Whole (Some status) (ended output) = output.status ≡ status
+IsEndOf (Stopped call outcome) None stopped = Unit {0}
+IsEndOf (Crashed outcome) None crashed = Unit {0}
+IsEndOf _ _ _ = ⊥
+
+-- the model's attempt of ours
+pub record IsAttempt (attempt : Attempt) (status : Option ℕ) (tried : Tried) : Type 0 where
+  pub command_is : tried.command ≡ (asked_of attempt.request).0
+  pub input_is : tried.input ≡ (asked_of attempt.request).1
+  pub end_is : IsEndOf attempt.end status tried.end
+
+abbrev pub AreAttempts : List Attempt → List (Option ℕ) → List Tried → Type 0
+AreAttempts [] [] [] = Unit {0}
+AreAttempts (attempt ∷ more) (status ∷ statuses) (tried ∷ others) = IsAttempt attempt status tried × AreAttempts more statuses others
+AreAttempts _ _ _ = ⊥
+
+-- What is kept of them: some commands, in order. Of these the file says whatever a crash leaves of it, and the folder stands so.
+pub record IsKeptOf (tried : List Tried) (new : List Event) (profile : List ℕ) (d : Database) (ds : List Database) (own : OwnValues)
+    (gs : List Given) : Type 0 where
+  pub left : (c : MaybeBytes) → MayLeave new (database_file d) c →
+      (kept : List AskedCommand) × AreKept (database_file d) tried kept × FileHolds c (own_after gs own (asked_changes kept))
+  pub found : (kept : List AskedCommand) × AreKept (database_file d) tried kept
+      × FolderHolds (read_content new) profile d ds (own_after gs own (asked_changes kept)) gs
+
+-- Where the folder stood, and no crash changed it, and each command changes its first database.
+abbrev pub NothingIsLostBy : List Event → List Attempt → List (Option ℕ) → List Event → Type 0
+NothingIsLostBy old attempts statuses new =
+    (profile : List ℕ) (d : Database) (ds : List Database) (own : OwnValues) (gs : List Given) →
+    AreApart profile d ds → FolderHolds (read_content old) profile d ds own gs → AreSettled old profile d ds →
+    AllByRecursion (λ attempt. IsChangeOf profile (asked_of attempt.request).0) attempts →
+    (tried : List Tried) × AreAttempts attempts statuses tried × IsKeptOf tried new profile d ds own gs

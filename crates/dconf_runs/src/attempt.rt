@@ -1,9 +1,9 @@
 //! Runs some of which a crash stops.
-ghost use Rattle.std.specs.Prelude.{ℕ, List, IfOk, length, ◌≡◌};
+ghost use Rattle.std.specs.Prelude.{List, IfOk, length, ◌≡◌};
 ghost use Rattle.dconf_model.specs.Folders.{Event};
 ghost use Rattle.dconf_model.specs.Survivals.{Attempt as Tried, CameTo};
 ghost use Rattle.dconf_disk.specs.MemoryFolders.{IsPast};
-ghost use Rattle.dconf_runs.specs.Attempts.{HaveComeInTurn, IsAttempt, NothingIsLostBy};
+ghost use Rattle.dconf_runs.specs.Programs.{IsAttempt, NothingIsLostBy};
 
 use crate::request::{Request, run_unread};
 use dconf_disk::{FolderFault, MemoryFolder};

@@ -4,8 +4,7 @@ ghost use Rattle.dconf_model.specs.Folders.{Event, read_content};
 ghost use Rattle.dconf_model.specs.Outcomes.{Output};
 ghost use Rattle.dconf_args.specs.Commands.{command_of};
 ghost use Rattle.dconf_cli.specs.Outputs.{Leaves};
-ghost use Rattle.dconf_runs.specs.Requests.{asked_of};
-ghost use Rattle.dconf_runs.specs.Programs.{GivesWhatWasWritten, HasRunInTurn};
+ghost use Rattle.dconf_runs.specs.Programs.{asked_of, GivesWhatWasWritten, HasRunInTurn};
 
 use crate::request::{Request, none_failed, run_on, run_unread};
 use dconf_cli::{Command, Counted};

@@ -5,7 +5,7 @@ ghost use Rattle.dconf_model.specs.Outcomes.{Output};
 ghost use Rattle.dconf_model.specs.Runs.{Ran, RanCalmly};
 ghost use Rattle.dconf_streams.specs.Streams.{NoneFailed};
 ghost use Rattle.dconf_cli.specs.Outputs.{Leaves};
-ghost use Rattle.dconf_runs.specs.Requests.{asked_of};
+ghost use Rattle.dconf_runs.specs.Programs.{asked_of};
 
 use dconf_cli::{Command, Counted, run};
 use dconf_disk::{Folder, FolderFault};

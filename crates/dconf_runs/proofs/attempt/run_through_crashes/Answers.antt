@@ -3,9 +3,8 @@ use Rattle.std.proofs.lemmas.List.{length_push}
 use Rattle.std.proofs.lemmas.Iterator.Adapters.{YieldsList-from_vec}
 use Rattle.std.proofs.lemmas.Iterator.Consumers.{YieldsList-end}
 use Rattle.dconf_runs.specs.declared.attempt.Attempt.{Attempt}
-use Rattle.dconf_runs.specs.Attempts.{HaveComeInTurn}
 use Rattle.dconf_runs.proofs.Inputs.{pushed}
-use Rattle.dconf_runs.proofs.Crashing.{nothing_is_lost_by, one_attempt_more}
+use Rattle.dconf_runs.proofs.Crashing.{nothing_is_lost_by, one_attempt_more, HaveComeInTurn}
 use Rattle.dconf_runs.proofs.attempt.run_through_crashes.Goals as goal
 
 pub loop-attempt-preserved : goal.loop-attempt-preserved

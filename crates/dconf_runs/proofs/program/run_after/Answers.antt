@@ -1,7 +1,7 @@
 use Rattle.dconf_streams.specs.Streams.{NoneFailed}
 use Rattle.dconf_runs.proofs.Inputs.{none_between}
 use Rattle.dconf_runs.proofs.Turns.{gives_what_was_written}
-use Rattle.dconf_runs.specs.Requests.{asked_of}
+use Rattle.dconf_runs.specs.Programs.{asked_of}
 use Rattle.dconf_runs.proofs.program.run_after.Goals as goal
 
 pub returns-clause-printed : goal.returns-clause-printed

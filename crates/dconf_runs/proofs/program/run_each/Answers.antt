@@ -1,8 +1,7 @@
 use Rattle.std.proofs.Common.{◌≡◌, ◌+◌, ◌∙◌, ◌++◌, ◌∷◌, [], ℕ, List, length, map, sym, ap, subst}
 use Rattle.std.proofs.lemmas.List.{length_push}
 use Rattle.dconf_streams.specs.Streams.{NoneFailed}
-use Rattle.dconf_runs.specs.Requests.{asked_of}
-use Rattle.dconf_runs.specs.Programs.{HasRunInTurn}
+use Rattle.dconf_runs.specs.Programs.{asked_of, HasRunInTurn}
 use Rattle.dconf_runs.proofs.Inputs.{none_between, pushed}
 use Rattle.dconf_runs.proofs.Turns.{one_request_more}
 use Rattle.dconf_runs.proofs.program.run_each.Goals as goal

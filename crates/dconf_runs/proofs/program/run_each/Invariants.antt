@@ -1,7 +1,6 @@
 use Rattle.std.proofs.Common.{◌≡◌, IsTrue, List, length, map}
 use Rattle.dconf_model.specs.Folders.{Event}
-use Rattle.dconf_runs.specs.Requests.{asked_of}
-use Rattle.dconf_runs.specs.Programs.{HasRunInTurn}
+use Rattle.dconf_runs.specs.Programs.{asked_of, HasRunInTurn}
 use Rattle.dconf_runs.proofs.program.run_each.Given as goal
 
 abbrev pub invariant-loop-request : goal.invariant-loop-request
