@@ -72,7 +72,6 @@ impl<'a> Iterator for Entries<'a> {
 
     ghost remaining = { item_count entries_left };
 
-    #[inline(always)]
     fn next(&mut self) -> Option<Entry<'a>> {
         let (entry, next, left) = self.layer.first_entry(self.next, self.left);
         self.next = next;
@@ -107,7 +106,6 @@ impl<'a> Layer<'a> {
     }
 
     /// The first entry of so many items from this one on, and which items are after it.
-    #[inline(always)]
     fn first_entry(self, next: u32, left: u32) -> (Option<Entry<'a>>, u32, u32)
         requires { next + left ≤ items_of self }
         ensures entry { MatchOption result.0

@@ -105,7 +105,6 @@ impl<'a, 'l> LentLayers<'a, 'l> {
     }
 
     /// Where the value that is seen at a path is, of which this is the first place. Locks are asked of the layers after that alone.
-    #[inline(always)]
     pub(crate) fn place_above(
         self,
         first: usize,
