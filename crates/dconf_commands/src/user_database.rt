@@ -6,7 +6,7 @@ ghost use Rattle.dconf_model.specs.Databases.{IsDatabaseOf};
 ghost use Rattle.dconf_model.specs.Outcomes.{Writes};
 ghost use Rattle.dconf_model.specs.Profiles.{user_file};
 ghost use Rattle.dconf_model.specs.Settings.{Settings};
-ghost use Rattle.gvdb_write.specs.Limits.{IsRefusal};
+ghost use Rattle.gvdb_maps.specs.Limits.{IsRefusal};
 ghost use Rattle.dconf_path.specs.Profiles.{databases_of};
 ghost use Rattle.refused.specs.Faults.{fault_in};
 ghost use Rattle.dconf_engine.specs.ChangeFaults.{refusal_of};

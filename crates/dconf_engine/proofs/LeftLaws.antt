@@ -18,7 +18,7 @@ use Rattle.dconf_model.specs.Locks.{is_below}
 use Rattle.dconf_model.proofs.ParentLaws.{by_bool}
 use Rattle.dconf_model.proofs.PathMaps.{key_in, no_truth}
 use Rattle.dconf_model.proofs.SameBytes.{same_path}
-use Rattle.gvdb_write.proofs.KeysRise.{from_true}
+use Rattle.gvdb_maps.proofs.KeysRise.{from_true}
 use Rattle.dconf_layers.specs.declared.layer.Layer.{Layer}
 use Rattle.dconf_layers.specs.LayerRows.{layer_paths}
 use Rattle.dconf_layers.specs.LayerSettings.{settings_of}

@@ -25,9 +25,9 @@ use Rattle.dconf_model.proofs.SameBytes.{same_path}
 use Rattle.dconf_engine.specs.Unsaved.{Unsaved, with_changes}
 use Rattle.dconf_engine.specs.EngineLayers.{layers_of}
 use Rattle.dconf_engine.specs.Saved.{set_if, unless_changed, with_rows, with_unchanged, with_sets}
-use Rattle.gvdb_write.proofs.KeysRise.{from_true}
-use Rattle.gvdb_write.proofs.Read.{same_path as tie}
-use Rattle.gvdb_write.proofs.HeldEntries.{less_is_other}
+use Rattle.gvdb_maps.proofs.KeysRise.{from_true}
+use Rattle.gvdb_maps.proofs.Read.{same_path as tie}
+use Rattle.gvdb_maps.proofs.HeldEntries.{less_is_other}
 use Rattle.dconf_model.proofs.DatabaseLaws.{at_paths}
 use Rattle.dconf_engine.proofs.UnsavedLaws.{get_changed}
 

@@ -3,7 +3,7 @@ ghost use Rattle.std.specs.Prelude.{◌≡◌, true, false, IfOk, IfErr, OnOk, m
 ghost use Rattle.refused.specs.Faults.{OfFault};
 ghost use Rattle.dconf_model.specs.Changes.{Change.load_values, Refusal.too_large, all_storable, apply, saved, with_first_layer};
 ghost use Rattle.dconf_model.specs.Databases.{IsDatabaseOf};
-ghost use Rattle.gvdb_write.specs.Limits.{IsRefusal};
+ghost use Rattle.gvdb_maps.specs.Limits.{IsRefusal};
 ghost use Rattle.dconf_model.specs.Settings.{no_settings};
 ghost use Rattle.dconf_layers.specs.LayerRows.{layer_rows};
 ghost use Rattle.dconf_layers.specs.LayerSettings.{settings_of};

@@ -26,7 +26,7 @@ use Rattle.dconf_model.proofs.Listings.{first_or_later, listing_from, listing_ha
 use Rattle.dconf_model.proofs.OneSortedList.{in_order-map, sorted_is_in_order}
 use Rattle.dconf_model.proofs.PathMaps.{eq_turned, get_inserted, key_in}
 use Rattle.dconf_model.proofs.RisingTexts.{IsLess, Rises, less_of, listing_rises, one_rises}
-use Rattle.gvdb_write.proofs.KeysRise.{from_true}
+use Rattle.gvdb_maps.proofs.KeysRise.{from_true}
 use Rattle.dconf_layers.specs.TextSets.{TextSet, text_set, with_child, with_children, with_text, with_texts}
 use Rattle.dconf_layers.proofs.PathTests.{any_passing, parts_alike}
 

@@ -1,8 +1,8 @@
 //! Settings that are collected, and the bytes of a database that holds them.
 //!
 //! A [`Map`] keeps the bytes of a value at each path that has one, and the paths that are locked. [`write`] gives the
-//! bytes of a database of them, from start to end in one buffer. [`salvage`] gives what can be saved of one that may not
-//! be sound.
+//! bytes of a database of them, from start to end in one buffer. Both are of [`gvdb_maps`]. [`salvage`] gives what can be
+//! saved of a database that may not be sound.
 //!
 //! A map copies what it is given, but for the bytes that are handed over to it. [`write`] takes memory for its tables and for
 //! that buffer, and its time is that of sorting the paths.
@@ -15,22 +15,7 @@
 //! ```
 #![tactic(auto)]
 
-mod contents;
-mod database;
-mod entries;
-mod groups;
-mod layout;
-mod map;
-mod map_builder;
-mod names;
 mod salvaged;
-mod table;
-mod values;
-mod write_fault;
 
-pub use database::write;
-pub use layout::MAX_DATABASE_LEN;
-pub use map::{Keys, Locks, Map};
-pub use map_builder::MapBuilder;
+pub use gvdb_maps::{Keys, Locks, MAX_DATABASE_LEN, Map, MapBuilder, TooBig, WriteFault, write};
 pub use salvaged::{SalvageFault, name_of, salvage};
-pub use write_fault::{TooBig, WriteFault};

@@ -9,9 +9,9 @@ ghost use Rattle.dconf_model.specs.Table.{bytes_of, item, item_count, table_of, 
 ghost use Rattle.gvdb_read.specs.Tables.{region};
 ghost use Rattle.gvdb_write.specs.Salvaged.{HasLowestValues, HasNoShortText, IsLowestLocks, IsPointed, IsSalvageRefusal, SpellsLock, TakesLock, TakesValue};
 
-use crate::map::Map;
 use dconf_path::{KeyPath, LockPath, MAX_PATH_LEN};
 use gvdb_format::{Kind, LOCKS, OpenFault};
+use gvdb_maps::Map;
 use gvdb_read::Table;
 use refused::Refused;
 use std::alloc::{AllocError, Global};
@@ -71,7 +71,7 @@ fn salvage_value(alloc: Global, root: Table<'_>, i: u32, values: &mut Map) -> Re
     if KeyPath::parse(name.as_str()).is_err() {
         return Ok(());
     }
-    values.put(name, bytes.to_vec(alloc)?)
+    values.insert_text(name, bytes.to_vec(alloc)?)
 }
 
 /// The bytes of item `i`, where it is a value whose pointer is valid.

@@ -8,7 +8,7 @@ use Rattle.dconf_model.proofs.NameSteps.{is_item}
 use Rattle.dconf_path.specs.Paths.{lock_text}
 use Rattle.gvdb_read.specs.Tables.{region}
 use Rattle.gvdb_write.specs.Salvaged.{SpellsLock, TakesLock}
-use Rattle.gvdb_write.proofs.KeyPaths.{lock_is_path}
+use Rattle.gvdb_maps.proofs.KeyPaths.{lock_is_path}
 use Rattle.gvdb_write.proofs.SalvagedSteps.{takes_no_lock, takes_lock}
 use Rattle.gvdb_write.proofs.salvaged.salvage_lock.Goals as goal
 

@@ -10,7 +10,7 @@ use Rattle.dconf_model.specs.Profiles.{user_file}
 use Rattle.dconf_model.specs.Reads.{ReadResults}
 use Rattle.dconf_model.specs.Settings.{Settings}
 use Rattle.dconf_model.specs.Sources.{Loaded}
-use Rattle.gvdb_write.specs.Limits.{IsRefusal}
+use Rattle.gvdb_maps.specs.Limits.{IsRefusal}
 use Rattle.dconf_path.specs.Profiles.{databases_of}
 use Rattle.dconf_compile.specs.LineStops.{line_fault_of}
 use Rattle.dconf_compile.specs.Loading.{loaded_of, rows_loaded}

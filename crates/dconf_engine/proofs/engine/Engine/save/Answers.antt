@@ -4,7 +4,7 @@ use Rattle.dconf_model.specs.Changes.{saved, with_first_layer}
 use Rattle.dconf_model.specs.Databases.{IsDatabaseOf}
 use Rattle.dconf_model.specs.Layers.{Layers}
 use Rattle.dconf_model.specs.Settings.{Settings}
-use Rattle.gvdb_write.specs.Limits.{IsRefusal}
+use Rattle.gvdb_maps.specs.Limits.{IsRefusal}
 use Rattle.dconf_layers.specs.LayerSettings.{settings_of}
 use Rattle.dconf_engine.specs.Unsaved.{Unsaved, with_changes}
 use Rattle.dconf_layers.specs.declared.layer.Layer.{Layer}

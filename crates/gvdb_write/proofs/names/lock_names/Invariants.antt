@@ -1,7 +1,0 @@
-use Rattle.gvdb_write.specs.PathsLeft.{locks_left}
-use Rattle.gvdb_write.proofs.LockNames.{AreLocksSoFar}
-use Rattle.gvdb_write.proofs.SortedEntries.{settings_in}
-use Rattle.gvdb_write.proofs.names.lock_names.Given as goal
-
-abbrev pub invariant-loop-path : goal.invariant-loop-path
-invariant-loop-path l = record { so_far : AreLocksSoFar (settings_in l.sorted) l.names.items (locks_left l.path-iterator) }
