@@ -1,6 +1,6 @@
 /* The lock by which the programs that change files of a folder take turns: flock() on the file `.lock` in it, which is
  * made where it is missing, and stays. Whoever may write in the folder may open it, and nobody else. The program takes the
- * same one, in crates/dconf_disk/src/lock.rt. */
+ * same one, in crates/dconf_folders/src/lock.rt. */
 #ifndef LOCK_H
 #define LOCK_H
 

@@ -9,10 +9,10 @@ use Rattle.dconf_streams.specs.declared.counted.Counted.{Counted}
 use Rattle.dconf_streams.specs.Answers.{Answered, Refusal, line_of, outcome_of}
 use Rattle.dconf_cli.specs.Outputs.{Leaves, PrintsLine, PrintsText}
 use Rattle.dconf_cli.specs.Endings.{Ends}
-use Rattle.dconf_disk.specs.Driving.{IsOneMore}
+use Rattle.dconf_folders.specs.Failures.{IsOneMore}
 use Rattle.dconf_cli.proofs.StreamsLeft.{leaves_line, leaves_text}
 use Rattle.std.specs.Prelude.{OnOk, codes, string_bytes}
-use Rattle.dconf_disk.specs.declared.folder.Folder.{Ghosts}
+use Rattle.dconf_folders.specs.declared.folder.Folder.{Ghosts}
 
 module _ {F O E : Type 0} (ghosts : Ghosts F) (contents : O → Option (List ℕ)) (err_contents : E → Option (List ℕ)) where
   -- the outcome was given: an output came about, and was left on out and err

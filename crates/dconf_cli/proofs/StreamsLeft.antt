@@ -3,7 +3,7 @@ use Rattle.std.proofs.Common.{◌≡◌, ◌⊎◌, inl, inr, ℕ, List, [], Opt
 use Rattle.std.specs.Prelude.{OnErr, OnOk}
 use Rattle.std.proofs.lemmas.List.{take_all}
 use Rattle.dconf_model.specs.Outcomes.{done_output}
-use Rattle.dconf_disk.specs.Driving.{IsOneMore}
+use Rattle.dconf_folders.specs.Failures.{IsOneMore}
 use Rattle.dconf_streams.specs.declared.counted.Counted.{Counted}
 use Rattle.dconf_streams.specs.Counted.{Grew, failures_of}
 use Rattle.dconf_cli.specs.Outputs.{GrewByPart, Leaves, PrintsLine, PrintsText}

@@ -1,12 +1,12 @@
 -- How an answer comes about in a folder.
 use Rattle.std.specs.Prelude.{◌≡◌, ◌⊎◌, List, Option, Some, None}
-use Rattle.dconf_disk.specs.declared.folder.Folder.{Ghosts}
+use Rattle.dconf_folders.specs.declared.folder.Folder.{Ghosts}
 use Rattle.dconf_model.specs.Folders.{Event}
 use Rattle.dconf_model.specs.FaultTexts.{device_text}
 use Rattle.dconf_model.specs.Replacing.{Replaced, MaybeReplaced}
 use Rattle.dconf_model.specs.Outcomes.{Outcome, Output, Replacement, refused_output}
 use Rattle.dconf_model.specs.Runs.{NoMemory}
-use Rattle.dconf_disk.specs.Driving.{IsOneMore}
+use Rattle.dconf_folders.specs.Failures.{IsOneMore}
 
 module _ {F : Type 0} (ghosts : Ghosts F) (old new : F) where
   -- a file was replaced; or the device failed, and the file is the old one or the new one; or memory ran out, and nothing was done

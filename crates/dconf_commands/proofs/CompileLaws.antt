@@ -1,7 +1,7 @@
 -- What `compile` decides by the keyfiles and lock files, or by the first that can't be read.
 use Rattle.std.proofs.Common.{◌≡◌, ◌+◌, ◌∷◌, ℕ, List, [], length, map, Option, Some, None, refl, sym, subst, arith}
 use Rattle.std.specs.Prelude.{Err, IfSome}
-use Rattle.dconf_disk.specs.declared.folder.Folder.{Ghosts}
+use Rattle.dconf_folders.specs.declared.folder.Folder.{Ghosts}
 use Rattle.dconf_model.specs.Databases.{IsCompiled}
 use Rattle.dconf_model.specs.FaultTexts.{line_fault_text}
 use Rattle.dconf_model.specs.Commands.Command.{compile}

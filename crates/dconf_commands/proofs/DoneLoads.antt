@@ -8,7 +8,7 @@ use Rattle.dconf_model.specs.Outcomes.{Gives, OrLine, Outcome, Refused}
 use Rattle.dconf_model.specs.Reads.{FileRead, ReadResults}
 use Rattle.dconf_model.specs.Reads.FileRead.{no_file}
 use Rattle.dconf_model.specs.Sources.{Loaded, and_rows, loaded, rows_taken}
-use Rattle.dconf_disk.specs.declared.folder.Folder.{Ghosts}
+use Rattle.dconf_folders.specs.declared.folder.Folder.{Ghosts}
 use Rattle.dconf_streams.specs.declared.answer.Answer.{Answer}
 use Rattle.dconf_streams.specs.declared.answer.Answer.TheVariants.{Done, Changed}
 use Rattle.dconf_streams.specs.Answers.{Answered, outcome_of_answer}

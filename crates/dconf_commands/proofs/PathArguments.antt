@@ -1,7 +1,7 @@
 -- A path among the words of a command, which is looked at first.
 use Rattle.std.proofs.Common.{◌≡◌, ◌∙◌, ℕ, List, true, Option, Some, None, refl, sym, subst}
 use Rattle.std.specs.Prelude.{is_none}
-use Rattle.dconf_disk.specs.declared.folder.Folder.{Ghosts}
+use Rattle.dconf_folders.specs.declared.folder.Folder.{Ghosts}
 use Rattle.dconf_model.specs.Outcomes.{Gives, Outcome, UnlessFault}
 use Rattle.dconf_model.specs.Paths.{PathFault, directory_fault, is_directory_path, is_key_path, key_fault}
 use Rattle.dconf_model.specs.Reads.{ReadResults}

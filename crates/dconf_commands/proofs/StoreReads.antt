@@ -2,7 +2,7 @@
 use Rattle.std.proofs.Common.{◌≡◌, ◌+◌, ◌∷◌, ◌++◌, ◌∙◌, ℕ, List, [], length, map, Option, Some, None, refl, sym, ap, subst, arith}
 use Rattle.std.proofs.Common.{◌<◌, ◌≤◌, drop, get_or, take}
 use Rattle.std.proofs.lemmas.List.{append_assoc, length-map, length-take-le, map_more, take-append-drop, take-map}
-use Rattle.dconf_disk.specs.declared.folder.Folder.{Ghosts}
+use Rattle.dconf_folders.specs.declared.folder.Folder.{Ghosts}
 use Rattle.dconf_model.specs.Profiles.{Database, database_file}
 use Rattle.dconf_model.specs.Outcomes.{Gives, OrNoDatabase, Outcome, WithDatabases}
 use Rattle.dconf_model.specs.Reads.{FileRead, ReadResults}

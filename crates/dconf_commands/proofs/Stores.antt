@@ -2,7 +2,7 @@
 use Rattle.std.proofs.Common.{◌≡◌, ◌+◌, ◌∷◌, inl, inr, ℕ, Bool, List, [], Result, Ok, Err, Option, length, sym, subst}
 use Rattle.std.specs.Prelude.{vec_items}
 use Rattle.std.proofs.lemmas.List.{append-nil}
-use Rattle.dconf_disk.specs.declared.folder.Folder.{Ghosts}
+use Rattle.dconf_folders.specs.declared.folder.Folder.{Ghosts}
 use Rattle.dconf_model.specs.Layers.{Layers}
 use Rattle.dconf_model.specs.Lines.{LineFault}
 use Rattle.dconf_model.specs.Profiles.{Database, database_file, has_writable, profile_of}

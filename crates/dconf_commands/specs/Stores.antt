@@ -1,6 +1,6 @@
 -- A store whose files were read, and one that is open.
 use Rattle.std.specs.Prelude.{◌≡◌, ℕ, List, Option, Ok, length, map}
-use Rattle.dconf_disk.specs.declared.folder.Folder.{Ghosts}
+use Rattle.dconf_folders.specs.declared.folder.Folder.{Ghosts}
 use Rattle.dconf_model.specs.Databases.{AreLayers}
 use Rattle.dconf_model.specs.Layers.{Layers}
 use Rattle.dconf_model.specs.Outcomes.{Gives}

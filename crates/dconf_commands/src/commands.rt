@@ -26,7 +26,7 @@ mod write;
 use check::check;
 use compile::compile;
 use dconf_args::Command;
-use dconf_disk::Folder;
+use dconf_folders::Folder;
 use dconf_streams::{Answer, Counted, Refusal};
 use dump::dump;
 use explain::explain;

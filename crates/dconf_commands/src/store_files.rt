@@ -10,8 +10,8 @@ ghost use Rattle.dconf_streams.specs.Answers.{GivesOutcome};
 ghost use Rattle.dconf_streams.specs.Readings.{Decides, HasRead, NothingIfAny, found_read, one_read};
 ghost use Rattle.dconf_commands.specs.StoreReads.{NoDatabases, NoItems, bytes_of, database_reads};
 
-use dconf_disk::Folder;
 use dconf_engine::{Engine, EngineFault, open_layers};
+use dconf_folders::Folder;
 use dconf_layers::Layer;
 use dconf_path::{Database, DatabaseKind, Profile, ProfileFault, read_profile, settings_text};
 use dconf_streams::{NamedFile, Refusal, file_if_any, refused, refused_at};

@@ -19,9 +19,10 @@ use Rattle.dconf_turn.proofs.HistoryLaws.{done_is, end_at}
 use Rattle.dconf_turn.specs.Hosts.{DidStep, IsLockMade, IsNoted}
 use Rattle.dconf_turn.proofs.ApartLaws.{nothing_yet}
 use Rattle.dconf_turn.proofs.SayingLaws.{kept, kept_whole, whole_of}
-use Rattle.dconf_disk.specs.declared.fault.FolderFault.{FolderFault}
-use Rattle.dconf_disk.specs.Staging.{staged_onto, settled_onto}
-use Rattle.dconf_disk.specs.Driving.{IsWhole, IsOneMore, IsCounted, IsStraight, IsRefused, IsIdle, CountsSo, job_of, result_of}
+use Rattle.dconf_folders.specs.declared.fault.FolderFault.{FolderFault}
+use Rattle.dconf_folders.specs.Failures.{IsOneMore}
+use Rattle.dconf_folders.specs.Staging.{staged_onto, settled_onto}
+use Rattle.dconf_disk.specs.Driving.{IsWhole, IsCounted, IsStraight, IsRefused, IsIdle, CountsSo, job_of, result_of}
 
 -- ---- what is said, in the words of dconf_model
 

@@ -1,5 +1,5 @@
 -- A turn that is driven on a folder, whose appends are whole.
-use Rattle.std.specs.Prelude.{ℕ, ◌≡◌, ◌⊎◌, ◌+◌, ◌-◌, ◌^◌, ◌≤◌, ◌<◌, Bool, true, List, ◌∷◌, Result, Ok, Err, None}
+use Rattle.std.specs.Prelude.{ℕ, ◌≡◌, ◌+◌, ◌≤◌, ◌<◌, Bool, true, List, ◌∷◌, Result, Ok, Err, None}
 use Rattle.dconf_model.specs.Folders.{Event}
 use Rattle.dconf_model.specs.Folders.Event.{create, append, rename}
 use Rattle.dconf_model.specs.Replacing.{new_name}
@@ -10,9 +10,10 @@ use Rattle.dconf_turn.specs.declared.step.Step.{Step}
 use Rattle.dconf_turn.specs.declared.step.Step.TheVariants.{Lock, Read, Make, Create, Append, Sync, SetAside, Exchange, Rename, SyncFolder, Remove, Note, Unlock, Done}
 use Rattle.dconf_turn.specs.declared.step.Answer.{Answer}
 use Rattle.dconf_turn.specs.declared.step.Answer.TheVariants.{Yes, No}
-use Rattle.dconf_disk.specs.declared.fault.FolderFault.{FolderFault}
-use Rattle.dconf_disk.specs.declared.fault.FolderFault.TheVariants.{Device}
-use Rattle.dconf_disk.specs.Staging.{staged_onto, settled_onto}
+use Rattle.dconf_folders.specs.declared.fault.FolderFault.{FolderFault}
+use Rattle.dconf_folders.specs.declared.fault.FolderFault.TheVariants.{Device}
+use Rattle.dconf_folders.specs.Failures.{IsOneMore}
+use Rattle.dconf_folders.specs.Staging.{staged_onto, settled_onto}
 
 -- The lock is not taken here.
 abbrev pub job_of : List ℕ → List ℕ → Job
@@ -47,10 +48,6 @@ IsWhole Exchange (Yes n) size = ⊥
 IsWhole Make (Yes n) size = n ≡ size
 IsWhole (Append at) (Yes n) size = at + n ≡ size
 IsWhole step answer size = Unit {0}
-
--- one failure more, as far as a count can tell
-abbrev pub IsOneMore : ℕ → ℕ → Type 0
-IsOneMore before now = (now ≡ before + 1) ⊎ ((now ≡ before) × (now ≡ 2 ^ 64 - 1))
 
 -- a step that failed is a failure, but for the removal; nothing is set aside
 abbrev pub IsCounted : ℕ → ℕ → Step → Answer → Type 0

@@ -1,9 +1,2 @@
-pub mod Failures
-pub mod Staging
-pub mod MemoryFolders
-pub mod Crashes
-pub mod Notes
-pub mod SystemCalls
 pub mod StdFolders
-pub mod LockFaults
 pub mod Driving

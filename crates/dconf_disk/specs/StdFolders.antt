@@ -1,7 +1,7 @@
 -- What the host's folder shows, and the folders of its names.
 use Rattle.std.specs.Prelude.{ℕ, Bool, List, length, slice_index}
 use Rattle.dconf_model.specs.Folders.{Event}
-use Rattle.dconf_disk.specs.Notes.{events_noted, is_honest as notes_are_honest}
+use Rattle.dconf_folders.specs.Notes.{events_noted, is_honest as notes_are_honest}
 use Rattle.dconf_disk.specs.declared.host.StdFolder.{StdFolder}
 
 -- how often it failed

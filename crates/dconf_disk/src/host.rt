@@ -1,17 +1,15 @@
 //! The current folder of the host.
-ghost use Rattle.std.specs.Prelude.{◌≡◌, ◌≢◌, ◌<◌, ◌≤◌, ◌↔◌, None, Ok, Err, IfSome, IfOk, IfErr, IsOk, IsTrue, IsErrOf, IsErrAnd, ◌∷◌, OnOk, OnErr, true, false, length, option_map};
-ghost use Rattle.std.specs.Io.KnownBytes.{Consumes};
-ghost use Rattle.std.specs.IoError.{error_kind};
-ghost use Rattle.dconf_disk.specs.Failures.{HasCause};
-ghost use Rattle.dconf_disk.specs.SystemCalls.{folder_of, given_mode, made, removed, renamed, synced, with_its_folder};
+ghost use Rattle.std.specs.Prelude.{◌≡◌, ◌<◌, ◌≤◌, None, IfSome, IfOk, IsOk, ◌↔◌, IsTrue, IsErrOf, ◌∷◌, OnOk, OnErr, true, false, length, option_map};
+ghost use Rattle.dconf_folders.specs.Failures.{HasCause};
+ghost use Rattle.dconf_folders.specs.SystemCalls.{given_mode, made, removed, renamed, synced, with_its_folder};
 
-use crate::modes::{keep_mode, open_new};
-use crate::record::Record;
-use crate::{Folder, FolderFault, FolderLock, LARGEST_FILE};
-use std::alloc::{AllocError, Global};
-use std::fs::{OpenFile, OpenOptions};
-use std::io::{ErrorKind, Read, Write};
-use std::path::Path;
+use dconf_folders::{
+    Folder, FolderFault, FolderLock, LARGEST_FILE, Record, folder_of, keep_mode, open_new,
+    read_opened,
+};
+use std::alloc::Global;
+use std::fs::OpenOptions;
+use std::io::{ErrorKind, Write};
 use std::rt::Files;
 use std::{fmt, fs, io};
 
@@ -32,9 +30,6 @@ const SYNC_FOLDER: u64 = 6;
 const FAILED: u64 = 0;
 
 const DONE: u64 = 1;
-
-/// Zeros that are written at once: as many as the C library writes by wide stores, and not a byte at a time.
-const PIECE: &[u8] = &[0; 2000];
 
 /// The files of the current folder, by `rt`.
 ///
@@ -71,7 +66,7 @@ impl<R> fmt::Debug for StdFolder<R> {
 impl<R: Files> StdFolder<R> {
     ghost use Rattle.dconf_model.specs.Folders.{read_content};
     ghost use Rattle.dconf_model.specs.Reads.{IsOverSize};
-    ghost use Rattle.dconf_disk.specs.Notes.{after_failure, can_be_done, event_noted};
+    ghost use Rattle.dconf_folders.specs.Notes.{after_failure, can_be_done, event_noted};
     ghost use Rattle.dconf_disk.specs.StdFolders.{failures_of, can_write, events_of, fate_of, is_honest};
 
     /// The current folder, whose files are replaced by the turn that this lock is, with no failure yet. The lock is taken before the first
@@ -287,16 +282,6 @@ fn rename_to<R: Files>(rt: &R, calls: &mut Record, from: &str, to: &str) -> io::
     sync_at(rt, calls, folder)
 }
 
-/// The folder that a name stands in, lent from the name: `a` of `a/x`, `/` of `/x`, and `.` of `x` (POSIX, `dirname`).
-pub fn folder_of(name: &str) -> &str
-    ensures { result.now ≡ folder_of name.now }
-{
-    match Path::new(name).parent() {
-        Some(folder) if !folder.as_os_str().is_empty() => folder.as_os_str(),
-        _ => ".",
-    }
-}
-
 /// A writing call's answer: whatever fails is the device.
 fn written(answer: io::Result<()>) -> Result<(), FolderFault>
     ensures done { IsOk result ↔ IsOk answer }
@@ -305,84 +290,5 @@ fn written(answer: io::Result<()>) -> Result<(), FolderFault>
     match answer {
         Ok(()) => Ok(()),
         Err(_) => Err(FolderFault::Device),
-    }
-}
-
-/// What was opened, read. Only a name that is not there is no file; any other failure is one.
-fn read_opened<F: OpenFile + Read + Drop>(
-    alloc: Global,
-    opened: io::Result<F>,
-) -> Result<Option<Vec<u8>>, FolderFault>
-    ensures fits { IfOk result (λ found. IfSome found (λ v. length v.items ≤ LARGEST_FILE)) }
-    ensures bytes { IfOk opened (λ file. IfOk result (λ found. IfSome found (λ v. IfSome (F.remaining file) (λ rest. v.items ≡ rest)))) }
-    ensures missing { IfOk result (λ found. found ≡ None → IsErrAnd opened (λ e. error_kind e ≡ ErrorKind.NotFound)) }
-    ensures absent { IfErr opened (λ e. error_kind e ≡ ErrorKind.NotFound → result ≡ Ok None) }
-    ensures memory { IfErr opened (λ e. error_kind e ≡ ErrorKind.OutOfMemory → result ≡ Err FolderFault.Memory) }
-    ensures device { IfErr opened (λ e. error_kind e ≢ ErrorKind.NotFound → error_kind e ≢ ErrorKind.OutOfMemory
-        → result ≡ Err FolderFault.Device) }
-{
-    match opened {
-        Ok(file) => whole(alloc, file).map(Some),
-        Err(error) if error.kind() == ErrorKind::NotFound => Ok(None),
-        Err(error) => Err(fault_of(error)),
-    }
-}
-
-/// All of the file's bytes, held once. A file that says that it is too big is not read, and of one that never ends no more is
-/// read than shows it.
-fn whole<F: OpenFile + Read + Drop>(alloc: Global, file: F) -> Result<Vec<u8>, FolderFault>
-    ensures fits { IfOk result (λ v. length v.items ≤ LARGEST_FILE) }
-    ensures bytes { IfOk result (λ v. IfSome (F.remaining file) (λ rest. v.items ≡ rest)) }
-{
-    let length = file.metadata().map_err(fault_of)?.len();
-    if is_too_big(length) {
-        return Err(FolderFault::TooBig);
-    }
-    let mut file = file.take(LARGEST_FILE + 1);
-    let mut bytes = first_bytes(alloc, &mut file, length as usize)?;
-    match file.read_to_end(&mut bytes) {
-        Ok(_) if is_too_big(bytes.len() as u64) => Err(FolderFault::TooBig),
-        Ok(_) => Ok(bytes),
-        Err(error) => Err(fault_of(error)),
-    }
-}
-
-/// What one read gives, of so many bytes at most; nothing if a signal interrupts it.
-fn first_bytes<R: Read>(alloc: Global, reader: &mut R, most: usize) -> Result<Vec<u8>, FolderFault>
-    ensures { IfOk result (λ v. Consumes (R.remaining reader.old) (R.remaining reader.new) v.items) }
-{
-    let mut bytes = zeros(alloc, most)?;
-    match reader.read(&mut bytes) {
-        Ok(n) => bytes.truncate(n),
-        Err(error) if error.kind() == ErrorKind::Interrupted => bytes.clear(),
-        Err(error) => return Err(fault_of(error)),
-    }
-    Ok(bytes)
-}
-
-/// So many zeros, for a read to write over, and room for one byte more, so that the end is seen without growing.
-fn zeros(alloc: Global, count: usize) -> Result<Vec<u8>, AllocError> {
-    let mut zeros = Vec::with_capacity(alloc, count.saturating_add(1))?;
-    for _ in 0..count / PIECE.len() {
-        zeros.extend_from_slice(PIECE)?;
-    }
-    zeros.resize(count, 0)?;
-    Ok(zeros)
-}
-
-fn is_too_big(length: u64) -> bool
-    ensures { IsTrue result ↔ (LARGEST_FILE < length) }
-{
-    length > LARGEST_FILE
-}
-
-/// What an error of the host is to one who reads.
-fn fault_of(error: io::Error) -> FolderFault
-    ensures memory { error_kind error ≡ ErrorKind.OutOfMemory → result ≡ FolderFault.Memory }
-    ensures device { error_kind error ≢ ErrorKind.OutOfMemory → result ≡ FolderFault.Device }
-{
-    match error.kind() {
-        ErrorKind::OutOfMemory => FolderFault::Memory,
-        _ => FolderFault::Device,
     }
 }

@@ -1,16 +1,8 @@
-//! Folders of files, and a file replaced in one, so that a crash leaves the old bytes or the new ones.
+//! The current folder of the host, and a file replaced in a folder, so that a crash leaves the old bytes or the new ones.
 //!
-//! A [`Folder`] is known by what was done to it: its contracts speak of the list of those events, and the definitions of what a
-//! name stands for, and of what a crash may leave, are dconf_model's. [`MemoryFolder`] is that list, with a device that fails
-//! when it is told to, and crashes. [`StdFolder`] is the current folder of the host. [`replace`] works in any folder: it writes
-//! the new file whole, under a name of its own, before that takes the name of the old one. That name is the same for all, so
-//! several programs take turns: a [`FolderLock`] is one program's turn to replace files in a folder of the host.
-//!
-//! No call stops the program or runs without end; [`FolderLock::take`] waits for its turn, for ten seconds at most. A fault is
-//! a [`FolderFault`]: of the device, which the folder counts, of a file of more than [`LARGEST_FILE`] bytes, or of memory.
-//!
-//! A read holds a file's bytes once. On the host no other call copies any. A `MemoryFolder` is for tests: it keeps each byte that
-//! was ever appended, and its calls go back through those before them.
+//! [`StdFolder`] is the current folder of the host; all other folders are dconf_folders', whose names are here, too. [`replace`] works
+//! in any: it writes the new file whole, under a name of its own, before that takes the name of the old one. That name is the same for
+//! all, so several programs take turns: a [`FolderLock`] is one program's turn. No call on the host copies a file's bytes.
 //!
 //! Files are replaced by who holds the turn to. A `StdFolder` that can be written is had by [`StdFolder::in_turn`] alone, which takes
 //! the lock and holds it; any other answers `Device` to each writing call, and does nothing.
@@ -28,21 +20,11 @@
 //! ```
 #![tactic(auto)]
 
-mod calls;
-mod crash;
-mod fault;
-mod folder;
 mod host;
-mod lock;
-mod memory;
-mod modes;
-mod record;
 mod replacement;
 
-pub use fault::FolderFault;
-pub use folder::{Folder, LARGEST_FILE};
-pub use host::{StdFolder, folder_of};
-pub use lock::{FolderLock, LockFault};
-pub use memory::MemoryFolder;
-pub use record::Record;
+pub use dconf_folders::{
+    Folder, FolderFault, FolderLock, LARGEST_FILE, LockFault, MemoryFolder, Record, folder_of,
+};
+pub use host::StdFolder;
 pub use replacement::replace;

@@ -3,11 +3,11 @@ ghost use Rattle.std.specs.Prelude.{◌≡◌, ◌⊎◌, ◌∷◌, ℕ, List, 
 ghost use Rattle.dconf_model.specs.Folders.{Event};
 ghost use Rattle.dconf_model.specs.Replacing.{Replaced, MaybeReplaced, new_name};
 ghost use Rattle.dconf_turn.specs.Hosts.{DidStep};
-ghost use Rattle.dconf_disk.specs.Staging.{staged_onto, settled_onto};
-ghost use Rattle.dconf_disk.specs.Failures.{HasCause};
+ghost use Rattle.dconf_folders.specs.Staging.{staged_onto, settled_onto};
+ghost use Rattle.dconf_folders.specs.Failures.{HasCause};
 ghost use Rattle.dconf_disk.specs.Driving.{IsAble, IsCounted, IsRefused, IsWhole, IsWithin, answer_of, job_of, result_of};
 
-use crate::{Folder, FolderFault};
+use dconf_folders::{Folder, FolderFault};
 use dconf_turn::{Answer, Outcome, Step, Turn};
 use std::alloc::Global;
 

@@ -5,7 +5,7 @@ use Rattle.std.specs.declared.string.String.{String}
 use Rattle.dconf_model.specs.Folders.{Event, file_of, files_made}
 use Rattle.dconf_model.specs.Folders.Event.{create, touch}
 use Rattle.dconf_model.proofs.SameBytes.{path_itself}
-use Rattle.dconf_disk.specs.declared.fault.FolderFault.{FolderFault}
+use Rattle.dconf_folders.specs.declared.fault.FolderFault.{FolderFault}
 use Rattle.dconf_found.specs.FoundFolders.{AreShown, IsPast, held_of, inner_of, lookup_of, shown_of}
 use Rattle.dconf_found.specs.declared.found.FoundFolder.{FoundFolder}
 

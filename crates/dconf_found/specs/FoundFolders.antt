@@ -3,7 +3,7 @@ use Rattle.std.specs.Prelude.{◌≡◌, ◌⊎◌, ℕ, Bool, false, List, [], 
 use Rattle.std.specs.String.{string_bytes}
 use Rattle.dconf_model.specs.Folders.{Event, file_of, read_content}
 use Rattle.dconf_model.specs.Folders.Event.{touch}
-use Rattle.dconf_disk.specs.Notes.{events_noted, is_honest}
+use Rattle.dconf_folders.specs.Notes.{events_noted, is_honest}
 use Rattle.dconf_found.specs.declared.found.FoundFolder.{FoundFolder}
 use Rattle.dconf_found.specs.declared.lookup.Lookup.{Lookup}
 use Rattle.std.specs.Str.{bytes_eq}

@@ -6,7 +6,7 @@ ghost use Rattle.dconf_model.specs.Settings.{Settings};
 ghost use Rattle.dconfdb_calls.specs.Keyless.{IsKeyless};
 ghost use Rattle.dconf_found.specs.FoundFolders.{Counts, CountsBad, IsOfNoDatabase, IsTooBigToCount, nothing_of};
 
-use dconf_disk::FolderFault;
+use dconf_folders::FolderFault;
 use dconfdb_calls::{BadFile, Fault, keyless_file, open_layer, salvaged_file};
 use std::alloc::Global;
 

@@ -2,11 +2,11 @@
 ghost use Rattle.std.specs.Prelude.{◌≡◌, ◌≤◌, [], List, IfOk, IfSome, IsErrOf, IsSomeAnd, IsTrue, None, OnErr, OnOk, Some, false, length, option_map, string_bytes, vec_items};
 ghost use Rattle.dconf_model.specs.Folders.{Event, read_content};
 ghost use Rattle.dconf_model.specs.Reads.{IsOverSize};
-ghost use Rattle.dconf_disk.specs.Failures.{HasCause};
+ghost use Rattle.dconf_folders.specs.Failures.{HasCause};
 
 use crate::bad::BadDatabase;
 use crate::lookup::{Lookup, look_up};
-use dconf_disk::{Folder, FolderFault, LARGEST_FILE, Record};
+use dconf_folders::{Folder, FolderFault, LARGEST_FILE, Record};
 use std::alloc::Global;
 
 /// The folder of a store, with the profile that was found for it, for one run of a command: it is read, and then a file is replaced.

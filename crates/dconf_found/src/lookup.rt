@@ -7,7 +7,7 @@ ghost use Rattle.dconf_found.specs.declared.bad_databases.Loss.{Loss};
 
 use crate::bad::{BadDatabase, note};
 use crate::bad_databases::counted;
-use dconf_disk::{Folder, FolderFault, LARGEST_FILE};
+use dconf_folders::{Folder, FolderFault, LARGEST_FILE};
 use std::alloc::Global;
 
 /// The profile where no file says another one.

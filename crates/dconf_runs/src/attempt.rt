@@ -2,11 +2,11 @@
 ghost use Rattle.std.specs.Prelude.{List, IfOk, length, ◌≡◌};
 ghost use Rattle.dconf_model.specs.Folders.{Event};
 ghost use Rattle.dconf_model.specs.Survivals.{Attempt as Tried, CameTo};
-ghost use Rattle.dconf_disk.specs.MemoryFolders.{IsPast};
+ghost use Rattle.dconf_folders.specs.MemoryFolders.{IsPast};
 ghost use Rattle.dconf_runs.specs.Programs.{IsAttempt, NothingIsLostBy};
 
 use crate::request::{Request, run_unread};
-use dconf_disk::{FolderFault, MemoryFolder};
+use dconf_folders::{FolderFault, MemoryFolder};
 use std::alloc::Global;
 
 /// What comes of a run. A crash leaves one of its outcomes, which the number `outcome` picks.

@@ -8,7 +8,7 @@ ghost use Rattle.dconf_runs.specs.Programs.{asked_of, GivesWhatWasWritten, HasRu
 
 use crate::request::{Request, none_failed, run_on, run_unread};
 use dconf_cli::{Command, Counted};
-use dconf_disk::{Folder, FolderFault};
+use dconf_folders::{Folder, FolderFault};
 use std::alloc::Global;
 use std::io::Write;
 

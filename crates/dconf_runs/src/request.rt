@@ -8,7 +8,7 @@ ghost use Rattle.dconf_cli.specs.Outputs.{Leaves};
 ghost use Rattle.dconf_runs.specs.Programs.{asked_of};
 
 use dconf_cli::{Command, Counted, run};
-use dconf_disk::{Folder, FolderFault};
+use dconf_folders::{Folder, FolderFault};
 use std::alloc::Global;
 use std::io;
 use std::io::Write;

@@ -3,7 +3,7 @@ use Rattle.std.proofs.Common.{◌≡◌, ◌≤◌, inl, inr, ℕ, List, [], len
 use Rattle.std.specs.Prelude.{◌≢◌, IfSome, IsTrue, codes, nat_lt, option_map, vec_items}
 use Rattle.std.specs.declared.vec.Vec.{Vec}
 use Rattle.std.proofs.lemmas.Option.{IfSome_then}
-use Rattle.dconf_disk.specs.declared.folder.Folder.{Ghosts}
+use Rattle.dconf_folders.specs.declared.folder.Folder.{Ghosts}
 use Rattle.dconf_model.specs.Bytes.{longest_file}
 use Rattle.dconf_model.specs.Folders.{Event, read_content}
 use Rattle.dconf_model.specs.FaultTexts.{device_text, no_file_text}
@@ -13,7 +13,7 @@ use Rattle.dconf_model.specs.Reads.FileRead.{no_file, holds, over_size, failed}
 use Rattle.refused.specs.declared.Refused.TheVariants.{Memory}
 use Rattle.dconf_streams.specs.Answers.{Answered, GivesOutcome, RefusesFor, outcome_of}
 use Rattle.dconf_streams.specs.Readings.{Decides, HasRead, IsKept, Nothing, NothingIfAny, found_read, one_read}
-use Rattle.dconf_disk.specs.Driving.{IsOneMore}
+use Rattle.dconf_folders.specs.Failures.{IsOneMore}
 
 -- ---- answers
 

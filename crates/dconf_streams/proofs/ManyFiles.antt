@@ -1,7 +1,7 @@
 -- What a command decides by several files, which it reads one after the other.
 use Rattle.std.proofs.Common.{◌≡◌, ◌+◌, ◌++◌, ◌∷◌, ◌∙◌, inl, inr, ℕ, List, [], length, map, refl, sym, ap, subst, arith}
 use Rattle.std.specs.Prelude.{Err, vec_items}
-use Rattle.dconf_disk.specs.declared.folder.Folder.{Ghosts}
+use Rattle.dconf_folders.specs.declared.folder.Folder.{Ghosts}
 use Rattle.dconf_model.specs.Folders.{Event}
 use Rattle.dconf_model.specs.Outcomes.{Outcome, WithFile, WithFiles}
 use Rattle.dconf_model.specs.Reads.{ReadResults}

@@ -1,7 +1,7 @@
 -- What a command read of a folder, and what it decides by that. It holds of any folder: of one whose events are known, and of one of
 -- which nothing is known.
 use Rattle.std.specs.Prelude.{◌≡◌, ◌≢◌, ◌⊎◌, ◌+◌, ℕ, List, [], ◌∷◌, map, Option, Some, None, IsTrue, vec_items}
-use Rattle.dconf_disk.specs.declared.folder.Folder.{Ghosts}
+use Rattle.dconf_folders.specs.declared.folder.Folder.{Ghosts}
 use Rattle.dconf_model.specs.Folders.{Event, read_content}
 use Rattle.dconf_model.specs.FaultTexts.{device_text}
 use Rattle.dconf_model.specs.Outcomes.{Outcome}
@@ -10,7 +10,7 @@ use Rattle.dconf_model.specs.Reads.FileRead.{no_file, holds, failed}
 use Rattle.dconf_model.specs.Sources.{Source}
 use Rattle.dconf_streams.specs.declared.folder_files.NamedFile.{NamedFile}
 use Rattle.dconf_streams.specs.Answers.{Answered, GivesOutcome, RefusesFor}
-use Rattle.dconf_disk.specs.Driving.{IsOneMore}
+use Rattle.dconf_folders.specs.Failures.{IsOneMore}
 
 -- a read of a file, and what it gave
 pub record Reading : Type 0 where

@@ -5,7 +5,7 @@ ghost use Rattle.dconf_model.specs.Reads.FileRead.{holds};
 ghost use Rattle.dconf_streams.specs.Readings.{Decides, HasRead, NoSources, Nothing, NothingIfAny, found_read, named_sources, one_read, reads_of};
 
 use crate::refusal::{Refusal, device, refused};
-use dconf_disk::{Folder, FolderFault};
+use dconf_folders::{Folder, FolderFault};
 use std::alloc::Global;
 
 /// A file that was read, by its name.

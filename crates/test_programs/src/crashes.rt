@@ -2,7 +2,7 @@
 use crate::failures::store;
 use crate::script::{left_on, runs};
 use crate::streams::{Source, Streams};
-use dconf_disk::Folder;
+use dconf_folders::Folder;
 use std::alloc::Global;
 use std::test::Fail;
 

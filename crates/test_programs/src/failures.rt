@@ -2,7 +2,7 @@
 use crate::layers::{settle, two_layers};
 use crate::script::{add_line, bytes_of, left_on, put, put_all, runs};
 use crate::streams::{Refusing, Source, Streams};
-use dconf_disk::{Folder, FolderFault, MemoryFolder};
+use dconf_folders::{Folder, FolderFault, MemoryFolder};
 use std::alloc::Global;
 use std::fmt::Write;
 use std::test::Fail;

@@ -1,6 +1,6 @@
 //! A folder whose profile has a database of the user's and one of the site's, for runs that change settings.
 use crate::script::{folder_of, put, runs};
-use dconf_disk::{Folder, MemoryFolder};
+use dconf_folders::{Folder, MemoryFolder};
 use std::alloc::Global;
 use std::test::Fail;
 use test_rows::bytes_of;

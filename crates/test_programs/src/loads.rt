@@ -3,7 +3,7 @@ use crate::input::{add_rest, source_of};
 use crate::layers::two_layers;
 use crate::script::{add_line, bytes_of, left_on, runs};
 use crate::streams::Streams;
-use dconf_disk::{Folder, MemoryFolder};
+use dconf_folders::{Folder, MemoryFolder};
 use std::alloc::Global;
 use std::test::Fail;
 use test_rows::{Question, table};

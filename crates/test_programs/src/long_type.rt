@@ -2,7 +2,7 @@
 use crate::script::left_by;
 use crate::streams::{Source, Streams};
 use dconf_cli::Command;
-use dconf_disk::MemoryFolder;
+use dconf_folders::MemoryFolder;
 use std::alloc::Global;
 use std::test::Fail;
 use test_rows::is_so;

@@ -1,7 +1,7 @@
 //! Runs of the program in one folder, and what each of them leaves: its status, the lines on out, and after `! ` what is on err.
 use crate::streams::{Source, Streams};
 use dconf_cli::{Asked, Command, command, run};
-use dconf_disk::{Folder, MemoryFolder};
+use dconf_folders::{Folder, MemoryFolder};
 use std::alloc::{AllocError, Global};
 use std::test::Fail;
 use test_rows::{Question, script};

@@ -1,6 +1,6 @@
 //! The streams of a run, which fail at a call that is named, and a folder that refuses every read.
 use dconf_cli::Counted;
-use dconf_disk::{Folder, FolderFault};
+use dconf_folders::{Folder, FolderFault};
 use std::alloc::Global;
 use std::io;
 use std::io::{Error, ErrorKind, Read, Write};

@@ -4,7 +4,7 @@ use crate::questions::RowsOf;
 use crate::script::words_of;
 use crate::streams::{Source, Streams};
 use dconf_cli::{Asked, Command, command};
-use dconf_disk::{FolderFault, MemoryFolder};
+use dconf_folders::{FolderFault, MemoryFolder};
 use dconf_runs::{Attempt, End, Request, Statuses, run_after, run_through_crashes};
 use std::alloc::{AllocError, Global};
 use std::test::Fail;

@@ -2,7 +2,7 @@
 use crate::failures::store;
 use crate::script::{bytes_of, left_on};
 use crate::streams::{Source, Streams, Writes};
-use dconf_disk::MemoryFolder;
+use dconf_folders::MemoryFolder;
 use std::alloc::Global;
 use std::io::ErrorKind;
 use std::test::Fail;

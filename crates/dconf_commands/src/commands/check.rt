@@ -7,7 +7,7 @@ ghost use Rattle.dconf_model.specs.Reads.{Input};
 ghost use Rattle.dconf_streams.specs.Answers.{GivesOutcome, refused_by};
 ghost use Rattle.dconf_streams.specs.Readings.{Decides};
 
-use dconf_disk::Folder;
+use dconf_folders::Folder;
 use dconf_streams::{Answer, Refusal, file, refused};
 use gvdb_read::Table;
 use std::alloc::Global;

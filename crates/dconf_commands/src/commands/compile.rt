@@ -11,7 +11,7 @@ ghost use Rattle.dconf_streams.specs.Readings.{Decides, named_sources};
 ghost use Rattle.refused.specs.declared.Refused.TheVariants.{Memory};
 
 use dconf_compile::{CompileFault, FileRef, Source};
-use dconf_disk::Folder;
+use dconf_folders::Folder;
 use dconf_streams::{Answer, NamedFile, Refusal, files, refused_at};
 use std::alloc::{AllocError, Global};
 

@@ -16,7 +16,7 @@ use crate::arguments::directory_argument;
 use crate::dump_parts::DumpParts;
 use crate::printed_setting::PrintedSetting;
 use crate::store_files::StoreFiles;
-use dconf_disk::Folder;
+use dconf_folders::Folder;
 use dconf_layers::LentLayers;
 use dconf_path::DirPath;
 use dconf_streams::{Answer, Refusal, named_file, refused};

@@ -10,8 +10,8 @@ ghost use Rattle.dconf_streams.specs.Readings.{Decides};
 
 use crate::arguments::directory_argument;
 use crate::store_files::StoreFiles;
-use dconf_disk::Folder;
 use dconf_engine::Engine;
+use dconf_folders::Folder;
 use dconf_path::DirPath;
 use dconf_streams::{Answer, Refusal, named_file};
 use std::alloc::Global;

@@ -23,8 +23,8 @@ use crate::arguments::directory_argument;
 use crate::store_files::StoreFiles;
 use crate::user_database::{change_refused, saved_saying};
 use dconf_compile::{CompileCause, LineStop, Loaded, RowsBelow};
-use dconf_disk::Folder;
 use dconf_engine::{ChangeFault, ChangeFlaw, Engine};
+use dconf_folders::Folder;
 use dconf_path::{DirPath, KeyPath};
 use dconf_streams::{
     Answer, Counted, InputFault, Refusal, named_file, read_input, refused, refused_at,

@@ -11,7 +11,7 @@ ghost use Rattle.dconf_streams.specs.Readings.{Decides};
 
 use crate::arguments::key_argument;
 use crate::store_files::StoreFiles;
-use dconf_disk::Folder;
+use dconf_folders::Folder;
 use dconf_path::{DatabaseKind, Profile};
 use dconf_streams::{Answer, Refusal, named_file};
 use std::alloc::{AllocError, Global};

@@ -6,7 +6,7 @@ ghost use Rattle.dconf_model.specs.Reads.{Input};
 ghost use Rattle.dconf_streams.specs.Answers.{GivesOutcome};
 ghost use Rattle.dconf_streams.specs.Readings.{Decides};
 
-use dconf_disk::Folder;
+use dconf_folders::Folder;
 use dconf_streams::{Answer, Refusal, file, refused};
 use gvdb_write::{Map, SalvageFault, WriteFault, salvage, write};
 use std::alloc::{AllocError, Global};

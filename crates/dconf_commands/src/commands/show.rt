@@ -9,7 +9,7 @@ ghost use Rattle.dconf_streams.specs.Answers.{GivesOutcome};
 ghost use Rattle.dconf_streams.specs.Readings.{Decides};
 
 use crate::printed_value::printed;
-use dconf_disk::Folder;
+use dconf_folders::Folder;
 use dconf_streams::{Answer, Refusal, file, refused};
 use gv_types::TypeStr;
 use gv_view::View;

@@ -1,7 +1,7 @@
 use Rattle.std.proofs.Common.{List, rules}
 use Rattle.dconf_model.specs.Folders.{Event}
 use Rattle.dconf_model.specs.Replacing.{MaybeReplaced}
-use Rattle.dconf_disk.proofs.Results.{always_err}
+use Rattle.dconf_folders.proofs.Results.{always_err}
 use Rattle.dconf_disk.proofs.DrivingLaws.{as_it_was}
 use Rattle.dconf_disk.proofs.replacement.replace.Goals as goal
 

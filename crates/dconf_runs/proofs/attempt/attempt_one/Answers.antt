@@ -2,7 +2,7 @@ use Rattle.std.proofs.Common.{Some, None, refl, sym, subst}
 use Rattle.dconf_model.specs.Survivals.{Attempt as Tried}
 use Rattle.dconf_model.specs.Survivals.RunEnd.{ended, stopped, crashed}
 use Rattle.dconf_runs.specs.Programs.{asked_of, IsEndOf}
-use Rattle.dconf_disk.specs.MemoryFolders.{IsPast, events_of, AddsTouches}
+use Rattle.dconf_folders.specs.MemoryFolders.{IsPast, events_of, AddsTouches}
 use Rattle.dconf_runs.proofs.Crashing.{came_crashed, came_stopped}
 use Rattle.dconf_runs.proofs.attempt.attempt_one.Goals as goal
 

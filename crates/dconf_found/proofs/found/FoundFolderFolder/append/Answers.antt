@@ -1,5 +1,5 @@
 use Rattle.std.proofs.Common.{◌++◌, inl, inr, refl}
-use Rattle.dconf_disk.proofs.Results.{always_err}
+use Rattle.dconf_folders.proofs.Results.{always_err}
 use Rattle.dconf_model.specs.Folders.Event.{append, touch}
 use Rattle.dconf_found.specs.FoundFolders.{held_of}
 use Rattle.dconf_found.proofs.PastLaws.{did, err_from, ok_from, refused}

@@ -1,5 +1,5 @@
 use Rattle.std.proofs.Common.{◌++◌, refl}
-use Rattle.dconf_disk.proofs.Results.{always_err}
+use Rattle.dconf_folders.proofs.Results.{always_err}
 use Rattle.dconf_model.specs.Folders.Event.{sync, touch}
 use Rattle.dconf_found.specs.FoundFolders.{held_of}
 use Rattle.dconf_found.proofs.PastLaws.{did, err_from, ok_from, refused}

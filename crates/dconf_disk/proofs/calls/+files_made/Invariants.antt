@@ -1,5 +1,0 @@
-use Rattle.std.proofs.Common.{length}
-use Rattle.dconf_disk.proofs.calls.+files_made.Given as goal
-
-abbrev pub decreases-files_made : goal.decreases-files_made
-decreases-files_made l = length l.calls.now

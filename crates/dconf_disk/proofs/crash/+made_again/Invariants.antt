@@ -1,5 +1,0 @@
-use Rattle.std.proofs.Common.{length}
-use Rattle.dconf_disk.proofs.crash.+made_again.Given as goal
-
-abbrev pub decreases-made_again : goal.decreases-made_again
-decreases-made_again l = length l.calls.now

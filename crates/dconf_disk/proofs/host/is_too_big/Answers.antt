@@ -1,5 +1,0 @@
-use Rattle.std.proofs.Common.{rules}
-use Rattle.dconf_disk.proofs.host.is_too_big.Goals as goal
-
-pub returns : goal.returns
-returns c = search rules

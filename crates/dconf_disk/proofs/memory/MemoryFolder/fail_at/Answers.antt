@@ -1,5 +1,0 @@
-use Rattle.std.proofs.Common.{rules}
-use Rattle.dconf_disk.proofs.memory.MemoryFolder.fail_at.Goals as goal
-
-pub returns-clause-fails : goal.returns-clause-fails
-returns-clause-fails c = search rules

@@ -1,0 +1,9 @@
+pub mod Fresh
+pub mod Results
+pub mod CallLemmas
+pub mod Untouched
+pub mod ReadLemmas
+pub mod Crashes
+pub mod Made
+pub mod MadeAgain
+pub mod WorkedFolders

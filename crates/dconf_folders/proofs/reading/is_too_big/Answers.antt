@@ -1,0 +1,5 @@
+use Rattle.std.proofs.Common.{rules}
+use Rattle.dconf_folders.proofs.reading.is_too_big.Goals as goal
+
+pub returns : goal.returns
+returns c = search rules

@@ -1,0 +1,62 @@
+//! The permission bits of a file that takes another's place.
+ghost use Rattle.std.specs.Prelude.{◌≡◌, ◌∷◌};
+ghost use Rattle.dconf_folders.specs.SystemCalls.{given_mode};
+
+use crate::record::Record;
+use std::fs::{OpenFile, OpenOptions, Permissions};
+use std::io::ErrorKind;
+use std::os::unix::fs::{OpenOptionsExt, PermissionsExt};
+use std::rt::Files;
+use std::{fs, io};
+
+/// Who may read, write and run a file: the owner, its group, all others.
+const PERMISSION_BITS: u32 = 0o777;
+
+/// The number of the call as it is noted, and of its answer.
+const SET_MODE: u64 = 7;
+
+const DONE: u64 = 1;
+
+/// What the owner needs to fill a file and to sync it.
+const READ_AND_WRITE: u32 = 0o600;
+
+/// A new and empty file. One that is to take another's place is open to nobody but its owner and whom that one is open to.
+pub fn open_new<R: Files>(rt: &R, name: &str) -> io::Result<R::File> {
+    let mut options = OpenOptions::new();
+    options.write(true).create_new(true);
+    if let Some(bits) = mode_of_replaced(rt, name)? {
+        options.mode(bits | READ_AND_WRITE);
+    }
+    options.open(rt, name)
+}
+
+/// Gives an open file of this name the permission bits of the one whose place it is to take, if there is one.
+pub fn keep_mode<R: Files>(rt: &R, calls: &mut Record, file: &R::File, name: &str) -> io::Result<()>
+    ensures { calls.new.notes ≡ given_mode name.now ∷ calls.old.notes }
+{
+    calls.note(&[SET_MODE, DONE], name.as_bytes(), &[]);
+    let Some(bits) = mode_of_replaced(rt, name)? else {
+        return Ok(());
+    };
+    if file.metadata()?.permissions().mode() & PERMISSION_BITS == bits {
+        return Ok(());
+    }
+    file.set_permissions(Permissions::from_mode(bits))
+}
+
+/// The permission bits of the file whose place that of this name is to take, if there is one.
+fn mode_of_replaced<R: Files>(rt: &R, name: &str) -> io::Result<Option<u32>> {
+    match name.strip_suffix(".new") {
+        Some(replaced) => mode_of(rt, replaced),
+        None => Ok(None),
+    }
+}
+
+/// The permission bits of a file, if there is one.
+fn mode_of<R: Files>(rt: &R, name: &str) -> io::Result<Option<u32>> {
+    match fs::metadata(rt, name) {
+        Ok(found) => Ok(Some(found.permissions().mode() & PERMISSION_BITS)),
+        Err(error) if error.kind() == ErrorKind::NotFound => Ok(None),
+        Err(error) => Err(error),
+    }
+}
