@@ -18,7 +18,7 @@ use Rattle.std.specs.Box.{box_value}
 use Rattle.clap.specs.declared.ArgMatches.{ArgMatches}
 use Rattle.clap.proofs.WalkLemmas.{first_value-rows, raw_values-rows}
 use Rattle.dconf_args.specs.Asked.{AsksToUpdate, HasValue, IsAskedBy, IsNamedBy, IsOf, IsParsedBy, IsPlacedBy, Takes, is_set}
-use Rattle.dconf_args.specs.declared.commands.Command.{Command}
+use Rattle.command_words.specs.declared.commands.Command.{Command}
 use Rattle.dconf_args.specs.CommandLine.{command_line, show_line}
 use Rattle.dconf_args.specs.declared.place.Place.{Place}
 use Rattle.dconf_args.proofs.Stops.{IsNotHelp, StopsAt, or_else_nil, walk_not_help}

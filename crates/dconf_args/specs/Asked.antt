@@ -4,11 +4,11 @@ use Rattle.std.specs.Str.{bytes_eq}
 use Rattle.clap.specs.Words.{Row, Text, all_of, fault_of, first_of, first_value, found_of, matched_of, raw_values, rows_of, subcommand_of, subcommand_rows_of}
 use Rattle.clap.specs.declared.ArgMatches.{ArgMatches}
 use Rattle.dconf_args.specs.CommandLine.{command_line}
-use Rattle.dconf_args.specs.declared.commands.Command.{Command}
+use Rattle.command_words.specs.declared.commands.Command.{Command}
 use Rattle.dconf_args.specs.declared.place.Asked.{Asked}
 use Rattle.dconf_args.specs.declared.place.Asked.TheVariants.{Run, Update}
 use Rattle.dconf_args.specs.declared.place.Place.{Place}
-use Rattle.dconf_args.specs.declared.commands.Command.TheVariants.{Show, Read, Origin, Explain, Check, Compile, Repair, List as ListIt, ListLocks, Dump, Write, Reset, Load}
+use Rattle.command_words.specs.declared.commands.Command.TheVariants.{Show, Read, Origin, Explain, Check, Compile, Repair, List as ListIt, ListLocks, Dump, Write, Reset, Load}
 
 -- clap finds no fault in the words, and met the subcommand that they name
 pub record IsParsedBy (words : List Text) (m : ArgMatches) : Type 0 where

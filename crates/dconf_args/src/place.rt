@@ -1,6 +1,6 @@
 //! Where the store of a command is, and what a whole command line asks for.
 
-use crate::commands::Command;
+use command_words::Command;
 
 /// Where the store of a command is, as the words say. None of them: it is the current folder, and its profile.
 #[derive(Debug, Drop)]

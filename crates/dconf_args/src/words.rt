@@ -5,9 +5,9 @@ ghost use Rattle.dconf_args.specs.Asked.{Asks, HasValue, IsNamedBy, IsOf, IsPars
 ghost use Rattle.dconf_args.specs.CommandLine.{command_line};
 
 use crate::command_line::dconfdb;
-use crate::commands::Command;
 use crate::place::{Asked, Place};
 use clap::ArgMatches;
+use command_words::Command;
 use std::alloc::{AllocError, Global};
 
 /// What the words ask for, where the first word is the program's name and a word after

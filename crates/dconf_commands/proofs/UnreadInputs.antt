@@ -5,7 +5,7 @@ use Rattle.dconf_model.specs.Reads.{Input}
 use Rattle.dconf_streams.specs.declared.counted.Counted.{Counted}
 use Rattle.dconf_streams.specs.Counted.{inner_of}
 use Rattle.dconf_streams.specs.Inputs.{ReadsText, Took}
-use Rattle.dconf_args.specs.Commands.{resetting}
+use Rattle.command_words.specs.Commands.{resetting}
 use Rattle.dconf_commands.specs.Loads.{reads_input}
 use Rattle.dconf_streams.proofs.TransferLaws.{Delivered-nil}
 

@@ -3,7 +3,7 @@ ghost use Rattle.std.specs.Prelude.{◌≡◌, ◌≢◌, OnOk, codes, false, tr
 ghost use Rattle.dconf_model.specs.FaultTexts.{device_text};
 ghost use Rattle.dconf_model.specs.Outcomes.{IsOutcome};
 ghost use Rattle.dconf_model.specs.Reads.{Input};
-ghost use Rattle.dconf_args.specs.Commands.{command_of};
+ghost use Rattle.command_words.specs.Commands.{command_of};
 ghost use Rattle.dconf_streams.specs.Answers.{RefusesFor};
 ghost use Rattle.dconf_streams.specs.Counted.{CameToEnd, failures_of};
 ghost use Rattle.dconf_streams.specs.Inputs.{ReadsText, Took};
@@ -24,8 +24,8 @@ mod show;
 mod write;
 
 use check::check;
+use command_words::Command;
 use compile::compile;
-use dconf_args::Command;
 use dconf_folders::Folder;
 use dconf_streams::{Answer, Counted, Refusal};
 use dump::dump;

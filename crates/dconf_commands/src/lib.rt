@@ -1,5 +1,5 @@
 //! The commands of `dconfdb`: what each of them answers for what it reads. It writes nothing: dconf_cli brings the answer
-//! about. What the words of a command line ask for is dconf_args's.
+//! about. What a command is, with its words, is command_words'.
 //!
 //! A command looks at its words first, then at the input, then at the files in the order of its profile or of its words,
 //! and at the bytes of all of them last.

@@ -12,7 +12,7 @@ use Rattle.dconf_model.specs.Runs.{NoMemory}
 use Rattle.dconf_model.specs.Stores.{OwnValues, own_after}
 use Rattle.dconf_model.specs.Programs.{AreApart, FolderHolds, IsChangeOf, IsQuestion, OnlyReads, Prints, RanInTurn, Run, asked_change, if_done}
 use Rattle.dconf_model.specs.Survivals.{AskedCommand, AreKept, AreSettled, Attempt as Tried, FileHolds, RunEnd, asked_changes}
-use Rattle.dconf_args.specs.Commands.{command_of}
+use Rattle.command_words.specs.Commands.{command_of}
 use Rattle.dconf_runs.specs.declared.request.Request.{Request}
 use Rattle.dconf_model.specs.Bytes.{MaybeBytes}
 use Rattle.dconf_model.specs.Survivals.RunEnd.{ended, stopped, crashed}

@@ -2,7 +2,7 @@
 ghost use Rattle.std.specs.Prelude.{◌≡◌, List, IfOk, IsTrue, length, map};
 ghost use Rattle.dconf_model.specs.Folders.{Event, read_content};
 ghost use Rattle.dconf_model.specs.Outcomes.{Output};
-ghost use Rattle.dconf_args.specs.Commands.{command_of};
+ghost use Rattle.command_words.specs.Commands.{command_of};
 ghost use Rattle.dconf_cli.specs.Outputs.{Leaves};
 ghost use Rattle.dconf_runs.specs.Programs.{asked_of, GivesWhatWasWritten, HasRunInTurn};
 

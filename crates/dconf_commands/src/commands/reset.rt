@@ -5,7 +5,7 @@ ghost use Rattle.dconf_model.specs.Commands.Command.{reset as reset_of_key, rese
 ghost use Rattle.dconf_model.specs.Outcomes.{IsOutcome, Saves};
 ghost use Rattle.dconf_model.specs.Profiles.{user_file};
 ghost use Rattle.dconf_model.specs.Reads.{Input};
-ghost use Rattle.dconf_args.specs.Commands.{resetting};
+ghost use Rattle.command_words.specs.Commands.{resetting};
 ghost use Rattle.dconf_path.specs.Paths.{directory_text, key_text};
 ghost use Rattle.dconf_path.specs.Profiles.{databases_of};
 ghost use Rattle.dconf_streams.specs.Answers.{GivesOutcome};

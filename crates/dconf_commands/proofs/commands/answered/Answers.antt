@@ -2,7 +2,7 @@ use Rattle.std.proofs.Common.{◌≡◌, false, map, refl, string_bytes, subst, 
 use Rattle.dconf_model.specs.Commands.{Command}
 use Rattle.dconf_model.specs.Commands.Command.{show, read, origin, explain, check, compile, repair, list, list_locks, dump, write, load}
 use Rattle.dconf_model.specs.Outcomes.{IsOutcome}
-use Rattle.dconf_args.specs.Commands.{command_of, resetting}
+use Rattle.command_words.specs.Commands.{command_of, resetting}
 use Rattle.dconf_streams.specs.Counted.{inner_of}
 use Rattle.dconf_streams.specs.Readings.{Decides}
 use Rattle.dconf_commands.specs.Loads.{reads_input}

@@ -1,7 +1,7 @@
 use Rattle.std.proofs.Common.{◌∙◌, ℕ, List, Some, Bor, sym, ap, subst}
 use Rattle.dconf_model.specs.Reads.{Input}
 use Rattle.dconf_model.specs.Runs.{Ran, RanCalmly}
-use Rattle.dconf_args.specs.Commands.{command_of}
+use Rattle.command_words.specs.Commands.{command_of}
 use Rattle.dconf_streams.specs.Counted.{failures_of}
 use Rattle.dconf_streams.specs.Streams.{NoneFailed}
 use Rattle.dconf_runs.proofs.Inputs.{none_between, took_all}

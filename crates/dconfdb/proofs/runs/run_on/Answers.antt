@@ -1,7 +1,7 @@
 use Rattle.std.proofs.Common.{List, refl, subst, sym}
 use Rattle.dconf_model.specs.Folders.{Event}
 use Rattle.dconf_model.specs.Runs.{Ran, RanCalmly}
-use Rattle.dconf_args.specs.Commands.{command_of}
+use Rattle.command_words.specs.Commands.{command_of}
 use Rattle.dconf_disk.specs.StdFolders.{events_of}
 use Rattle.dconfdb.proofs.runs.run_on.Goals as goal
 

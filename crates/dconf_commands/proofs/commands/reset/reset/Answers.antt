@@ -1,6 +1,6 @@
 use Rattle.std.proofs.Common.{Bool, subst, sym}
 use Rattle.dconf_model.specs.Outcomes.{IsOutcome}
-use Rattle.dconf_args.specs.Commands.{resetting}
+use Rattle.command_words.specs.Commands.{resetting}
 use Rattle.dconf_streams.specs.Readings.{Decides}
 use Rattle.dconf_commands.proofs.commands.reset.reset.Goals as goal
 

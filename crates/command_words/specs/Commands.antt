@@ -2,8 +2,8 @@
 use Rattle.std.specs.Prelude.{ℕ, Bool, true, false, List, map, string_bytes, vec_items}
 use Rattle.dconf_model.specs.Commands.{Command as ModelCommand}
 use Rattle.dconf_model.specs.Commands.Command.{show, read, list, list_locks, write, reset, reset_below, load, dump, origin, explain, check, compile, repair}
-use Rattle.dconf_args.specs.declared.commands.Command.{Command}
-use Rattle.dconf_args.specs.declared.commands.Command.TheVariants.{Show, Read, List as ListIt, ListLocks, Write, Reset, Load, Dump, Origin, Explain, Check, Compile, Repair}
+use Rattle.command_words.specs.declared.commands.Command.{Command}
+use Rattle.command_words.specs.declared.commands.Command.TheVariants.{Show, Read, List as ListIt, ListLocks, Write, Reset, Load, Dump, Origin, Explain, Check, Compile, Repair}
 
 -- of all keys below a directory, or of a key
 abbrev pub resetting : Bool → List ℕ → List ℕ → ModelCommand

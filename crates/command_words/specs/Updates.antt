@@ -1,8 +1,8 @@
 -- The model's sources of ours.
 use Rattle.std.specs.Prelude.{map, string_bytes, vec_items}
 use Rattle.dconf_model.specs.Updates.{SourceFile as File, SourceFolder as Folder}
-use Rattle.dconf_args.specs.declared.sources.SourceFile.{SourceFile}
-use Rattle.dconf_args.specs.declared.sources.SourceFolder.{SourceFolder}
+use Rattle.command_words.specs.declared.sources.SourceFile.{SourceFile}
+use Rattle.command_words.specs.declared.sources.SourceFolder.{SourceFolder}
 
 abbrev pub file_of : SourceFile → File
 file_of f = record { name = string_bytes f.name; changed = f.changed }

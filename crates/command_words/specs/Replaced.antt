@@ -4,8 +4,8 @@ use Rattle.dconf_model.specs.Commands.{Command}
 use Rattle.dconf_model.specs.Commands.Command.{write, reset, reset_below, load, compile, repair}
 use Rattle.dconf_model.specs.Lines.{LineFault}
 use Rattle.dconf_model.specs.Profiles.{Database, has_writable, profile_of, user_file}
-use Rattle.dconf_args.specs.declared.replaced.Replaced.{Replaced}
-use Rattle.dconf_args.specs.declared.replaced.Replaced.TheVariants.{File, UserOf}
+use Rattle.command_words.specs.declared.replaced.Replaced.{Replaced}
+use Rattle.command_words.specs.declared.replaced.Replaced.TheVariants.{File, UserOf}
 
 -- the file of a name, or the user's of the profile in the file of a name
 pub data Target : Type 0 where

@@ -1,8 +1,8 @@
 //! Which file a command replaces, so that programs take turns at it.
 ghost use Rattle.std.specs.Prelude.{◌≡◌, IfOk, map, option_map, string_bytes};
 ghost use Rattle.dconf_path.specs.Profiles.{database_of};
-ghost use Rattle.dconf_args.specs.Commands.{command_of};
-ghost use Rattle.dconf_args.specs.Replaced.{file_of_first, replaced_by, target_of, user_file_by};
+ghost use Rattle.command_words.specs.Commands.{command_of};
+ghost use Rattle.command_words.specs.Replaced.{file_of_first, replaced_by, target_of, user_file_by};
 
 use crate::commands::Command;
 use dconf_path::{Database, DatabaseKind, ProfileFault, read_profile, settings_text};

@@ -1,8 +1,8 @@
 use Rattle.std.proofs.Common.{◌≡◌, map, drop}
 use Rattle.std.specs.List.{list_any}
 use Rattle.dconf_model.specs.Updates.{is_newer}
-use Rattle.dconf_args.specs.Updates.{file_of}
-use Rattle.dconf_args.proofs.sources.has_newer.Given as goal
+use Rattle.command_words.specs.Updates.{file_of}
+use Rattle.command_words.proofs.sources.has_newer.Given as goal
 
 -- the rest decides
 abbrev pub invariant-loop-file : goal.invariant-loop-file

@@ -1,6 +1,6 @@
 //! A command, with its words.
 ghost use Rattle.std.specs.Prelude.{◌≡◌, string_bytes};
-ghost use Rattle.dconf_args.specs.Commands.{command_of, with_profile};
+ghost use Rattle.command_words.specs.Commands.{command_of, with_profile};
 
 /// A command with its words, as they were given.
 #[derive(Debug, Drop)]

@@ -2,8 +2,8 @@ use Rattle.std.proofs.Common.{◌≡◌, ◌∙◌, ap, sym, ℕ, List, None, Re
 use Rattle.std.proofs.lemmas.Result.{IfOk-weaker}
 use Rattle.dconf_model.specs.Lines.{LineFault, settings_text_fault, unless_fault}
 use Rattle.dconf_model.specs.Profiles.{Database, databases_in, profile_of}
-use Rattle.dconf_args.specs.Replaced.{file_if_read}
-use Rattle.dconf_args.proofs.replaced.user_file.Goals as goal
+use Rattle.command_words.specs.Replaced.{file_if_read}
+use Rattle.command_words.proofs.replaced.user_file.Goals as goal
 
 -- a text without fault, read
 is_read : (bytes text : List ℕ) (read : Result (List Database) LineFault) → text ≡ bytes → settings_text_fault bytes ≡ None → databases_in text ≡ read → profile_of bytes ≡ read

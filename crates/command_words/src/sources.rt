@@ -2,8 +2,8 @@
 ghost use Rattle.std.specs.Prelude.{◌≡◌, ◌++◌, IfOk, map, string_bytes, vec_items};
 ghost use Rattle.std.specs.List.{list_any};
 ghost use Rattle.dconf_model.specs.Updates.{compile_of, is_due, is_newer, is_shown, is_source, sources_in, updates};
-ghost use Rattle.dconf_args.specs.Commands.{command_of};
-ghost use Rattle.dconf_args.specs.Updates.{file_of, folder_of};
+ghost use Rattle.command_words.specs.Commands.{command_of};
+ghost use Rattle.command_words.specs.Updates.{file_of, folder_of};
 
 use crate::commands::Command;
 use std::alloc::{AllocError, Global};
