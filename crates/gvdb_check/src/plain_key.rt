@@ -80,7 +80,7 @@ fn hash_of_directory(hash: u32, part: &[u8]) -> Option<u32>
 }
 
 /// The same, of plain bytes.
-#[tactic(auto, using(gvdb_format::proofs::HashFours::joined_fours, crate::proofs::PlainKey::plain_by_fours))]
+#[tactic(auto, using(gvdb_hash::proofs::HashFours::joined_fours, crate::proofs::PlainKey::plain_by_fours))]
 #[inline(always)]
 fn hash_of_plain(hash: u32, bytes: &[u8]) -> Option<u32>
     ensures plain { IfSome result (λ _. IsTrue (list_all is_plain bytes.now)) }

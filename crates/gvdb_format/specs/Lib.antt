@@ -4,4 +4,3 @@ pub mod Tables
 pub mod Kinds
 pub mod ItemRecords
 pub mod NameLinks
-pub mod HashLanes

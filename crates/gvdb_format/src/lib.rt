@@ -8,7 +8,6 @@
 mod fault;
 mod fields;
 mod full_name;
-mod hashing;
 mod header;
 mod item;
 mod kind;
@@ -20,7 +19,7 @@ mod suffix;
 
 pub use fault::OpenFault;
 pub use fields::Link;
-pub use hashing::{HASH_OF_NOTHING, hash, hash_on, hash_with, hash_with_four, signed};
+pub use gvdb_hash::{HASH_OF_NOTHING, hash, hash_on, hash_with, hash_with_four, signed};
 pub use header::{HEAD_LEN, HEADER_LEN, LOCKS, SIGNATURE, WORD_LEN, head_number};
 pub use item::Item;
 pub use kind::Kind;

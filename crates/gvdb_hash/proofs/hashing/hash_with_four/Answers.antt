@@ -1,6 +1,6 @@
 use Rattle.std.proofs.Common.{rules, ◌≡◌, ◌∙◌, length, sym}
-use Rattle.gvdb_format.proofs.HashFours.{at_once, four_in_sum}
-use Rattle.gvdb_format.proofs.hashing.hash_with_four.Goals as goal
+use Rattle.gvdb_hash.proofs.HashFours.{at_once, four_in_sum}
+use Rattle.gvdb_hash.proofs.hashing.hash_with_four.Goals as goal
 
 pub returns : goal.returns
 returns c =

@@ -1,7 +1,7 @@
 use Rattle.std.proofs.Common.{◌≡◌, drop}
 use Rattle.std.specs.Prelude.{fold}
 use Rattle.dconf_model.specs.Bytes.{hash_step}
-use Rattle.gvdb_format.proofs.hashing.hash_by_fours.Given as goal
+use Rattle.gvdb_hash.proofs.hashing.hash_by_fours.Given as goal
 
 -- the hash so far, and what is left
 abbrev pub invariant-loop-four : goal.invariant-loop-four

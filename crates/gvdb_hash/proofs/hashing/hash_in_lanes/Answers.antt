@@ -1,5 +1,5 @@
 use Rattle.std.proofs.Common.{rules}
-use Rattle.gvdb_format.proofs.hashing.hash_in_lanes.Goals as goal
+use Rattle.gvdb_hash.proofs.hashing.hash_in_lanes.Goals as goal
 
 pub loop-four-init : goal.loop-four-init
 loop-four-init c = search rules

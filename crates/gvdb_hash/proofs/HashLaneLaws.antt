@@ -3,7 +3,7 @@ use Rattle.std.proofs.Common.{ℕ, ◌+◌, ◌*◌, ◌/◌, ◌%◌, ◌≡◌
 use Rattle.std.specs.Prelude.{fold}
 use Rattle.std.proofs.Math.Nat.{add-mul-mod_self_right, mod-add-div'}
 use Rattle.dconf_model.specs.Bytes.{hash_step}
-use Rattle.gvdb_format.proofs.HashFours.{Counts, four_in_sum}
+use Rattle.gvdb_hash.proofs.HashFours.{Counts, four_in_sum}
 
 -- as many times 2^32 as a sum is more than what is left of it
 over : ℕ → ℕ → ℕ

@@ -34,7 +34,7 @@ struct Lanes {
 }
 
 impl Lanes {
-    ghost use Rattle.gvdb_format.specs.HashLanes.{lanes_hash};
+    ghost use Rattle.gvdb_hash.specs.HashLanes.{lanes_hash};
 
     /// The sums, with four bytes more.
     #[tactic(auto, using(crate::proofs::HashLaneLaws::lanes_go_on))]

@@ -1,0 +1,2 @@
+pub mod HashFours
+pub mod HashLaneLaws
