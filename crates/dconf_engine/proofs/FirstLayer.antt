@@ -44,9 +44,6 @@ module _ (c : Unsaved) (path : List ℕ) (ls : List Settings) where
   place_set [] bytes are is some = absurd (some refl)
   place_set (x ∷ items) bytes are is some = sym (first_is x items (Some (Some bytes)) are is)
 
-  pub place_nowhere : (items : List Layer) → with_first_layer (with_changes c) (map settings_of items) ≡ ls → items ≡ [] → None ≡ first_from 0 ls path
-  place_nowhere items are none = ap (λ ls. first_from 0 ls path) (sym (ap (λ (items : List Layer). with_first_layer (with_changes c) (map settings_of items)) none) ∙ are)
-
 -- without the user's values nothing is changed
 pub default_same : (change : Values → Values) (xs : List Settings) (writable : Bool) → writable ≡ true →
     without_user (record { layers = xs; writable = writable }) ≡ without_user (record { layers = with_first_layer change xs; writable = writable })

@@ -27,7 +27,7 @@ use Rattle.dconf_model.specs.Settings.{AtPaths}
 use Rattle.dconf_model.proofs.DatabaseLaws.{at_paths}
 use Rattle.dconf_model.proofs.ParentLaws.{by_bool}
 use Rattle.dconf_model.proofs.PathMaps.{get_inserted}
-use Rattle.dconf_model.proofs.SameBytes.{same_path, path_itself}
+use Rattle.dconf_model.proofs.SameBytes.{same_path}
 use Rattle.dconf_engine.specs.TextMaps.{entries_by, at_texts, IsAtKeys, AreAtKeyPaths}
 
 -- ---- look-ups
@@ -89,21 +89,6 @@ same_clones read (e ∷ es) [] h = absurd h
 same_clones {V} {X} read (e ∷ es) (f ∷ fs) h =
     ap (λ (k : List ℕ). (k, read f.1) ∷ entries_by read fs) h.0.0 ∙ ap (λ (x : X). (string_bytes e.0, x) ∷ entries_by read fs) h.0.1
     ∙ ap (λ (l : List (List ℕ × X)). (string_bytes e.0, read e.1) ∷ l) (same_clones read es fs h.1)
-
--- ---- nothing is kept
-
-pub nothing_by : {V X : Type 0} (read : V → X) (es : List (String Global × V)) → length es ≡ 0 → fin.from_entries {R = slice_cmp nat_cmp} (entries_by read es) ≡ fin.empty
-nothing_by read [] e = refl
-nothing_by read (x ∷ es) e = absurd cc
-
-pub nothing_kept : {V X : Type 0} (read : V → X) (es : List (String Global × V)) → fin.from_entries {R = slice_cmp nat_cmp} (entries_by read es) ≡ fin.empty → es ≡ []
-nothing_kept read [] e = refl
-nothing_kept {V} {X} read (x ∷ es) e =
-    let k = string_bytes x.0 in
-    let there : get (fin.from_entries {R = slice_cmp nat_cmp} (entries_by read (x ∷ es))) k ≡ Some (read x.1) =
-    get_inserted (fin.from_entries (entries_by read es)) k (read x.1) k ∙ ap (λ b. cond b (Some (read x.1)) (get (fin.from_entries {R = slice_cmp nat_cmp} (entries_by read es)) k)) (path_itself k k refl) in
-    let none : get (fin.from_entries {R = slice_cmp nat_cmp} (entries_by read (x ∷ es))) k ≡ None = ap (λ (m : AtPaths X). get m k) e ∙ fin.get-empty (slice_cmp nat_cmp) k in
-    let bad : Some (read x.1) ≡ None = sym there ∙ none in absurd cc
 
 -- ---- paths of keys
 

@@ -1,5 +1,5 @@
 -- Changes of the first layer: what they give where they are accepted, and by the changes beside it.
-use Rattle.std.proofs.Common.{ℕ, ◌≡◌, ◌+◌, Bool, true, false, cond, List, [], ◌∷◌, Option, Some, None, Result, Ok, Err, map, option_map, refl, sym, ◌∙◌, ap, ◌&&◌}
+use Rattle.std.proofs.Common.{ℕ, ◌≡◌, ◌+◌, Bool, true, false, cond, List, [], ◌∷◌, Option, Some, None, Ok, Err, map, option_map, refl, sym, ◌∙◌, ap, ◌&&◌}
 use Rattle.std.specs.FinMap.{insert, remove}
 use Rattle.gv_model.specs.Tree.{Tree}
 use Rattle.dconf_model.specs.Layers.{Layers, is_locked}
@@ -97,23 +97,6 @@ pub load_too_large : (l : Layers) (rows : List Assigned) (force : Bool) → rows
     apply l (load_values rows force) ≡ Err too_large
 load_too_large l rows force e large =
     load_given l rows force e ∙ ap (λ b. cond b (Ok (changed (with_all (not_locked l rows)) l)) (Err too_large)) large
-
-abbrev err_of : Result Layers Refusal → Option Refusal → Result Layers Refusal
-err_of x None = x
-err_of x (Some r) = Err r
-
-first_row : (o : Option ℕ) (x : Result Layers Refusal) (r : Refusal) → option_map locked o ≡ Some r → unless_locked o x ≡ Err r
-first_row None x r e = absurd cc
-first_row (Some n) x r e = ap (err_of x) e
-
--- what is refused before anything is done
-pub load_refused : (l : Layers) (rows : List Assigned) (force : Bool) (r : Refusal) → rows_refusal l rows force ≡ Some r → apply l (load_values rows force) ≡ Err r
-load_refused l rows force r e = go l.writable force e
-  where
-    go : (w f : Bool) → cond w (cond f None (option_map locked (first_locked l 0 (paths_of rows)))) (Some not_writable) ≡ Some r → cond w (load_all l rows f) (Err not_writable) ≡ Err r
-    go true true h = absurd cc
-    go true false h = first_row (first_locked l 0 (paths_of rows)) (set_all l rows) r h
-    go false f h = ap (err_of (Err not_writable)) h
 
 -- what is refused while the rows' bytes are made
 pub load_too_large_as : (l : Layers) (rows : List Assigned) (force : Bool) (fault : Refused ChangeFlaw) → rows_refusal l rows force ≡ None →
