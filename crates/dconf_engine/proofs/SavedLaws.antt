@@ -13,7 +13,6 @@ use Rattle.dconf_model.specs.Settings.{Settings, no_settings}
 use Rattle.dconf_model.specs.Changes.{Values, saved, with_all, with_first_layer}
 use Rattle.dconf_model.specs.Layers.{Layers}
 use Rattle.dconf_model.specs.Sources.{Assigned}
-use Rattle.dconf_model.specs.Values.{stored}
 use Rattle.std.proofs.Common.{length, map, nat_eq, slice_get}
 use Rattle.dconf_layers.specs.declared.layer.Layer.{Layer}
 use Rattle.dconf_layers.specs.LayerRows.{layer_rows, paths_of}
@@ -24,7 +23,7 @@ use Rattle.dconf_model.proofs.PathMaps.{get_inserted, eq_turned}
 use Rattle.dconf_model.proofs.SameBytes.{same_path}
 use Rattle.dconf_engine.specs.Unsaved.{Unsaved, with_changes}
 use Rattle.dconf_engine.specs.EngineLayers.{layers_of}
-use Rattle.dconf_engine.specs.Saved.{set_if, unless_changed, with_rows, with_unchanged, with_sets}
+use Rattle.dconf_engine.specs.Saved.{set_if, unless_changed, with_unchanged, with_sets}
 use Rattle.gvdb_maps.proofs.KeysRise.{from_true}
 use Rattle.gvdb_maps.proofs.Read.{same_path as tie}
 use Rattle.gvdb_maps.proofs.HeldEntries.{less_is_other}
@@ -159,16 +158,12 @@ saved_first c (x ∷ items) item e =
 
 -- ---- rows
 
-rows_added : (rows : List Assigned) (v : Values) → with_rows rows (record { values = v; locks = empty }) ≡ record { values = with_all rows v; locks = empty }
-rows_added [] v = refl
-rows_added (row ∷ rows) v = rows_added rows (fin.insert v row.path (stored row.value))
-
 -- rows that are added to what is saved of a first layer are saved with it
-pub saved_loaded : (c : Unsaved) (items : List Layer) (writable : Bool) (l : Layers) (rows : List Assigned) → layers_of c items writable ≡ l → nat_eq (length items) 0 ≡ false →
-    with_rows rows (saved (with_first_layer (with_changes c) (map settings_of items))) ≡ saved (with_first_layer (with_all rows) l.layers)
-saved_loaded c [] writable l rows is some = absurd cc
-saved_loaded c (x ∷ items) writable l rows is some =
-    rows_added rows (with_changes c (settings_of x).values) ∙ ap (λ (l : Layers). saved (with_first_layer (with_all rows) l.layers)) is
+pub saved_loaded : (c : Unsaved) (items : List Layer) (writable : Bool) (l : Layers) (rows : List Assigned) (s : Settings) → layers_of c items writable ≡ l → nat_eq (length items) 0 ≡ false →
+    s ≡ saved (with_first_layer (with_changes c) (map settings_of items)) → record s { values = with_all rows s.values } ≡ saved (with_first_layer (with_all rows) l.layers)
+saved_loaded c [] writable l rows s is some e = absurd cc
+saved_loaded c (x ∷ items) writable l rows s is some e =
+    ap (λ (s : Settings). record s { values = with_all rows s.values }) e ∙ ap (λ (l : Layers). saved (with_first_layer (with_all rows) l.layers)) is
 
 pub none_loaded : (c : Unsaved) (items : List Layer) (writable : Bool) (l : Layers) (rows : List Assigned) → layers_of c items writable ≡ l → nat_eq (length items) 0 ≡ true →
     no_settings ≡ saved (with_first_layer (with_all rows) l.layers)

@@ -2,8 +2,6 @@
 use Rattle.std.specs.Prelude.{ℕ, List, Option, Some, None, fold, cond}
 use Rattle.std.specs.FinMap.{contains_key}
 use Rattle.dconf_model.specs.Settings.{Settings, with_value}
-use Rattle.dconf_model.specs.Sources.{Assigned}
-use Rattle.dconf_model.specs.Values.{stored}
 use Rattle.dconf_engine.specs.Unsaved.{Unsaved}
 
 abbrev pub set_if : Settings → List ℕ → Option (List ℕ) → Settings
@@ -21,7 +19,3 @@ with_unchanged changes rows s = fold (λ s row. unless_changed changes s row.0 (
 -- with each path set that was set
 abbrev pub with_sets : List (List ℕ × Option (List ℕ)) → Settings → Settings
 with_sets changes s = fold (λ s c. set_if s c.0 c.1) s changes
-
--- with the bytes of each row's value at its path
-abbrev pub with_rows : List Assigned → Settings → Settings
-with_rows rows s = fold (λ s row. with_value s row.path (stored row.value)) s rows

@@ -1,7 +1,7 @@
 //! The user's database.
 ghost use Rattle.std.specs.Prelude.{◌≡◌, true, false, IfOk, IfErr, OnOk, map};
 ghost use Rattle.refused.specs.Faults.{OfFault};
-ghost use Rattle.dconf_model.specs.Changes.{Change.load_values, Refusal.too_large, all_storable, apply, saved, with_first_layer};
+ghost use Rattle.dconf_model.specs.Changes.{Change.load_values, Refusal.too_large, all_storable, apply, saved, with_all, with_first_layer};
 ghost use Rattle.dconf_model.specs.Databases.{IsDatabaseOf};
 ghost use Rattle.gvdb_maps.specs.Limits.{IsRefusal};
 ghost use Rattle.dconf_model.specs.Settings.{no_settings};
@@ -9,7 +9,7 @@ ghost use Rattle.dconf_layers.specs.LayerRows.{layer_rows};
 ghost use Rattle.dconf_layers.specs.LayerSettings.{settings_of};
 ghost use Rattle.dconf_engine.specs.ChangeFaults.{Refuses, refusal_of};
 ghost use Rattle.dconf_engine.specs.Loads.{IsLoaded, not_locked, rows_of};
-ghost use Rattle.dconf_engine.specs.Saved.{with_rows, with_unchanged};
+ghost use Rattle.dconf_engine.specs.Saved.{with_unchanged};
 ghost use Rattle.dconf_engine.specs.Unsaved.{with_changes};
 
 use crate::change_fault::ChangeFault;
@@ -77,7 +77,7 @@ impl<'a> Engine<'a> {
         rows: &[(KeyPath<'_>, Tree)],
         values: &mut MapBuilder,
     ) -> Result<(), ChangeFault>
-        ensures ok { OnOk result (values.new ≡ with_rows (not_locked self.now (rows_of rows.now)) values.old) }
+        ensures ok { OnOk result (values.new ≡ record values.old { values = with_all (not_locked self.now (rows_of rows.now)) values.old.values }) }
         ensures storable { OnOk result (all_storable (not_locked self.now (rows_of rows.now)) ≡ true) }
         ensures fault { IfErr result (OfFault (λ e. (refusal_of e ≡ too_large) × (all_storable (not_locked self.now (rows_of rows.now)) ≡ false))) }
     {

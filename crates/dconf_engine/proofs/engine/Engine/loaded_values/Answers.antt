@@ -4,7 +4,6 @@ use Rattle.dconf_model.specs.Changes.{changed, saved, with_all, with_first_layer
 use Rattle.dconf_layers.specs.LayerSettings.{settings_of}
 use Rattle.dconf_layers.specs.declared.layer.Layer.{Layer}
 use Rattle.dconf_engine.specs.Loads.{rows_of, not_locked}
-use Rattle.dconf_engine.specs.Saved.{with_rows}
 use Rattle.dconf_engine.specs.Unsaved.{Unsaved, with_changes}
 use Rattle.dconf_engine.proofs.SavedLaws.{none_loaded, saved_loaded}
 use Rattle.dconf_engine.proofs.WritingLaws.{load_accepted, load_too_large_as}
@@ -37,6 +36,6 @@ returns-clause-ok c =
     ∙ ap (λ (changes : Unsaved). saved (with_first_layer (with_changes changes) (map settings_of i.layers.items))) c.in_ok-try_copy.ensures in (
       changed (with_all rows) l,
       load_accepted l (rows_of c.args.rows.now) c.args.force c.in_ok-check_rows.ensures.ok c.in_ok-add_rows.ensures.storable,
-      c.in_ok-add_rows.ensures.ok ∙ ap (with_rows rows) values
-          ∙ saved_loaded i.changes i.layers.items i.writable l rows c.self.view_is (sym (ap (λ n. nat_eq n 0) len) ∙ sym c.is_empty.ensures ∙ c.if-is_empty.false),
+      c.in_ok-add_rows.ensures.ok
+          ∙ saved_loaded i.changes i.layers.items i.writable l rows _ c.self.view_is (sym (ap (λ n. nat_eq n 0) len) ∙ sym c.is_empty.ensures ∙ c.if-is_empty.false) values,
     )
