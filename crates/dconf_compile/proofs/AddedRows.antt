@@ -1,14 +1,15 @@
 -- What is put into a map row by row, lock by lock, and file by file, up to the first fault.
 use Rattle.std.proofs.Common.{◌≡◌, ℕ, List, [], ◌∷◌, ◌++◌, Option, Some, None, Result, Ok, Err, refl, sym, ap, ◌∙◌, append_assoc, append-nil}
 use Rattle.std.specs.Prelude.{IfSome, option_map, codes}
+use Rattle.std.specs.FinMap.{insert}
 use Rattle.std.specs.List.{AllByRecursion}
 use Rattle.std.proofs.lemmas.List.Sums.{fold-append}
 use Rattle.dconf_model.specs.Causes.{SettingsCause}
+use Rattle.dconf_model.specs.Changes.{Values}
 use Rattle.dconf_model.specs.Lines.{LineFault, put_first, with_first_found}
-use Rattle.dconf_model.specs.Lines.LineReading.{wrong}
 use Rattle.dconf_model.specs.Keyfiles.{Row}
 use Rattle.dconf_model.specs.Locks.{LockLine}
-use Rattle.dconf_model.specs.Settings.{Settings, with_value, with_lock}
+use Rattle.dconf_model.specs.Settings.{Settings, with_lock}
 use Rattle.dconf_model.specs.Sources.{Assigned, File, FileFault, Source, and_more, in_files, rows_read}
 use Rattle.dconf_model.specs.Stores.{IsLimitedValue}
 use Rattle.dconf_model.specs.Values.{stored}
@@ -52,7 +53,7 @@ module _ {F : Type 0} (whole : Result (List Assigned) F) (old : Settings) where
     done = h.done ++ xs;
     so_far = h.so_far ∙ (ap (before h.done) gives ∙ before_more h.done xs rest);
     limited = both_limited h.done xs h.limited limited;
-    added = added ∙ (ap (with_rows xs) h.added ∙ sym (fold-append (λ s row. with_value s row.path (stored row.value)) old h.done xs));
+    added = added ∙ (ap (with_rows xs) h.added ∙ ap (λ (v : Values). record old { values = v }) (sym (fold-append (λ (v : Values) row. insert v row.path (stored row.value)) old.values h.done xs)));
   }
 
   pub all_rows : (left : Result (List Assigned) F) (now : Settings) → left ≡ Ok [] → HasAddedRows whole left old now → AddsRows whole old now
@@ -80,12 +81,6 @@ pub row_added : (whole : Result (List Assigned) LineFault) (old now new : Settin
 row_added whole old now new r rows h a =
     more_rows whole old (rows_compiled (r ∷ rows)) (rows_compiled rows) now new (a.row ∷ []) h
     (ap (λ x. put_first r.line x (rows_compiled rows)) a.found ∙ found_first a.row (rows_compiled rows)) (a.limited, tt) a.added
-
-pub row_stopped : (whole : Result (List Assigned) LineFault) (old now : Settings) (r : Row) (rows : List Row) (o : Option SettingsCause) → HasAddedRows whole (rows_compiled (r ∷ rows)) old now →
-    IfSome o (λ c. row_compiled r ≡ wrong c) → IfSome (option_map (at_line r.line) o) (λ f. whole ≡ Err f)
-row_stopped whole old now r rows None h k = tt
-row_stopped whole old now r rows (Some c) h k =
-    stopped_rows whole old (rows_compiled (r ∷ rows)) now (at_line r.line c) (ap (λ x. put_first r.line x (rows_compiled rows)) k) h
 
 -- ---- files
 

@@ -1,16 +1,15 @@
 -- The settings that rows and locks are put into are those that are given.
 use Rattle.std.proofs.Math.Bool.{or-false}
-use Rattle.std.proofs.Common.{◌≡◌, ℕ, Bool, true, false, ◌||◌, List, [], ◌∷◌, Option, Some, None, Result, Ok, Err, refl, ap, ◌∙◌, cond, is_some}
-use Rattle.std.specs.Prelude.{IfSome, option_map}
+use Rattle.std.proofs.Common.{◌≡◌, ℕ, Bool, true, false, ◌||◌, List, [], ◌∷◌, Option, Some, None, Result, refl, ap, ◌∙◌, cond, is_some}
+use Rattle.std.specs.Prelude.{option_map}
 use Rattle.std.specs.List.{list_any}
 use Rattle.std.specs.Option.{option_or}
 use Rattle.std.specs.Str.{bytes_eq}
 use Rattle.std.specs.Cmp.Lexicographic.{slice_cmp}
 use Rattle.std.specs.Ordering.{nat_cmp}
 use Rattle.std.specs.FinMap.{get, contains_key, empty, get-empty}
-use Rattle.dconf_model.specs.Changes.{with_all}
 use Rattle.dconf_model.specs.Locks.{LockLine}
-use Rattle.dconf_model.specs.Settings.{Settings, AtPaths, Lock, no_settings, with_value, with_lock}
+use Rattle.dconf_model.specs.Settings.{Settings, AtPaths, Lock, no_settings, with_lock}
 use Rattle.dconf_model.specs.Sources.{Assigned, FileFault, and_locks, last_value}
 use Rattle.dconf_model.specs.Values.{stored}
 use Rattle.dconf_model.proofs.LastValues.{get_all}
@@ -18,15 +17,7 @@ use Rattle.dconf_model.proofs.PathMaps.{get_inserted, or_swap}
 use Rattle.dconf_compile.specs.Added.{AddsRows, AddsLocks, with_rows, with_locks}
 use Rattle.dconf_compile.specs.Sources.{AreGivenBy}
 
--- ---- rows change values alone, locks locks alone
-
-rows_values : (rows : List Assigned) (s : Settings) → (with_rows rows s).values ≡ with_all rows s.values
-rows_values [] s = refl
-rows_values (row ∷ rows) s = rows_values rows (with_value s row.path (stored row.value))
-
-rows_locks : (rows : List Assigned) (s : Settings) → (with_rows rows s).locks ≡ s.locks
-rows_locks [] s = refl
-rows_locks (row ∷ rows) s = rows_locks rows (with_value s row.path (stored row.value))
+-- ---- locks change locks alone
 
 locks_values : (locks : List LockLine) (s : Settings) → (with_locks locks s).values ≡ s.values
 locks_values [] s = refl
@@ -38,8 +29,7 @@ or_nothing None = refl
 
 value_at : (rows : List Assigned) (p : List ℕ) → get (with_rows rows no_settings).values p ≡ option_map stored (last_value rows p)
 value_at rows p =
-    ap (λ (m : AtPaths (List ℕ)). get m p) (rows_values rows no_settings)
-    ∙ (get_all rows empty p ∙ (ap (option_or (option_map stored (last_value rows p))) (get-empty (slice_cmp nat_cmp) p) ∙ or_nothing (option_map stored (last_value rows p))))
+    get_all rows empty p ∙ (ap (option_or (option_map stored (last_value rows p))) (get-empty (slice_cmp nat_cmp) p) ∙ or_nothing (option_map stored (last_value rows p)))
 
 -- ---- locks
 
@@ -72,17 +62,6 @@ given_settings values locks between new a b = record {
     values = λ p. ap (λ (s : Settings). get s.values p) b.added
         ∙ (ap (λ (m : AtPaths (List ℕ)). get m p) (locks_values b.locks between) ∙ (ap (λ (s : Settings). get s.values p) a.added ∙ value_at a.rows p));
     locks = λ p. ap (λ (s : Settings). contains_key s.locks p) b.added
-        ∙ lock_at b.locks between p (ap (λ (s : Settings). s.locks) a.added ∙ rows_locks a.rows no_settings);
+        ∙ lock_at b.locks between p (ap (λ (s : Settings). s.locks) a.added);
   };
 }
-
--- the first fault is that of the keyfiles, or else of the lock files
-pub stopped_values : (values : Result (List Assigned) FileFault) (locks : Result (List LockLine) FileFault) (o : Option FileFault) →
-    IfSome o (λ f. values ≡ Err f) → IfSome o (λ f. and_locks values locks ≡ Err f)
-stopped_values values locks None h = tt
-stopped_values values locks (Some f) h = ap (λ r. and_locks r locks) h
-
-pub stopped_locks : (values : Result (List Assigned) FileFault) (rows : List Assigned) (locks : Result (List LockLine) FileFault) (o : Option FileFault) → values ≡ Ok rows →
-    IfSome o (λ f. locks ≡ Err f) → IfSome o (λ f. and_locks values locks ≡ Err f)
-stopped_locks values rows locks None e h = tt
-stopped_locks values rows locks (Some f) e h = rw (e, h) refl

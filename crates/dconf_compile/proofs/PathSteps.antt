@@ -1,20 +1,17 @@
 -- The rows of a keyfile that are loaded, one after another: their paths, and the values that they give.
-use Rattle.std.proofs.Common.{◌≡◌, ◌<◌, ◌+◌, ℕ, List, [], ◌∷◌, ◌++◌, length, map, drop, get_or, Option, Some, None, Result, Ok, Err, Bool, true, false, refl, sym, ap, ◌∙◌, append_assoc, subst}
-use Rattle.std.specs.Prelude.{◌≤◌, ◌&&◌, IfSome, option_map}
+use Rattle.std.proofs.Common.{◌≡◌, ◌<◌, ◌+◌, ℕ, List, [], ◌∷◌, ◌++◌, length, map, drop, get_or, Result, Ok, Err, Bool, true, refl, sym, ap, ◌∙◌, append_assoc, subst}
+use Rattle.std.specs.Prelude.{◌≤◌}
 use Rattle.std.specs.List.{All, AllByRecursion}
 use Rattle.std.proofs.lemmas.List.{drop_more, map-append}
 use Rattle.std.proofs.lemmas.List.Elements.{All-push}
-use Rattle.dconf_model.specs.Causes.{SettingsCause}
-use Rattle.dconf_model.specs.Doubles.{is_double_cause, is_double_cause_if_any}
 use Rattle.dconf_model.specs.Keyfiles.{Row as TheRow, path_of}
 use Rattle.dconf_model.specs.Lines.{LineFault, longest_text}
-use Rattle.dconf_model.specs.Lines.LineReading.{found, wrong}
+use Rattle.dconf_model.specs.Lines.LineReading.{found}
 use Rattle.dconf_model.specs.Paths.{is_directory_path, is_key_path, is_short}
-use Rattle.dconf_model.specs.Sources.{Assigned, Loaded, leave_first, leave_or_stop, rows_taken, set_first, take_first}
+use Rattle.dconf_model.specs.Sources.{Assigned, Loaded, rows_taken, set_first, take_first}
 use Rattle.keyfile_core.specs.declared.rows.Row.{Row}
 use Rattle.keyfile_core.specs.Rows.{row_meant}
 use Rattle.dconf_compile.specs.Added.{IsReadRow}
-use Rattle.dconf_compile.specs.LineStops.{at_line}
 use Rattle.dconf_compile.specs.PathedRows.{AtPath, IsPathed, at_path, pathed_meant, row_loaded, rows_given}
 use Rattle.dconf_compile.specs.declared.load.PathedRow.{PathedRow}
 use Rattle.dconf_compile.proofs.RowPaths.{key_where_short}
@@ -69,10 +66,6 @@ after_row : (done : Loaded) (v : Assigned) (r : Result Loaded LineFault) → aft
 after_row done v (Ok l) = ap (λ (rows : List Assigned). Ok (these rows (done.left_out ++ l.left_out))) (sym (append_assoc done.rows (v ∷ []) l.rows))
 after_row done v (Err f) = refl
 
-after_path : (done : Loaded) (path : List ℕ) (r : Result Loaded LineFault) → after_these done (leave_first path r) ≡ after_these (these done.rows (done.left_out ++ path ∷ [])) r
-after_path done path (Ok l) = ap (λ (paths : List (List ℕ)). Ok (these (done.rows ++ l.rows) paths)) (sym (append_assoc done.left_out (path ∷ []) l.left_out))
-after_path done path (Err f) = refl
-
 module _ (skip : Bool) (rows : List PathedRow) (i : ℕ) (d : PathedRow) (inside : i < length rows) (whole : Result Loaded LineFault) (done : Loaded)
     (so_far : whole ≡ after_these done (rows_given skip (map pathed_meant (drop i rows)))) where
   abbrev this : AtPath
@@ -86,21 +79,3 @@ module _ (skip : Bool) (rows : List PathedRow) (i : ℕ) (d : PathedRow) (inside
 
   pub next_value : (v : Assigned) → row_loaded this ≡ found v → whole ≡ after_these (these (done.rows ++ v ∷ []) done.left_out) rest
   next_value v e = with_this ∙ (ap (λ x. after_these done (take_first skip this.line this.path x rest)) e ∙ after_row done v rest)
-
-  at_cause : (c : SettingsCause) (b : Bool) → row_loaded this ≡ wrong c → (skip && is_double_cause c) ≡ b → whole ≡ after_these done (leave_or_stop b this.line this.path c rest)
-  at_cause c b e is =
-      with_this ∙ (ap (λ x. after_these done (take_first skip this.line this.path x rest)) e ∙ ap (λ b. after_these done (leave_or_stop b this.line this.path c rest)) is)
-
-  pub next_left_out : (o : Option SettingsCause) → IfSome o (λ c. row_loaded this ≡ wrong c) → (skip && is_double_cause_if_any o) ≡ true
-      → whole ≡ after_these (these done.rows (done.left_out ++ this.path ∷ [])) rest
-  next_left_out None e is = absurd (neither skip is)
-    where
-      neither : (b : Bool) → (b && false) ≡ true → ⊥
-      neither true e = cc
-      neither false e = cc
-  next_left_out (Some c) e is = at_cause c true e is ∙ after_path done this.path rest
-
-  pub value_stops : (o : Option SettingsCause) → IfSome o (λ c. row_loaded this ≡ wrong c) → (skip && is_double_cause_if_any o) ≡ false
-      → IfSome (option_map (at_line this.line) o) (λ f. whole ≡ Err f)
-  value_stops None e is = tt
-  value_stops (Some c) e is = at_cause c false e is

@@ -15,13 +15,10 @@ use Rattle.dconf_model.proofs.Trimmed.{no_such_byte}
 use Rattle.dconf_model.proofs.ParentLaws.{by_bool}
 use Rattle.dconf_model.proofs.PathMaps.{no_truth}
 use Rattle.dconf_model.specs.Causes.{SettingsCause}
-use Rattle.dconf_model.specs.Causes.SettingsCause.{path_fault}
 use Rattle.dconf_model.specs.Lines.LineReading.{wrong}
-use Rattle.dconf_model.specs.Paths.PathFault.{too_long}
-use Rattle.dconf_model.specs.Settings.{Settings, with_value}
 use Rattle.dconf_model.specs.Sources.{assigned, row_read}
 use Rattle.dconf_model.proofs.WorkedPaths.{root_is_a_directory}
-use Rattle.dconf_compile.specs.Added.{AddsRow, IsReadRow, IsStoredFor, row_compiled, text_compiled}
+use Rattle.dconf_compile.specs.Added.{IsReadRow}
 
 no_nul : (s : List ℕ) → is_plain s ≡ true → has_zero_byte s ≡ false
 no_nul s e = no_such_byte is_special 0 s refl (not-true (list_any is_special s) e)
@@ -167,13 +164,6 @@ key_where_short d directory r h = path_if_short d (take (length d - 1) d) (direc
 -- ---- what a row gives, by its path
 
 module _ (read : List ℕ → Result Tree SettingsCause) (p text : List ℕ) (key : is_key_path p ≡ is_short p) where
-  pub long_row : (IsTrue (is_key_path p) → false ≡ true) → row_read read p text ≡ wrong (path_fault too_long)
-  long_row refuted = go (is_short p) (sym key)
-    where
-      go : (b : Bool) → b ≡ is_key_path p → cond b (assigned p (read text)) (wrong (path_fault too_long)) ≡ wrong (path_fault too_long)
-      go true e = absurd (no_truth (refuted (sym e)))
-      go false e = refl
-
   pub short_row : IsTrue (is_key_path p) → row_read read p text ≡ assigned p (read text)
   short_row is = let short : is_short p ≡ true = sym key ∙ is in rw short refl
 
@@ -187,23 +177,5 @@ module _ (r : Row) (h : IsReadRow r) (p : List ℕ) (same : p ≡ path_of (codes
   key : is_key_path p ≡ is_short p
   key = ap is_key_path same ∙ (key_where_short (codes "/") root_is_a_directory r h ∙ sym (ap is_short same))
 
-  by_path : row_compiled r ≡ row_read text_compiled p r.text
-  by_path = ap (λ (x : List ℕ). row_read text_compiled x r.text) (sym same)
-
-  pub too_long_row : 65535 < length p → row_compiled r ≡ wrong (path_fault too_long)
-  too_long_row long = let is : is_short p ≡ false = grind (arith, nat_tests) in by_path ∙ long_row text_compiled p r.text key (λ path. sym is ∙ (sym key ∙ path))
-
   pub short_key : length p ≤ 65535 → IsTrue (is_key_path p)
   short_key short = let is : is_short p ≡ true = grind (arith, nat_tests) in key ∙ is
-
-  pub row_refused : (o : Option SettingsCause) → IsTrue (is_key_path p) → IfSome o (λ c. text_compiled r.text ≡ Err c) → IfSome o (λ c. row_compiled r ≡ wrong c)
-  row_refused None is k = tt
-  row_refused (Some c) is k = by_path ∙ refused_row text_compiled p r.text key (Some c) is k
-
-  pub row_stored : (bytes : List ℕ) (old new : Settings) → IsTrue (is_key_path p) → IsStoredFor (text_compiled r.text) bytes → new ≡ with_value old p bytes → AddsRow (row_compiled r) old new
-  row_stored bytes old new is s added = record {
-    row = record { path = p; value = s.value };
-    found = by_path ∙ (short_row text_compiled p r.text key is ∙ ap (assigned p) s.read);
-    limited = s.limited;
-    added = added ∙ ap (with_value old p) s.bytes;
-  }

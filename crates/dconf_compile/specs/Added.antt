@@ -3,6 +3,7 @@ use Rattle.std.specs.Prelude.{◌≡◌, ◌≤◌, ℕ, true, List, length, cod
 use Rattle.std.specs.List.{AllByRecursion}
 use Rattle.gv_model.specs.Tree.{Tree}
 use Rattle.dconf_model.specs.Causes.{SettingsCause}
+use Rattle.dconf_model.specs.Changes.{with_all}
 use Rattle.dconf_model.specs.Keyfiles.{Row, is_group, is_key, path_of}
 use Rattle.dconf_model.specs.Lines.{LineReading, longest_text}
 use Rattle.dconf_model.specs.Lines.LineReading.{found}
@@ -42,7 +43,7 @@ pub record AddsRow (reading : LineReading Assigned) (old new : Settings) : Type 
 -- ---- all of them
 
 abbrev pub with_rows : List Assigned → Settings → Settings
-with_rows rows s = fold (λ s row. with_value s row.path (stored row.value)) s rows
+with_rows rows s = record s { values = with_all rows s.values }
 
 abbrev pub with_locks : List LockLine → Settings → Settings
 with_locks locks s = fold (λ s lock. with_lock s lock.path) s locks
