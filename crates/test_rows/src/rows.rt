@@ -1,4 +1,8 @@
 //! Tables and scripts, each row of which is asked.
+ghost use Rattle.std.specs.Prelude.{◌≡◌, ◌↔◌, IsOk};
+ghost use Rattle.std.specs.Str.Parse.{digits_value, without_leading_plus};
+ghost use Rattle.test_rows.specs.Words.{IsNumber};
+
 use std::alloc::Global;
 use std::test::Fail;
 
@@ -9,12 +13,17 @@ pub trait Question {
 }
 
 /// The number that a word is, and 0 where it is none.
-pub fn number(word: &str) -> u32 {
+pub fn number(word: &str) -> u32
+    ensures number { IsNumber word.now → result ≡ digits_value 10 (without_leading_plus word.now) }
+    ensures none { ¬ IsNumber word.now → result ≡ 0 }
+{
     word.parse().unwrap_or(0)
 }
 
 /// An error says what was found, if it isn't what is wanted.
-pub fn is_so(alloc: Global, asked: &str, found: &str, wanted: &str) -> Result<(), Fail> {
+pub fn is_so(alloc: Global, asked: &str, found: &str, wanted: &str) -> Result<(), Fail>
+    ensures { IsOk result ↔ (found.now ≡ wanted.now) }
+{
     if found == wanted {
         Ok(())
     } else {

@@ -1,4 +1,6 @@
 //! Files by hand: a header, a table and its items, keys, a list, values, in this order.
+ghost use Rattle.std.specs.Prelude.{◌≡◌};
+ghost use Rattle.test_rows.specs.Words.{sample_of};
 
 /// The key `/k`, worth 5, in a table of one bucket and no bloom words.
 const PLAIN: &[u8] = &[
@@ -29,7 +31,9 @@ const LOCKED: &[u8] = &[
 ];
 
 /// The file of this name, of which there are no others.
-pub fn sample(name: &str) -> &'static [u8] {
+pub fn sample(name: &str) -> &'static [u8]
+    ensures { result.now ≡ sample_of name.now }
+{
     match name {
         "plain" => PLAIN,
         "buckets" => BUCKETS,
