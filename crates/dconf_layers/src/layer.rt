@@ -1,23 +1,22 @@
 //! A layer of settings: a sound database, lent from its file.
-ghost use Rattle.std.specs.Prelude.{◌≡◌, None, Some, IfErr, IfOk, false, option_map, true};
+ghost use Rattle.std.specs.Prelude.{◌≡◌, None, Some, IfErr, IfOk, IsTrue, false, option_map, true};
 ghost use Rattle.std.specs.FinMap.{get};
 ghost use Rattle.dconf_model.specs.Databases.{IsBad, IsLayer, IsVerdict, settings_in};
 ghost use Rattle.dconf_model.specs.Layers.{locks_path};
+ghost use Rattle.dconf_model.specs.Paths.{is_key_path};
 ghost use Rattle.dconf_model.specs.Opening.{IsDatabase, root_of};
 ghost use Rattle.dconf_model.specs.Settings.{no_settings};
 ghost use Rattle.dconf_model.specs.Sound.{IsFirstFault, IsSound};
-ghost use Rattle.dconf_path.specs.Paths.{key_text};
-ghost use Rattle.gvdb_read.specs.Lookups.{HasDirectoryValue};
+ghost use Rattle.gvdb_read.specs.Lookups.{HasDirectoryValue, name_text};
 ghost use Rattle.gvdb_read.specs.Tables.{region};
 ghost use Rattle.gvdb_check.specs.Unsounds.{rule_of};
 ghost use Rattle.dconf_layers.specs.Verdicts.{verdict_of};
 ghost use Rattle.dconf_layers.specs.SoundTables.{AreOfSoundDatabase, IsSoundRoot, IsTableOfLocks, locks_if};
 
 use crate::fault::DatabaseFault;
-use dconf_path::KeyPath;
 use gvdb_alike::is_shaped_as;
 use gvdb_format::LOCKS;
-use gvdb_read::{Table, Unsound};
+use gvdb_read::{HashedName, Table, Unsound};
 
 /// A database without items.
 const EMPTY: &[u8] = b"GVariant\0\0\0\0\0\0\0\0\x18\0\0\0\x20\0\0\0\0\0\0\0\0\0\0\0";
@@ -154,18 +153,18 @@ impl<'a> Layer<'a> {
 
     /// Whether a lock covers a key: its own path is locked, or a directory above it.
     ///
-    /// It searches for the path, and where some lock may be a directory's, for each of its directories. It hashes the
-    /// path once.
+    /// It searches for the path, and where some lock may be a directory's, for each of its directories.
     #[inline(always)]
-    pub(crate) fn locks_path(self, path: KeyPath<'_>) -> bool
-        ensures { result ≡ locks_path (key_text path.entry) (settings_of self.entry) }
+    pub(crate) fn locks_path(self, path: HashedName<'_>) -> bool
+        requires { IsTrue (is_key_path (name_text path)) }
+        ensures { result ≡ locks_path (name_text path.entry) (settings_of self.entry) }
     {
         match self.locks() {
             Some(locks) => {
                 if self.locks_directories {
-                    locks.covers(path.as_str())
+                    locks.covers(path)
                 } else {
-                    locks.has(path.as_str())
+                    locks.has_hashed(path)
                 }
             }
             None => false,

@@ -3,7 +3,7 @@ ghost use Rattle.std.specs.Prelude.{◌≡◌, ◌<◌, ◌≤◌, IfSome, IsSom
 ghost use Rattle.std.specs.FinMap.{get};
 ghost use Rattle.std.specs.List.{list_any};
 ghost use Rattle.gv_view.specs.Views.{value};
-ghost use Rattle.gvdb_read.specs.Lookups.{ShowsHeld};
+ghost use Rattle.gvdb_read.specs.Lookups.{ShowsHeld, name_text};
 ghost use Rattle.dconf_model.specs.Layers.{first_from, is_locked, level, locks_path, place_of, visible, visible_bytes, without_user};
 ghost use Rattle.dconf_model.specs.Paths.{is_key_path};
 ghost use Rattle.dconf_model.specs.Salvaging.{IsKeyText};
@@ -27,7 +27,6 @@ pub struct LentLayers<'a, 'l> {
 
 impl<'a, 'l> LentLayers<'a, 'l> {
     ghost use Rattle.dconf_layers.specs.LayerSettings.{seen_in};
-    ghost use Rattle.gvdb_read.specs.Lookups.{name_text};
 
     /// These layers. Where `writable`, the first is the user's.
     pub fn new(writable: bool, layers: &'l [Layer<'a>]) -> LentLayers<'a, 'l>
@@ -74,7 +73,8 @@ impl<'a, 'l> LentLayers<'a, 'l> {
     fn place(self, path: KeyPath<'_>) -> Option<(usize, &'a [u8])>
         ensures { option_map {U = ℕ × List ℕ} (λ p. (p.0, p.1.now)) result ≡ place_of (seen_in self.entry) (key_text path.entry) }
     {
-        self.place_from(self.level(path), path)
+        let name = hashed(path);
+        self.place_named(self.level_named(name), name)
     }
 
     /// As `place`, of bytes; None also where they are no path of a key.
@@ -100,8 +100,10 @@ impl<'a, 'l> LentLayers<'a, 'l> {
         ensures key { IsSome result → IsKeyText path.entry.now }
         ensures place { IsKeyText path.entry.now → option_map {U = ℕ × List ℕ} (λ p. (p.0, p.1.now)) result ≡ place_of (seen_in self.entry) path.entry.now }
     {
-        let (first, bytes) = self.place_named(0, HashedName::new(path))?;
-        self.place_above(first, bytes, KeyPath::of_bytes(path)?)
+        let name = HashedName::new(path);
+        let (first, bytes) = self.place_named(0, name)?;
+        KeyPath::of_bytes(path)?;
+        self.place_above(first, bytes, name)
     }
 
     /// Where the value that is seen at a path is, of which this is the first place. Locks are asked of the layers after that alone.
@@ -109,27 +111,29 @@ impl<'a, 'l> LentLayers<'a, 'l> {
         self,
         first: usize,
         bytes: &'a [u8],
-        path: KeyPath<'_>,
+        path: HashedName<'_>,
     ) -> Option<(usize, &'a [u8])>
-        requires { first_from 0 (seen_in self).layers (key_text path) ≡ Some (first, bytes.now) }
-        ensures { option_map {U = ℕ × List ℕ} (λ p. (p.0, p.1.now)) result ≡ place_of (seen_in self.entry) (key_text path.entry) }
+        requires key { IsTrue (is_key_path (name_text path)) }
+        requires first { first_from 0 (seen_in self).layers (name_text path) ≡ Some (first, bytes.now) }
+        ensures { option_map {U = ℕ × List ℕ} (λ p. (p.0, p.1.now)) result ≡ place_of (seen_in self.entry) (name_text path.entry) }
     {
         let level = self.level_above(first, path);
         if level <= first {
             return Some((first, bytes));
         }
-        self.place_from(level, path)
+        self.place_named(level, path)
     }
 
     /// The same without the values of the user's database.
     pub fn default_place(self, path: KeyPath<'_>) -> Option<(usize, &'a [u8])>
         ensures { option_map {U = ℕ × List ℕ} (λ p. (p.0, p.1.now)) result ≡ place_of (without_user (seen_in self.entry)) (key_text path.entry) }
     {
-        let level = self.level(path);
+        let name = hashed(path);
+        let level = self.level_named(name);
         if self.writable && level == 0 {
-            return self.place_from(1, path);
+            return self.place_named(1, name);
         }
-        self.place_from(level, path)
+        self.place_named(level, name)
     }
 
     /// Whether a layer from the second on has locks. Where none has, no key is locked.
@@ -144,19 +148,32 @@ impl<'a, 'l> LentLayers<'a, 'l> {
         }
     }
 
-    /// The greatest index of at least 1 whose layer locks the path; else 0.
+    /// The greatest index of at least 1 whose layer locks the path; else 0. Where no layer has locks it looks at no byte of it.
     #[inline(always)]
     pub fn level(self, path: KeyPath<'_>) -> usize
         ensures { result ≡ level (seen_in self.entry) (key_text path.entry) }
+    {
+        if !self.have_locks() {
+            return 0;
+        }
+        self.level_named(hashed(path))
+    }
+
+    /// The same, of a path that is hashed already.
+    #[inline(always)]
+    fn level_named(self, path: HashedName<'_>) -> usize
+        requires { IsTrue (is_key_path (name_text path)) }
+        ensures { result ≡ level (seen_in self.entry) (name_text path.entry) }
     {
         self.level_above(0, path)
     }
 
     /// The same, if it is above this one; else one that is not. No other layer is asked.
     #[inline(always)]
-    fn level_above(self, floor: usize, path: KeyPath<'_>) -> usize
-        ensures above { floor < result → result ≡ level (seen_in self.entry) (key_text path.entry) }
-        ensures none { result ≤ floor → level (seen_in self.entry) (key_text path.entry) ≤ floor }
+    fn level_above(self, floor: usize, path: HashedName<'_>) -> usize
+        requires { IsTrue (is_key_path (name_text path)) }
+        ensures above { floor < result → result ≡ level (seen_in self.entry) (name_text path.entry) }
+        ensures none { result ≤ floor → level (seen_in self.entry) (name_text path.entry) ≤ floor }
     {
         let mut i = self.layers.len();
         while i > 1 {
@@ -177,7 +194,7 @@ impl<'a, 'l> LentLayers<'a, 'l> {
     pub fn place_from(self, from: usize, path: KeyPath<'_>) -> Option<(usize, &'a [u8])>
         ensures { option_map {U = ℕ × List ℕ} (λ p. (p.0, p.1.now)) result ≡ first_from from (drop from (seen_in self.entry).layers) (key_text path.entry) }
     {
-        self.place_named(from, HashedName::new(path.as_str().as_bytes()))
+        self.place_named(from, hashed(path))
     }
 
     /// The same, of a name that is hashed already.
@@ -195,9 +212,10 @@ impl<'a, 'l> LentLayers<'a, 'l> {
 
     /// Whether a layer locks a path.
     #[inline(always)]
-    fn locks_at(self, i: usize, path: KeyPath<'_>) -> bool
-        requires { i < length (seen_in self).layers }
-        ensures { result ≡ locks_path (key_text path.entry) (slice_index_or (seen_in self.entry).layers i no_settings) }
+    fn locks_at(self, i: usize, path: HashedName<'_>) -> bool
+        requires within { i < length (seen_in self).layers }
+        requires key { IsTrue (is_key_path (name_text path)) }
+        ensures { result ≡ locks_path (name_text path.entry) (slice_index_or (seen_in self.entry).layers i no_settings) }
     {
         self.layers[i].locks_path(path)
     }
@@ -210,6 +228,15 @@ impl<'a, 'l> LentLayers<'a, 'l> {
     {
         self.layers[i].values.find_hashed_bytes(path)
     }
+}
+
+/// A path with its hash.
+#[inline(always)]
+pub(crate) fn hashed<'p>(path: KeyPath<'p>) -> HashedName<'p>
+    ensures name { name_text result ≡ key_text path.entry }
+    ensures key { IsTrue (is_key_path (name_text result)) }
+{
+    HashedName::new(path.as_str().as_bytes())
 }
 
 /// Whether one of these layers has locks.

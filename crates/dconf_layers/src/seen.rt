@@ -9,7 +9,7 @@ ghost use Rattle.dconf_path.specs.Paths.{directory_text};
 ghost use Rattle.dconf_layers.specs.Children.{child_name, place_shown};
 
 use crate::children::Child;
-use crate::lent::LentLayers;
+use crate::lent::{LentLayers, hashed};
 use dconf_path::{DirPath, KeyPath};
 use std::alloc::{AllocError, Global};
 
@@ -120,7 +120,7 @@ impl<'a> LentLayers<'a, '_> {
         }
         match KeyPath::parse(path) {
             Ok(path) => {
-                let (_, bytes) = self.place_above(layer, bytes, path)?;
+                let (_, bytes) = self.place_above(layer, bytes, hashed(path))?;
                 Some(bytes)
             }
             Err(_) => None,

@@ -11,7 +11,7 @@ use Rattle.gv_model.specs.Tree.{Tree, type_of}
 use Rattle.gv_model.specs.Quoted.{quoted}
 use Rattle.gv_tree.specs.Wholes.{IsWhole}
 use Rattle.gv_syntax.specs.Printable.{is_printable}
-use Rattle.gv_syntax.proofs.PlainTexts.{chars_alone}
+use Rattle.gv_syntax.proofs.PlainTexts.{quoted_plain}
 use Rattle.gv_infer.specs.PrintedTexts.{IsPrintedFor}
 use Rattle.gv_infer.specs.Reads.{Reads}
 use Rattle.gv_infer.proofs.PrintedReading.{printed_read}
@@ -25,21 +25,6 @@ read_as_printed s v w p =
 pub tree_read : {E : Type 0} (s : List ℕ) (b : Tree) (r : Result Tree E) (o : Option Tree) → IsPrintedFor s b → IfOk r (λ t. t ≡ b) → IfOk r IsWhole → o ≡ result_ok r → IfSome o (λ v. Reads s (Ok v))
 tree_read s b (Ok t) o p made whole is = rw is (read_as_printed s t whole (subst (IsPrintedFor s) (sym made) p))
 tree_read s b (Err e) o p made whole is = rw is tt
-
-none_of : (a b : Bool) → not (a || b) ≡ true → a ≡ false
-none_of true b e = absurd (true≢false (sym e))
-none_of false b e = refl
-
--- the quote of a text without a ' is that
-no_quote : (s : List ℕ) → list_all (is_printable 39) s ≡ true → list_any (λ c. c == 39) s ≡ false
-no_quote [] e = refl
-no_quote (c ∷ s) e =
-    let parts = and_parts (is_printable 39 c) (list_all (is_printable 39) s) e in
-    let other = none_of (c == 39) (c == 92) (and_parts (nat_le 32 c && nat_le c 126) (not (c == 39 || c == 92)) parts.0).1 in
-    rw other (no_quote s parts.1)
-
-quoted_plain : (s : List ℕ) → list_all (is_printable 39) s ≡ true → quoted s ≡ 39 ∷ (s ++ 39 ∷ [])
-quoted_plain s e = rw (no_quote s e) (ap (λ (l : List ℕ). 39 ∷ (l ++ 39 ∷ [])) (chars_alone 39 s e))
 
 -- digits without a leading zero are what is printed for their number
 decimal_read : {E : Type 0} (ds : List ℕ) (r : Result ℕ E) → get_or ds 0 0 ≢ 43 → (get_or ds 0 0 ≡ 48 → length ds ≡ 1) → ParsesUnsigned 32 10 ds r → IfSome (result_ok r) (λ n. decimal n ≡ ds)

@@ -1,12 +1,12 @@
 -- Texts of which each character stands for itself in its quotes.
 use Rattle.std.proofs.Common.{◌≡◌, ◌<◌, ℕ, List, [], ◌∷◌, ◌++◌, Bool, true, false, ◌==◌, ◌&&◌, ◌||◌, nat_le, not, refl, ap, ◌∙◌, arith, chars}
 use Rattle.std.specs.Prelude.{flat_map}
-use Rattle.std.specs.List.{list_all}
+use Rattle.std.specs.List.{list_all, list_any}
 use Rattle.std.specs.Str.{IsAscii}
-use Rattle.std.proofs.lemmas.Bool.{leb-true, and_parts}
+use Rattle.std.proofs.lemmas.Bool.{leb-true, and_parts, or_parts}
 use Rattle.std.proofs.lemmas.Str.{chars-IsAscii, encode_ascii}
 use Rattle.std.proofs.lemmas.Str.Ascii.{IsAscii-nil, IsAscii-cons}
-use Rattle.gv_model.specs.Quoted.{char_text, byte_text}
+use Rattle.gv_model.specs.Quoted.{char_text, byte_text, quoted}
 use Rattle.gv_syntax.specs.Printable.{is_printable}
 
 -- what printable says of a byte
@@ -57,3 +57,14 @@ bytes_alone q bytes e = each_alone (byte_text q) q (byte_alone q) bytes e
 pub chars_alone : (q : ℕ) (text : List ℕ) → list_all (is_printable q) text ≡ true → flat_map (char_text q) (chars text) ≡ text
 chars_alone q text e =
     ap (flat_map (char_text q)) (chars-IsAscii text (alone_is_ascii q text e)) ∙ each_alone (char_text q) q (char_alone q) text e
+
+-- such a text between two ' is as it is
+no_quote : (s : List ℕ) → list_all (is_printable 39) s ≡ true → list_any (λ c. c == 39) s ≡ false
+no_quote [] e = refl
+no_quote (c ∷ s) e =
+    let parts = and_parts (is_printable 39 c) (list_all (is_printable 39) s) e in
+    let other = or_parts (c == 39) (c == 92) (is_alone 39 c parts.0).other in
+    rw other.0 (no_quote s parts.1)
+
+pub quoted_plain : (s : List ℕ) → list_all (is_printable 39) s ≡ true → quoted s ≡ 39 ∷ (s ++ 39 ∷ [])
+quoted_plain s e = rw (no_quote s e) (ap (λ (l : List ℕ). 39 ∷ (l ++ 39 ∷ [])) (chars_alone 39 s e))

@@ -5,30 +5,31 @@ ghost use Rattle.dconf_model.specs.Locks.{covers};
 ghost use Rattle.dconf_model.specs.Table.{item_count, value_kind};
 ghost use Rattle.gvdb_read.specs.Lookups.{HasDirectoryValue, IsCover, IsDirectoryValue, IsFound};
 
+use crate::hashed_name::HashedName;
 use crate::table::Table;
-use gv_types::Steps;
 use gvdb_format::{HASH_OF_NOTHING, Kind, hash_with};
 
 impl Table<'_> {
+    ghost use Rattle.gvdb_read.specs.Lookups.{name_text};
     ghost use Rattle.gvdb_read.specs.Tables.{region};
 
     /// Whether the name of some value covers a path: it is the path, or it ends in `/` and the path starts with it.
     ///
-    /// It searches for the path, and for each prefix of it that ends in `/`. The path is hashed once, and a prefix is
+    /// It searches for the path, and for each prefix of it that ends in `/`. The prefixes are hashed in one walk, and each is
     /// compared with the names that have its hash alone. It is kept out of its callers, most of which have no locks.
     #[inline(never)]
-    pub fn covers(self, path: &str) -> bool
-        ensures { IsTrue result ↔ ((name : List ℕ) × IsTrue (covers name path.now) × IsFound (region self.entry) name value_kind) }
+    pub fn covers(self, path: HashedName<'_>) -> bool
+        ensures { IsTrue result ↔ ((name : List ℕ) × IsTrue (covers name (name_text path.entry)) × IsFound (region self.entry) name value_kind) }
     {
-        let path = path.as_bytes();
+        let bytes = path.bytes;
         let mut hash = HASH_OF_NOTHING;
-        for i in 0..path.len() {
-            hash = hash_with(hash, path[i]);
-            if self.has_directory(hash, path, i) {
+        for i in 0..bytes.len() {
+            hash = hash_with(hash, bytes[i]);
+            if self.has_directory(hash, bytes, i) {
                 return true;
             }
         }
-        self.has_hashed(hash, path)
+        self.has_hashed(path)
     }
 
     /// How long the longest start of a path is, but for the empty one, that is the name of a value and covers the path: all of it,
@@ -57,7 +58,7 @@ impl Table<'_> {
         requires hash_is { hash ≡ hash_of (take (i + 1) path.now) }
         ensures { IsTrue result ↔ IsCover (region self.entry) path.now (i + 1) }
     {
-        (i + 1 == path.len() || path[i] == b'/') && self.has_hashed(hash, &path[..i + 1])
+        (i + 1 == path.len() || path[i] == b'/') && self.has_prefix(hash, path, i)
     }
 
     /// Whether some value's name ends in `/`, as far as its item's own key tells. Where none does, a path is covered by
@@ -94,19 +95,17 @@ impl Table<'_> {
         requires hash_is { hash ≡ hash_of (take (i + 1) path.now) }
         ensures { IsTrue result ↔ ((slice_index path.now i ≡ 47) × IsFound (region self.entry) (take (i + 1) path.now) value_kind) }
     {
-        path[i] == b'/' && self.has_hashed(hash, &path[..i + 1])
+        path[i] == b'/' && self.has_prefix(hash, path, i)
     }
 
-    /// Whether a name of this hash has a value.
+    /// Whether the prefix up to a place, which has this hash, has a value.
     #[inline(always)]
-    fn has_hashed(self, hash: u32, name: &[u8]) -> bool
-        requires { hash ≡ hash_of name.now }
-        ensures { IsTrue result ↔ IsFound (region self.entry) name.now value_kind }
+    fn has_prefix(self, hash: u32, path: &[u8], i: usize) -> bool
+        requires within { i < length path.now }
+        requires hash_is { hash ≡ hash_of (take (i + 1) path.now) }
+        ensures { IsTrue result ↔ IsFound (region self.entry) (take (i + 1) path.now) value_kind }
     {
-        let mut steps = Steps::new();
-        match self.find_hashed(hash, name, Kind::Value, &mut steps) {
-            Some(i) => self.raw.pointed_at(i, Kind::Value).is_some(),
-            None => false,
-        }
+        let bytes = &path[..i + 1];
+        self.has_hashed(HashedName { bytes, hash })
     }
 }

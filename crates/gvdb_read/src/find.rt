@@ -67,11 +67,18 @@ impl<'a> Table<'a> {
     }
 
     /// Whether this name has a value: true exactly where `find` is Some.
-    #[inline(never)]
     pub fn has(self, name: &str) -> bool
         ensures { IsTrue result ↔ IsFound (region self.entry) name.now value_kind }
     {
-        self.find_bytes(name).is_some()
+        self.has_hashed(HashedName::new(name.as_bytes()))
+    }
+
+    /// As `has`, of a name that is hashed already.
+    #[inline(always)]
+    pub fn has_hashed(self, name: HashedName<'_>) -> bool
+        ensures { IsTrue result ↔ IsFound (region self.entry) (name_text name.entry) value_kind }
+    {
+        self.find_hashed_bytes(name).is_some()
     }
 
     /// The keys of the items that the list of this name names. None where the search finds no list.

@@ -14,9 +14,22 @@ use std::alloc::AllocError;
 pub(crate) fn push_quoted(to: &mut String, text: &str) -> Result<(), AllocError>
     ensures { OnOk result (string_bytes to.new ≡ string_bytes to.old ++ quoted text.now) }
 {
+    // Most texts have no quote and nothing to escape, which one look tells.
+    if is_plain(text.as_bytes(), '\'') {
+        to.push('\'')?;
+        to.push_str(text)?;
+        to.push('\'')?;
+        return Ok(());
+    }
+    push_escaped(to, text)
+}
+
+/// Writes a text in quotes by its characters, or at once where each stands for itself.
+fn push_escaped(to: &mut String, text: &str) -> Result<(), AllocError>
+    ensures { OnOk result (string_bytes to.new ≡ string_bytes to.old ++ quoted text.now) }
+{
     let quote = quote_for(text.as_bytes());
     to.push(quote)?;
-    // All at once where each character stands for itself.
     if is_plain(text.as_bytes(), quote) {
         to.push_str(text)?;
     } else {

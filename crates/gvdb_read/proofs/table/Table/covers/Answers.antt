@@ -1,34 +1,25 @@
-use Rattle.std.proofs.Common.{ℕ, List, ap, sym, arith, subst, take, ◌+◌, ◌∙◌, ◌≡◌, ◌↔◌, true, refl}
-use Rattle.std.specs.Prelude.{IsTrue}
-use Rattle.std.proofs.lemmas.List.{take_all}
-use Rattle.dconf_model.specs.Bytes.{hash_of}
-use Rattle.dconf_model.specs.Locks.{covers}
+use Rattle.std.proofs.Common.{ℕ, List, arith, take, ◌+◌, ◌∙◌, sym, refl}
 use Rattle.dconf_model.specs.Table.{value_kind}
 use Rattle.dconf_model.proofs.PathMaps.{no_truth}
-use Rattle.gvdb_read.specs.Lookups.{IsFound}
+use Rattle.gvdb_read.specs.Lookups.{IsFound, name_text}
 use Rattle.gvdb_read.specs.Tables.{region}
-use Rattle.gvdb_read.proofs.CoveredPaths.{hash_goes_on, none_up_to, prefix_covers, whole_covers, HasCovering}
+use Rattle.gvdb_read.proofs.CoveredPaths.{hash_goes_on, none_up_to, prefix_covers, whole_covers}
 use Rattle.gvdb_read.proofs.table.Table.covers.Goals as goal
 
 pub has_directory-requires-clause-hash_is : goal.has_directory-requires-clause-hash_is
 has_directory-requires-clause-hash_is c =
-    hash_goes_on c.as_bytes-path.result.now c.loop-i.i c.loop-i.hash c.hash_with-hash.result (omega arith) c.loop-i.invariant.hash c.hash_with-hash.ensures
-
-pub has_hashed-requires : goal.has_hashed-requires
-has_hashed-requires c =
-    c.loop-i.invariant.hash ∙ ap hash_of (take_all c.loop-i.i c.as_bytes-path.result.now (omega arith))
+    hash_goes_on (name_text c.args.path) c.loop-i.i c.loop-i.hash c.hash_with-hash.result (omega arith) c.loop-i.invariant.hash c.hash_with-hash.ensures
 
 pub returns-then-has_directory : goal.returns-then-has_directory
 returns-then-has_directory c =
-    let path = c.as_bytes-path.result.now in
+    let path = name_text c.args.path in
     let i = c.loop-i.i in
     let found = c.has_directory.ensures.0 c.if-has_directory.true in
-    let covering = prefix_covers path i (omega arith) found.0 in
-    (λ t. (take (i + 1) path, subst (λ (p : List ℕ). covers (take (i + 1) path) p ≡ true) c.as_bytes-path.ensures.value covering, found.1), λ h. refl)
+    (λ t. (take (i + 1) path, prefix_covers path i (omega arith) found.0, found.1), λ h. refl)
 
 pub loop-i-preserved : goal.loop-i-preserved
 loop-i-preserved c =
-    let path = c.as_bytes-path.result.now in
+    let path = name_text c.args.path in
     let i = c.loop-i.i in
     record {
       hash = hash_goes_on path i c.loop-i.hash c.hash_with-hash.result (omega arith) c.loop-i.invariant.hash c.hash_with-hash.ensures;
@@ -38,6 +29,4 @@ loop-i-preserved c =
 
 pub returns : goal.returns
 returns c =
-    let found = λ (name : List ℕ). IsFound (region c.args.self) name value_kind in
-    subst (λ (p : List ℕ). IsTrue c.has_hashed.result ↔ HasCovering found p) c.as_bytes-path.ensures.value
-    (whole_covers found c.as_bytes-path.result.now c.loop-i.i c.has_hashed.result (omega arith) c.loop-i.invariant.none c.has_hashed.ensures)
+    whole_covers (λ (name : List ℕ). IsFound (region c.args.self) name value_kind) (name_text c.args.path) c.loop-i.i c.has_hashed.result (omega arith) c.loop-i.invariant.none c.has_hashed.ensures

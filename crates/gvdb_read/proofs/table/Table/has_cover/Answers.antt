@@ -15,6 +15,6 @@ returns-then-path-i-eq47 c =
       | else-i-path w ↦ prefix_covers path i c.requires.within (eqb-true (slice_index path i) 47 (sym w.value-is ∙ c.if-path-i-eq47.true))
     ] in
     let within = c.requires.within in (
-      λ t. record { some = omega arith; within = omega (arith, within); covering = covering; found = c.has_hashed.ensures.0 t },
-      λ k. c.has_hashed.ensures.1 k.found,
+      λ t. record { some = omega arith; within = omega (arith, within); covering = covering; found = c.has_prefix.ensures.0 t },
+      λ k. c.has_prefix.ensures.1 k.found,
     )

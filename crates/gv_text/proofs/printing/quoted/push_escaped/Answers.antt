@@ -5,8 +5,8 @@ use Rattle.gv_model.specs.Quoted.{char_text, quote_for, between}
 use Rattle.gv_syntax.specs.Printable.{is_printable}
 use Rattle.gv_syntax.proofs.PlainTexts.{chars_alone}
 use Rattle.gv_text.proofs.Quotes.{quote_low, between_whole}
-use Rattle.gv_text.proofs.printing.quoted.push_quoted.Goals as goal
-use Rattle.gv_text.proofs.printing.quoted.push_quoted.Goals.{then-is_plain+in_ok-push_str, else-is_plain+in_ok-push_each_char}
+use Rattle.gv_text.proofs.printing.quoted.push_escaped.Goals as goal
+use Rattle.gv_text.proofs.printing.quoted.push_escaped.Goals.{then-is_plain+in_ok-push_str, else-is_plain+in_ok-push_each_char}
 
 pub returns : goal.returns
 returns c =

@@ -1,8 +1,0 @@
-use Rattle.dconf_model.specs.Layers.{level}
-use Rattle.dconf_path.specs.Paths.{key_text}
-use Rattle.dconf_layers.proofs.Levels.{told_level}
-use Rattle.dconf_layers.specs.LayerSettings.{seen_in}
-use Rattle.dconf_layers.proofs.lent.LentLayers.level.Goals as goal
-
-pub returns : goal.returns
-returns c = told_level c.level_above.result (level (seen_in c.args.self) (key_text c.args.path)) c.level_above.ensures.above c.level_above.ensures.none

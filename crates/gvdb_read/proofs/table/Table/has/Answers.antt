@@ -1,5 +1,0 @@
-use Rattle.std.proofs.Common.{rules}
-use Rattle.gvdb_read.proofs.table.Table.has.Goals as goal
-
-pub returns : goal.returns
-returns c = search rules
