@@ -18,7 +18,7 @@ use Rattle.gv_model.proofs.Prefixes.{basic_parts}
 use Rattle.gv_model.proofs.ListLaws.{same_head, same_tail, nil_no_cons}
 use Rattle.gv_view.specs.declared.view.View.{View}
 use Rattle.gv_view.specs.Views.{shown, value, view_ty, view_bytes}
-use Rattle.gv_view.specs.Dictionaries.{IsDictionary, IsTextEntry, IsValueUnder, IsFirstPart}
+use Rattle.gv_view.specs.Dictionaries.{IsDictionary, IsValueUnder, IsFirstPart}
 use Rattle.gv_view.proofs.Lists.{All-rest}
 use Rattle.gv_view.proofs.TreeParts.{array_value, array_parts, entry_value, entry_parts}
 
@@ -69,21 +69,21 @@ none_elsewhere d b key h = subst (λ v. IsLookedUp v key None) (sym (decode_chil
 
 -- ---- an entry
 
--- the members of an entry with a text for its key
-pub record IsEntryOf (d : Ty) (b : List ℕ) : Type 0 where
+-- the members of an entry whose keys are of this type
+pub record IsEntryOf (q : Basic) (d : Ty) (b : List ℕ) : Type 0 where
   pub type : Ty
-  pub is : d ≡ entry string type
+  pub is : d ≡ entry q type
   pub key : List ℕ
   pub value : List ℕ
-  pub members : parts d b ≡ (basic string, key) ∷ (type, value) ∷ []
-  pub key_at : tree_at (children (decode d b)) 0 ≡ Some (decode (basic string) key)
+  pub members : parts d b ≡ (basic q, key) ∷ (type, value) ∷ []
+  pub key_at : tree_at (children (decode d b)) 0 ≡ Some (decode (basic q) key)
   pub value_at : tree_at (children (decode d b)) 1 ≡ Some (decode type value)
 
-text_entry : (t : Ty) (b : List ℕ) → IsEntryOf (entry string t) b
+own_entry : (q : Basic) (t : Ty) (b : List ℕ) → IsEntryOf q (entry q t) b
 unfolding tree_at
-text_entry t b =
-    let pair = entry_parts string t b in
-    let tree = entry_value string t b in
+own_entry q t b =
+    let pair = entry_parts q t b in
+    let tree = entry_value q t b in
     record {
       type = t;
       is = refl;
@@ -94,24 +94,24 @@ text_entry t b =
       value_at = ap (λ v. tree_at (children v) 1) tree ∙ ap (λ ps. tree_at (part_trees ps) 1) pair.are;
     }
 
-pub entry_of : (d : Ty) (b : List ℕ) → IsTextEntry d → IsEntryOf d b
-entry_of d b h = subst (λ e. IsEntryOf e b) (sym h.1) (text_entry h.0 b)
+entry_of : (q : Basic) (d : Ty) (b : List ℕ) → ((t : Ty) × (d ≡ entry q t)) → IsEntryOf q d b
+entry_of q d b h = subst (λ e. IsEntryOf q e b) (sym h.1) (own_entry q h.0 b)
 
 -- an entry has a first member
-pub has_first : (d : Ty) (b : List ℕ) (ps : List Part) → IsTextEntry d → ps ≡ parts d b → ps ≡ [] → ⊥
-has_first d b ps h e is = let m = entry_of d b h in nil_no_cons (sym is ∙ (e ∙ m.members))
+pub has_first : (q : Basic) (d : Ty) (b : List ℕ) (ps : List Part) → ((t : Ty) × (d ≡ entry q t)) → ps ≡ parts d b → ps ≡ [] → ⊥
+has_first q d b ps h e is = let m = entry_of q d b h in nil_no_cons (sym is ∙ (e ∙ m.members))
 
 -- the view of an entry's first member, and what is left after it
-pub record IsKeyOf (d : Ty) (b : List ℕ) (v : View) (rest : List Part) : Type 0 where
-  pub entry_is : IsEntryOf d b
-  pub type : view_ty v ≡ basic string
+pub record IsKeyOf (q : Basic) (d : Ty) (b : List ℕ) (v : View) (rest : List Part) : Type 0 where
+  pub entry_is : IsEntryOf q d b
+  pub type : view_ty v ≡ basic q
   pub at : tree_at (children (decode d b)) 0 ≡ Some (value v)
   pub left : rest ≡ (entry_is.type, entry_is.value) ∷ []
 
-pub key_first : (d : Ty) (b : List ℕ) (ps rest : List Part) (v : View) → IsTextEntry d → ps ≡ parts d b → ps ≡ shown v ∷ rest → IsKeyOf d b v rest
-key_first d b ps rest v h e is =
-    let m = entry_of d b h in
-    let all : shown v ∷ rest ≡ (basic string, m.key) ∷ (m.type, m.value) ∷ [] = sym is ∙ (e ∙ m.members) in
+pub key_first : (q : Basic) (d : Ty) (b : List ℕ) (ps rest : List Part) (v : View) → ((t : Ty) × (d ≡ entry q t)) → ps ≡ parts d b → ps ≡ shown v ∷ rest → IsKeyOf q d b v rest
+key_first q d b ps rest v h e is =
+    let m = entry_of q d b h in
+    let all : shown v ∷ rest ≡ (basic q, m.key) ∷ (m.type, m.value) ∷ [] = sym is ∙ (e ∙ m.members) in
     let same = same_head all in
     record {
       entry_is = m;
@@ -124,18 +124,17 @@ same_text : (k l : Basic) (s r : List ℕ) → Some (text k s) ≡ Some (text l 
 same_text k l s r e = cc
 
 -- the key is the text of the first member's view
-pub has_key : (d : Ty) (b : List ℕ) (v : View) (rest : List Part) (s key : List ℕ) → IsKeyOf d b v rest
-    → ((k : Basic) × (view_ty v ≡ basic k) × (value v ≡ text k s)) → s ≡ key → HasKey (decode d b) key
-has_key d b v rest s key m h e =
-    let k = basic_parts _ _ (sym h.1 ∙ m.type) in
-    m.at ∙ (ap Some h.2 ∙ ap₂ (λ l r. Some (text l r)) k e)
+module _ (q : Basic) (d : Ty) (b : List ℕ) (v : View) (rest : List Part) (s key : List ℕ) (m : IsKeyOf q d b v rest) (h : (k : Basic) × (view_ty v ≡ basic k) × (value v ≡ text k s)) where
+  pub has_key : s ≡ key → tree_at (children (decode d b)) 0 ≡ Some (text q key)
+  has_key e =
+      let k = basic_parts _ _ (sym h.1 ∙ m.type) in
+      m.at ∙ (ap Some h.2 ∙ ap₂ (λ l r. Some (text l r)) k e)
 
-pub key_is : (d : Ty) (b : List ℕ) (v : View) (rest : List Part) (s key : List ℕ) → IsKeyOf d b v rest
-    → ((k : Basic) × (view_ty v ≡ basic k) × (value v ≡ text k s)) → HasKey (decode d b) key → s ≡ key
-key_is d b v rest s key m h has = same_text _ _ s key (ap Some (sym h.2) ∙ (sym m.at ∙ has))
+  pub key_is : tree_at (children (decode d b)) 0 ≡ Some (text q key) → s ≡ key
+  key_is has = same_text _ _ s key (ap Some (sym h.2) ∙ (sym m.at ∙ has))
 
 -- the second member is the value
-pub found_value : (e v : View) (rest : List Part) (key : List ℕ) (o : Option View) (after : List Part) → IsKeyOf (view_ty e) (view_bytes e) v rest → HasKey (value e) key
+pub found_value : (e v : View) (rest : List Part) (key : List ℕ) (o : Option View) (after : List Part) → IsKeyOf string (view_ty e) (view_bytes e) v rest → HasKey (value e) key
     → MatchOption o ((rest ≡ []) × (after ≡ [])) (λ u. rest ≡ shown u ∷ after) → MatchOption o (¬ HasKey (value e) key) (IsValueUnder e key)
 found_value e v rest key None after m has h = absurd (nil_no_cons (sym h.0 ∙ m.left))
 found_value e v rest key (Some u) after m has h =
