@@ -8,7 +8,7 @@ use dconf_folders::{
     read_opened,
 };
 use std::alloc::Global;
-use std::fs::OpenOptions;
+use std::fs::{OpenFile, OpenOptions};
 use std::io::{ErrorKind, Write};
 use std::rt::Files;
 use std::{fmt, fs, io};

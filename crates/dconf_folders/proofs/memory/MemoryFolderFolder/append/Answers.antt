@@ -1,6 +1,6 @@
 use Rattle.std.proofs.Common.{inl}
 use Rattle.std.proofs.lemmas.Result.{on_err_weaker}
-use Rattle.dconf_model.specs.Folders.Event.{append, touch}
+use Rattle.dconf_model.specs.Folders.Event.{append}
 use Rattle.dconf_folders.specs.MemoryFolders.{events_of, AddsTouches}
 use Rattle.dconf_folders.proofs.Untouched.{noted, same_calls, touched}
 use Rattle.dconf_folders.proofs.memory.MemoryFolderFolder.append.Goals as goal

@@ -1,6 +1,6 @@
 use Rattle.std.proofs.Common.{◌≡◌, IfSome, rules}
 use Rattle.std.proofs.lemmas.Result.{on_err_weaker}
-use Rattle.dconf_model.specs.Folders.Event.{sync, touch}
+use Rattle.dconf_model.specs.Folders.Event.{sync}
 use Rattle.dconf_folders.specs.MemoryFolders.{event_of, events_of, AddsTouches}
 use Rattle.dconf_folders.proofs.Untouched.{noted, same_calls, touched}
 use Rattle.dconf_folders.proofs.memory.MemoryFolderFolder.sync.Goals as goal
