@@ -97,7 +97,7 @@ impl<'a> Patch<'a> {
         };
         let start = item.key_start as usize;
         let end = start + usize::from(item.key_size);
-        end <= self.table.file().len() && is_outside(self.span, start, end)
+        is_in_file_outside(self.span, self.table.file().len(), start, end)
     }
 
     /// Whether the record of item `i` is the same, and what it points to.
@@ -177,4 +177,16 @@ fn is_outside(span: DifferingSpan, start: usize, end: usize) -> bool
     ensures { IsTrue result → LiesOutside span.first span.last start end }
 {
     end <= span.first || start > span.last
+}
+
+/// Whether bytes lie in a file of so many, outside of a span. Most come before it, which is asked first.
+#[inline(always)]
+fn is_in_file_outside(span: DifferingSpan, len: usize, start: usize, end: usize) -> bool
+    ensures within { IsTrue result → end ≤ len }
+    ensures outside { IsTrue result → LiesOutside span.first span.last start end }
+{
+    if end <= span.first.min(len) {
+        return true;
+    }
+    end <= len && is_outside(span, start, end)
 }
