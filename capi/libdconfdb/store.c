@@ -388,6 +388,10 @@ bool have_same_others(const DconfdbSnapshot *one, const DconfdbSnapshot *other)
 static uint32_t lists_differences(const DconfdbSnapshot *snapshot, const void *of, uint8_t *room, size_t room_len, size_t *len)
 {
     const DconfdbSnapshot *other = of;
+    if (snapshot == other) {
+        *len = 0;
+        return DCONFDB_OK;
+    }
     if (have_same_others(snapshot, other))
         return dconfdb_differs_first(snapshot->layers, snapshot->count, &other->layers[0], room, room_len, len);
     return dconfdb_differs(snapshot->layers, snapshot->count, other->layers, other->count, SIZE_MAX, room, room_len, len);
