@@ -1,2 +1,3 @@
 pub mod StdFolders
 pub mod Driving
+pub mod LockFaults

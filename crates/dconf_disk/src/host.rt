@@ -3,10 +3,10 @@ ghost use Rattle.std.specs.Prelude.{◌≡◌, ◌<◌, ◌≤◌, None, IfSome,
 ghost use Rattle.dconf_folders.specs.Failures.{HasCause};
 ghost use Rattle.dconf_folders.specs.SystemCalls.{given_mode, made, removed, renamed, synced, with_its_folder};
 
-use dconf_folders::{
-    Folder, FolderFault, FolderLock, LARGEST_FILE, Record, folder_of, keep_mode, open_new,
-    read_opened,
-};
+use crate::lock::FolderLock;
+use crate::modes::{keep_mode, open_new};
+use crate::reading::read_opened;
+use dconf_folders::{Folder, FolderFault, LARGEST_FILE, Record, folder_of};
 use std::alloc::Global;
 use std::fs::{OpenFile, OpenOptions};
 use std::io::{ErrorKind, Write};

@@ -2,7 +2,8 @@
 //!
 //! [`StdFolder`] is the current folder of the host; all other folders are dconf_folders', whose names are here, too. [`replace`] works
 //! in any: it writes the new file whole, under a name of its own, before that takes the name of the old one. That name is the same for
-//! all, so several programs take turns: a [`FolderLock`] is one program's turn. No call on the host copies a file's bytes.
+//! all, so several programs take turns: a [`FolderLock`] is one program's turn, for which [`FolderLock::take`] waits ten seconds at
+//! most. No call on the host copies a file's bytes.
 //!
 //! Files are replaced by who holds the turn to. A `StdFolder` that can be written is had by [`StdFolder::in_turn`] alone, which takes
 //! the lock and holds it; any other answers `Device` to each writing call, and does nothing.
@@ -21,10 +22,12 @@
 #![tactic(auto)]
 
 mod host;
+mod lock;
+mod modes;
+mod reading;
 mod replacement;
 
-pub use dconf_folders::{
-    Folder, FolderFault, FolderLock, LARGEST_FILE, LockFault, MemoryFolder, Record, folder_of,
-};
+pub use dconf_folders::{Folder, FolderFault, LARGEST_FILE, MemoryFolder, Record, folder_of};
 pub use host::StdFolder;
+pub use lock::{FolderLock, LockFault};
 pub use replacement::replace;

@@ -4,4 +4,3 @@ pub mod MemoryFolders
 pub mod Crashes
 pub mod Notes
 pub mod SystemCalls
-pub mod LockFaults

@@ -1,12 +1,11 @@
-//! Folders of files, one of them in memory, and what that of the host is made of.
+//! Folders of files, and one of them in memory.
 //!
 //! A [`Folder`] is known by what was done to it: its contracts speak of the list of those events, and the definitions of what a
 //! name stands for, and of what a crash may leave, are dconf_model's. [`MemoryFolder`] is that list, with a device that fails
-//! when it is told to, and crashes. The host's folder is dconf_disk's. Of that, here are the [`Record`] of its calls, how a file is
-//! opened and read, and a [`FolderLock`], one program's turn to replace files in a folder of the host.
+//! when it is told to, and crashes. The host's folder is dconf_disk's; of that, the [`Record`] of its calls is
+//! here.
 //!
-//! No call stops the program or runs without end; [`FolderLock::take`] waits for its turn, for ten seconds at most. A fault is
-//! a [`FolderFault`]: of the device, which the folder counts, of a file of more than [`LARGEST_FILE`] bytes, or of memory.
+//! No call stops the program or runs without end. A fault is a [`FolderFault`]: of the device, which the folder counts, of a file of more than [`LARGEST_FILE`] bytes, or of memory.
 //!
 //! A read holds a file's bytes once. A `MemoryFolder` is for tests: it keeps each byte that was ever appended, and its calls go back
 //! through those before them.
@@ -16,18 +15,12 @@ mod calls;
 mod crash;
 mod fault;
 mod folder;
-mod lock;
 mod memory;
-mod modes;
 mod parent;
-mod reading;
 mod record;
 
 pub use fault::FolderFault;
 pub use folder::{Folder, LARGEST_FILE};
-pub use lock::{FolderLock, LockFault};
 pub use memory::MemoryFolder;
-pub use modes::{keep_mode, open_new};
 pub use parent::folder_of;
-pub use reading::read_opened;
 pub use record::Record;

@@ -59,7 +59,7 @@ pub enum LockFault {
 }
 
 impl fmt::Display for LockFault {
-    ghost use Rattle.dconf_folders.specs.LockFaults.{lock_fault_text};
+    ghost use Rattle.dconf_disk.specs.LockFaults.{lock_fault_text};
 
     ghost output = { λ fault. Some (lock_fault_text fault) };
 

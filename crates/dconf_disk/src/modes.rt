@@ -2,7 +2,7 @@
 ghost use Rattle.std.specs.Prelude.{◌≡◌, ◌∷◌};
 ghost use Rattle.dconf_folders.specs.SystemCalls.{given_mode};
 
-use crate::record::Record;
+use dconf_folders::Record;
 use std::fs::{OpenFile, OpenOptions, Permissions};
 use std::io::ErrorKind;
 use std::os::unix::fs::{OpenOptionsExt, PermissionsExt};
@@ -21,7 +21,7 @@ const DONE: u64 = 1;
 const READ_AND_WRITE: u32 = 0o600;
 
 /// A new and empty file. One that is to take another's place is open to nobody but its owner and whom that one is open to.
-pub fn open_new<R: Files>(rt: &R, name: &str) -> io::Result<R::File> {
+pub(crate) fn open_new<R: Files>(rt: &R, name: &str) -> io::Result<R::File> {
     let mut options = OpenOptions::new();
     options.write(true).create_new(true);
     if let Some(bits) = mode_of_replaced(rt, name)? {
@@ -31,7 +31,12 @@ pub fn open_new<R: Files>(rt: &R, name: &str) -> io::Result<R::File> {
 }
 
 /// Gives an open file of this name the permission bits of the one whose place it is to take, if there is one.
-pub fn keep_mode<R: Files>(rt: &R, calls: &mut Record, file: &R::File, name: &str) -> io::Result<()>
+pub(crate) fn keep_mode<R: Files>(
+    rt: &R,
+    calls: &mut Record,
+    file: &R::File,
+    name: &str,
+) -> io::Result<()>
     ensures { calls.new.notes ≡ given_mode name.now ∷ calls.old.notes }
 {
     calls.note(&[SET_MODE, DONE], name.as_bytes(), &[]);

@@ -1,5 +1,5 @@
 use Rattle.std.proofs.Common.{rules}
-use Rattle.dconf_folders.proofs.reading.read_opened.Goals as goal
+use Rattle.dconf_disk.proofs.reading.read_opened.Goals as goal
 
 pub returns-in-Err-clause-missing : goal.returns-in-Err-clause-missing
 returns-in-Err-clause-missing g c = search rules

@@ -3,7 +3,7 @@ ghost use Rattle.std.specs.Prelude.{◌≡◌, ◌≢◌, ◌<◌, ◌≤◌, �
 ghost use Rattle.std.specs.Io.KnownBytes.{Consumes};
 ghost use Rattle.std.specs.IoError.{error_kind};
 
-use crate::{FolderFault, LARGEST_FILE};
+use dconf_folders::{FolderFault, LARGEST_FILE};
 use std::alloc::{AllocError, Global};
 use std::fs::OpenFile;
 use std::io::{self, ErrorKind, Read};
@@ -12,7 +12,7 @@ use std::io::{self, ErrorKind, Read};
 const PIECE: &[u8] = &[0; 2000];
 
 /// What was opened, read. Only a name that is not there is no file; any other failure is one.
-pub fn read_opened<F: OpenFile + Read + Drop>(
+pub(crate) fn read_opened<F: OpenFile + Read + Drop>(
     alloc: Global,
     opened: io::Result<F>,
 ) -> Result<Option<Vec<u8>>, FolderFault>
