@@ -1,7 +1,7 @@
 //! Faults whose names no run of a command prints.
 use dconf_cli::{FailedRead, InputFault};
 use dconf_compile::{CompileCause, LineStop};
-use dconf_folders::LockFault;
+use dconf_disk::LockFault;
 use std::alloc::Global;
 use std::io::{Error, ErrorKind};
 use std::test::Fail;
