@@ -80,33 +80,28 @@ impl<'a, 'l> LentLayers<'a, 'l> {
     /// As `place`, of bytes; None also where they are no path of a key.
     ///
     /// The bytes are looked up as they are, and looked at once more only where something is found: most keys that programs ask
-    /// for have no value. Locks are asked of the layers after the first that has the path.
+    /// for have no value. Locks are asked of the layers after the first that has the path, if any has some.
     #[inline(always)]
     pub fn place_of_bytes(self, path: &[u8]) -> Option<(usize, &'a [u8])>
-        ensures key { IsSome result → IsKeyText path.entry.now }
-        ensures place { IsKeyText path.entry.now → option_map {U = ℕ × List ℕ} (λ p. (p.0, p.1.now)) result ≡ place_of (seen_in self.entry) path.entry.now }
-    {
-        if self.have_locks() {
-            return self.place_beside_locks(path);
-        }
-        let place = self.place_named(0, HashedName::new(path))?;
-        KeyPath::of_bytes(path)?;
-        Some(place)
-    }
-
-    /// As `place_of_bytes`, also where layers have locks. In line it would cost registers where none has.
-    #[inline(never)]
-    fn place_beside_locks(self, path: &[u8]) -> Option<(usize, &'a [u8])>
         ensures key { IsSome result → IsKeyText path.entry.now }
         ensures place { IsKeyText path.entry.now → option_map {U = ℕ × List ℕ} (λ p. (p.0, p.1.now)) result ≡ place_of (seen_in self.entry) path.entry.now }
     {
         let name = HashedName::new(path);
         let (first, bytes) = self.place_named(0, name)?;
         KeyPath::of_bytes(path)?;
+        if !self.have_locks() {
+            return Some((first, bytes));
+        }
+        // No layer comes after the last one.
+        if first.saturating_add(1) >= self.layers.len() {
+            return Some((first, bytes));
+        }
         self.place_above(first, bytes, name)
     }
 
     /// Where the value that is seen at a path is, of which this is the first place. Locks are asked of the layers after that alone.
+    /// In line it would cost registers where none has locks.
+    #[inline(never)]
     pub(crate) fn place_above(
         self,
         first: usize,

@@ -37,6 +37,13 @@ all_kept (value ∷ more) values k l =
     let rest = all_kept more (with_new values value) k first.within in
     record { within = rest.within; same = rest.same ∙ first.same }
 
+pub new_count : (values : List (List ℕ)) (value : List ℕ) → length (with_new values value) ≤ length values + 1
+new_count values value = counted (list_any (bytes_eq value) values)
+  where
+    counted : (b : Bool) → length (cond b values (values ++ value ∷ [])) ≤ length values + 1
+    counted true = omega arith
+    counted false = let n = length-append values (value ∷ []) in omega (arith, n)
+
 -- a value that is added again changes nothing
 added_twice : (values : List (List ℕ)) (value : List ℕ) (b : Bool) → list_any (bytes_eq value) values ≡ b → with_new (with_new values value) value ≡ with_new values value
 added_twice values value true e =

@@ -1,5 +1,5 @@
 -- What the writing functions append to a file.
-use Rattle.std.specs.Prelude.{ℕ, ◌+◌, ◌-◌, ◌*◌, ◌/◌, ◌≤◌, ◌<◌, ◌≡◌, ◌⊎◌, List, ◌++◌, length, map, drop, slice_index, slice_index_or}
+use Rattle.std.specs.Prelude.{ℕ, ◌+◌, ◌*◌, ◌/◌, ◌≤◌, ◌<◌, ◌≡◌, ◌⊎◌, List, ◌++◌, length, map, drop, slice_index, slice_index_or}
 use Rattle.std.specs.List.{flat_map}
 use Rattle.gv_model.specs.Limits.{limit}
 use Rattle.dconf_model.specs.TableBytes.{ItemRecord, records_bytes, table_bytes}

@@ -22,15 +22,18 @@ pub(crate) fn repair<F: Folder>(
         (λ reads. IsOutcome (repair_of name.now out.now) reads input) result }
 {
     let bytes = file(alloc, folder, name)?;
-    repaired(alloc, &bytes, out)
+    repaired(alloc, bytes, out)
 }
 
-/// What `repair` answers for the bytes of the file.
-fn repaired(alloc: Global, bytes: &[u8], out: &str) -> Result<Answer, Refusal>
-    ensures { GivesOutcome result (Repairs out.now bytes.now) }
+/// What `repair` answers for the bytes of the file, which are let go once what can be saved is copied.
+fn repaired(alloc: Global, bytes: Vec<u8>, out: &str) -> Result<Answer, Refusal>
+    ensures { GivesOutcome result (Repairs out.now (vec_items bytes)) }
 {
-    match salvage(alloc, bytes) {
-        Ok(map) => rewritten(alloc, &map, out),
+    match salvage(alloc, &bytes) {
+        Ok(map) => {
+            drop(bytes);
+            rewritten(alloc, &map, out)
+        }
         Err(SalvageFault::Fault(fault)) => Err(refused(alloc, fault)),
         Err(SalvageFault::Memory) => Err(Refusal::Memory),
     }

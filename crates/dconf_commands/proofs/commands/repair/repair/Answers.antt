@@ -1,7 +1,6 @@
-use Rattle.std.proofs.Common.{Err, subst}
+use Rattle.std.proofs.Common.{Err}
 use Rattle.std.proofs.lemmas.Result.{err_from_is_err_and}
 use Rattle.dconf_model.specs.Outcomes.{Repairs}
-use Rattle.dconf_streams.specs.Answers.{GivesOutcome}
 use Rattle.dconf_streams.proofs.Decisions.{decides_by_file, decides_without_file}
 use Rattle.dconf_commands.proofs.commands.repair.repair.Goals as goal
 
@@ -12,5 +11,4 @@ returns-in_err-bytes g c = λ input.
 
 pub returns : goal.returns
 returns g c = λ input.
-    decides_by_file g.F.Folder c.args.folder.now c.file.new.folder 0 c.args.name.now c.in_ok-bytes.bytes.items c.repaired.result (Repairs c.args.out.now) c.in_ok-bytes.ensures.ok
-    (subst (λ b. GivesOutcome c.repaired.result (Repairs c.args.out.now b)) c.deref.ensures.value c.repaired.ensures)
+    decides_by_file g.F.Folder c.args.folder.now c.file.new.folder 0 c.args.name.now c.in_ok-bytes.bytes.items c.repaired.result (Repairs c.args.out.now) c.in_ok-bytes.ensures.ok c.repaired.ensures
