@@ -322,7 +322,7 @@ bool dconfdb_snapshot_fault(const DconfdbSnapshot *snapshot, size_t database, Dc
 
 static const DconfdbBytes no_bytes = DCONFDB_NOTHING;
 
-/* What a call fills holds valid values before. Copied, these take two instructions less than set. */
+/* What a call fills holds valid values before. Two copies take fewer instructions than a store for each field. */
 static void found_nothing(DconfdbFound *found)
 {
     found->origin = 0;
