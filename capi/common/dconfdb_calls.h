@@ -52,11 +52,11 @@ typedef struct {
     bool has_item;
 } DconfdbUnsound;
 
-/* A value: the index of its layer, its bytes and the text of its type. Both are lent from that
- * layer's file, or are the library's own. */
+/* A value: its bytes and the text of its type, which are lent from the file of its layer or are the
+ * library's own, and the index of that layer. */
 typedef struct {
-    size_t origin;
     DconfdbBytes value, type_text;
+    size_t origin;
 } DconfdbFound;
 
 /* A value in a value: its bytes and the text of its type, lent from there or the library's own. */

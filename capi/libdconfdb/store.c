@@ -320,51 +320,41 @@ bool dconfdb_snapshot_fault(const DconfdbSnapshot *snapshot, size_t database, Dc
     return true;
 }
 
-static const DconfdbBytes no_bytes = DCONFDB_NOTHING;
+_Static_assert(offsetof(DconfdbValue, data) == offsetof(DconfdbFound, value.at)
+                   && offsetof(DconfdbValue, size) == offsetof(DconfdbFound, value.len)
+                   && offsetof(DconfdbValue, type) == offsetof(DconfdbFound, type_text.at)
+                   && offsetof(DconfdbValue, type_size) == offsetof(DconfdbFound, type_text.len)
+                   && offsetof(DconfdbValue, origin) == offsetof(DconfdbFound, origin)
+                   && sizeof(DconfdbValue) == sizeof(DconfdbFound),
+               "a value is what the proved calls find, so that they fill it in place");
 
-/* What a call fills holds valid values before. Two copies take fewer instructions than a store for each field. */
-static void found_nothing(DconfdbFound *found)
+/* Where a call puts what it finds. It holds nothing before, so that it is valid. Two copies take fewer instructions than a store
+ * for each field. */
+static DconfdbFound *room_in(DconfdbValue *value)
 {
-    found->origin = 0;
-    memcpy(&found->value, &no_bytes, sizeof no_bytes);
-    memcpy(&found->type_text, &no_bytes, sizeof no_bytes);
-}
-
-_Static_assert(offsetof(DconfdbValue, size) == offsetof(DconfdbBytes, len)
-                   && offsetof(DconfdbValue, type_size) == offsetof(DconfdbValue, type) + offsetof(DconfdbBytes, len),
-               "a value begins with its bytes, and then its type, as the proved calls have them");
-
-static bool tell(bool is_found, const DconfdbFound *found, DconfdbValue *value)
-{
-    memcpy(value, &found->value, sizeof found->value);
-    memcpy((char *)value + offsetof(DconfdbValue, type), &found->type_text, sizeof found->type_text);
-    value->origin = found->origin;
-    return is_found;
+    static const DconfdbBytes nothing = DCONFDB_NOTHING;
+    memcpy(value, &nothing, sizeof nothing);
+    memcpy((char *)value + offsetof(DconfdbValue, type), &nothing, sizeof nothing);
+    value->origin = 0;
+    return (DconfdbFound *)value;
 }
 
 bool dconfdb_snapshot_read(const DconfdbSnapshot *snapshot, const char *path, DconfdbValue *value)
 {
-    DconfdbFound found;
-    found_nothing(&found);
-    bool is_found = dconfdb_read(snapshot->layers, snapshot->count, bytes_of(path), strlen(path), &found);
-    return tell(is_found, &found, value);
+    DconfdbFound *found = room_in(value);
+    return dconfdb_read(snapshot->layers, snapshot->count, bytes_of(path), strlen(path), found);
 }
 
 bool dconfdb_snapshot_read_default(const DconfdbSnapshot *snapshot, const char *path, DconfdbValue *value)
 {
-    DconfdbFound found;
-    found_nothing(&found);
-    bool is_found =
-        dconfdb_read_default(snapshot->layers, snapshot->count, snapshot->is_writable, bytes_of(path), strlen(path), &found);
-    return tell(is_found, &found, value);
+    DconfdbFound *found = room_in(value);
+    return dconfdb_read_default(snapshot->layers, snapshot->count, snapshot->is_writable, bytes_of(path), strlen(path), found);
 }
 
 bool dconfdb_snapshot_read_user(const DconfdbSnapshot *snapshot, const char *path, DconfdbValue *value)
 {
-    DconfdbFound found;
-    found_nothing(&found);
-    bool is_found = snapshot->is_writable && dconfdb_read_alone(&snapshot->layers[0], bytes_of(path), strlen(path), &found);
-    return tell(is_found, &found, value);
+    DconfdbFound *found = room_in(value);
+    return snapshot->is_writable && dconfdb_read_alone(&snapshot->layers[0], bytes_of(path), strlen(path), found);
 }
 
 bool dconfdb_snapshot_is_locked(const DconfdbSnapshot *snapshot, const char *path)
@@ -1107,8 +1097,7 @@ static bool make_file(const DconfdbStore *store, const DconfdbChange *changes, s
 /* Whether a change leaves the user's own values as they are. */
 static bool is_made(const DconfdbSnapshot *now, const DconfdbChange *change)
 {
-    DconfdbFound found;
-    found_nothing(&found);
+    DconfdbFound found = {DCONFDB_NOTHING, DCONFDB_NOTHING, 0};
     uint8_t room[1];
     size_t len = 0;
     bool is = false;
@@ -1226,8 +1215,7 @@ static uint64_t hashed(uint64_t hash, const DconfdbBytes *bytes)
 /* FNV-1a of a value of the user's and its type; 0: there is none. */
 static uint64_t value_in(const void *snapshot, const uint8_t *path, size_t len)
 {
-    DconfdbFound found;
-    found_nothing(&found);
+    DconfdbFound found = {DCONFDB_NOTHING, DCONFDB_NOTHING, 0};
     if (!dconfdb_read_alone(&((const DconfdbSnapshot *)snapshot)->layers[0], path, len, &found))
         return 0;
     return hashed(hashed(0xcbf29ce484222325U, &found.type_text), &found.value) | 1;

@@ -44,7 +44,7 @@ static char *listed(Lists *lists, const DconfdbLayer *layers)
 /* The value of a key, or NULL if GLib has none of its type. */
 static GVariant *value_of(const DconfdbLayer *layer, const char *path)
 {
-    DconfdbFound found = {0, DCONFDB_NOTHING, DCONFDB_NOTHING};
+    DconfdbFound found = {DCONFDB_NOTHING, DCONFDB_NOTHING, 0};
     if (!dconfdb_read_alone(layer, (const uint8_t *)path, strlen(path), &found))
         return NULL;
     char *type = g_strndup((const char *)found.type_text.at, found.type_text.len);

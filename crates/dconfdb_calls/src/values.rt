@@ -11,14 +11,15 @@ use crate::given::key_path;
 use dconf_layers::{Layer, LentLayers};
 use gv_view::View;
 
-/// A value that was found: the index of its layer, its bytes and the text of its type, both lent
-/// from that layer's file.
+/// A value that was found: its bytes and the text of its type, both lent from the file of its
+/// layer, and the index of that layer. libdconfdb's own value has this layout, so that it is filled
+/// in place.
 #[repr(C)]
 #[derive(Clone, Copy)]
 pub struct DconfdbFound<'a> {
-    pub origin: usize,
     pub value: &'a [u8],
     pub type_text: &'a [u8],
+    pub origin: usize,
 }
 
 /// The effective value at a path: the bytes as they are stored, and their type. None if the bytes
@@ -99,8 +100,8 @@ fn found_in<'a>(origin: usize, bytes: &'a [u8]) -> DconfdbFound<'a>
 {
     let view = View::of_variant(bytes);
     DconfdbFound {
-        origin,
         value: view.bytes(),
         type_text: view.type_str().as_str().as_bytes(),
+        origin,
     }
 }
