@@ -1,5 +1,5 @@
 -- What runs over one folder print.
-use Rattle.std.specs.Prelude.{◌≡◌, ◌⊎◌, ◌+◌, ℕ, zero, suc, Bool, true, false, cond, List, [], ◌∷◌, drop, Option, Some, None, Result, filter}
+use Rattle.std.specs.Prelude.{◌&&◌, not, is_some, ◌≡◌, ◌⊎◌, ◌+◌, ℕ, zero, suc, Bool, true, false, cond, List, [], ◌∷◌, drop, Option, Some, None, Result, filter}
 use Rattle.std.proofs.Common.{ap, sym, ◌∙◌, subst, inl, inr}
 use Rattle.gv_model.specs.Tree.{Tree}
 use Rattle.dconf_model.specs.Bytes.{MaybeBytes}
@@ -13,13 +13,13 @@ use Rattle.dconf_model.specs.Commands.Command.{show, read, list, list_locks, wri
 use Rattle.dconf_model.specs.Profiles.{Database, database_file, has_writable, profile_of}
 use Rattle.dconf_model.specs.Reads.{Content, Input, ReadResults, steady}
 use Rattle.dconf_model.specs.Settings.{Settings}
-use Rattle.dconf_model.specs.Doubles.{left_out, not_left_out, comment_lines}
+use Rattle.dconf_model.specs.Doubles.{comment_lines, has_line_feed, left_out, not_left_out}
 use Rattle.dconf_model.specs.Sources.{Given}
 use Rattle.dconf_model.specs.Databases.{Verdict, IsLayer, AreLayers, IsBad, IsFirstBad, IsDatabaseOf, IsGood}
 use Rattle.dconf_model.specs.Databases.Verdict.{no_database, sound, unsound}
 use Rattle.dconf_model.specs.Layers.{Layers, visible, without_user, child_names, locks_below, all_locks, paths_below, parts_below, all_paths, has_value, origin as origin_of}
 use Rattle.dconf_model.specs.Explains.{explained}
-use Rattle.dconf_model.specs.Outcomes.{Gives, Outcome, Output, WithStore, WithDatabases, WithLayers, OrNoDatabase, OrNoRead, OrLine, UnlessFault, IsOutcome, shown_if_any, done, done_output, lines_text, refused, dump_of, dump_at, with_lines, origin_text}
+use Rattle.dconf_model.specs.Outcomes.{Gives, Outcome, Output, WithStore, WithDatabases, WithLayers, OrNoDatabase, OrNoRead, OrLine, UnlessFault, IsOutcome, shown_if_any, done, done_output, lines_text, refused, dump_of, dump_at, dump_skipping, with_lines, origin_text}
 use Rattle.dconf_model.specs.FaultTexts.{device_text}
 use Rattle.dconf_model.specs.Runs.{ReadsFrom}
 use Rattle.dconf_model.specs.Stores.{OwnValues}
@@ -150,9 +150,11 @@ module _ (old : List Event) (profile : List ℕ) (d : Database) (ds : List Datab
   -- the values that are seen are those that are given, and so is their dump
   dump_seen : (skip : Bool) (directory : List ℕ) (paths : List (List ℕ)) → (dump_at skip directory h.opened paths).output ≡ (dump_given skip directory own gs paths).output
   dump_seen skip directory paths =
-      ap (λ r. (with_lines (comment_lines (left_out skip (visible h.opened) paths)) (dump_of directory r)).output)
-      (settings_seen h.others own gs h.opened h.held (not_left_out skip (visible h.opened) paths))
-      ∙ ap (λ (seen : List ℕ → Option Tree). (with_lines (comment_lines (left_out skip seen paths)) (dump_of directory (settings_given own gs (not_left_out skip seen paths)))).output)
+      let skips : Bool = skip && not (has_line_feed directory) in
+      let valued : (List ℕ → Option Tree) → List (List ℕ) = λ seen. filter (λ path. is_some (seen path)) paths in
+      ap (λ r. (with_lines (comment_lines (left_out skips (visible h.opened) paths)) (dump_of directory (valued (visible h.opened)) r)).output)
+      (settings_seen h.others own gs h.opened h.held (not_left_out skips (visible h.opened) paths))
+      ∙ ap (λ (seen : List ℕ → Option Tree). (dump_skipping skip directory seen (settings_given own gs) paths).output)
       (λ i. λ path. value_seen h.others own gs h.opened h.held path i)
 
   answered : (command : Command) (input : Input) (o : Outcome) → IsQuestion profile command → IsOutcome command (steady (read_content old)) input o →

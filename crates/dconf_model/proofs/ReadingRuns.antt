@@ -1,5 +1,5 @@
 -- A command that only reads leaves its folder as it was.
-use Rattle.std.specs.Prelude.{◌≡◌, ◌+◌, ◌∷◌, ℕ, Bool, cond, List, [], Option, Some, None, Result, Ok, Err, refl}
+use Rattle.std.specs.Prelude.{filter, is_some, not, ◌&&◌, ◌≡◌, ◌+◌, ◌∷◌, ℕ, Bool, cond, List, [], Option, Some, None, Result, Ok, Err, refl}
 use Rattle.std.proofs.Common.{ap, ◌∙◌, subst, inl, inr}
 use Rattle.gv_model.specs.Ty.{Ty}
 use Rattle.gv_model.specs.TypeText.{type_of_text}
@@ -8,8 +8,8 @@ use Rattle.gv_model.specs.Decode.{decode}
 use Rattle.dconf_model.specs.Bytes.{MaybeBytes}
 use Rattle.dconf_model.specs.Paths.{PathFault, key_fault, directory_fault}
 use Rattle.dconf_model.specs.Lines.{LineFault}
-use Rattle.dconf_model.specs.Keyfiles.{Setting, RowFault, dumped}
-use Rattle.dconf_model.specs.Doubles.{not_left_out}
+use Rattle.dconf_model.specs.Keyfiles.{Setting}
+use Rattle.dconf_model.specs.Doubles.{has_line_feed, not_left_out}
 use Rattle.dconf_model.specs.Databases.{Verdict}
 use Rattle.dconf_model.specs.Databases.Verdict.{no_database, sound, unsound}
 use Rattle.dconf_model.specs.Layers.{Layers, visible, without_user, child_names, locks_below, paths_below, origin as origin_of}
@@ -21,7 +21,7 @@ use Rattle.dconf_model.specs.Reads.{FileRead, ReadResults, Input, steady}
 use Rattle.dconf_model.specs.Reads.FileRead.{no_file, holds, over_size, failed}
 use Rattle.dconf_model.specs.Explains.{explained}
 use Rattle.dconf_model.specs.Outcomes.{Gives, Outcome, Output, IsOutcome, UnlessFault, WithType, WithFile, OrNoRead, OrNoDatabase, OrLine, WithDatabases, WithLayers}
-use Rattle.dconf_model.specs.Outcomes.{WithStore, Checks, check_output, shown_outcome, shown_if_any, printed_or, print_fault, done, lines_text, dump_of, dump_at, dump_output, settings_at, origin_text}
+use Rattle.dconf_model.specs.Outcomes.{WithStore, Checks, check_output, shown_outcome, shown_if_any, printed_or, print_fault, done, lines_text, dump_of, dump_at, dump_output, first_refusal, settings_at, origin_text}
 use Rattle.dconf_model.specs.Runs.{RanCalmly, Did}
 use Rattle.dconf_model.specs.Runs.RunEnding.{as_meant}
 use Rattle.dconf_model.specs.Programs.{OnlyReads}
@@ -84,13 +84,13 @@ any_leaves : (v : Option Tree) → Leaves (shown_if_any v)
 any_leaves None = refl
 any_leaves (Some v) = printed_leaves (print_fault v) v
 
-text_leaves : (settings : List Setting) (r : Result (List ℕ) RowFault) → Leaves (dump_output settings r)
-text_leaves settings (Ok text) = refl
-text_leaves settings (Err f) = refl
+text_leaves : (directory : List ℕ) (settings : List Setting) (why : Option (List ℕ)) → Leaves (dump_output directory settings why)
+text_leaves directory settings (Some why) = refl
+text_leaves directory settings None = refl
 
-dump_leaves : (directory : List ℕ) (r : Result (List Setting) (List ℕ)) → Leaves (dump_of directory r)
-dump_leaves directory (Err why) = refl
-dump_leaves directory (Ok settings) = text_leaves settings (dumped directory settings)
+dump_leaves : (directory : List ℕ) (paths : List (List ℕ)) (r : Result (List Setting) (List ℕ)) → Leaves (dump_of directory paths r)
+dump_leaves directory paths (Err why) = refl
+dump_leaves directory paths (Ok settings) = text_leaves directory settings (first_refusal directory paths)
 
 check_leaves : (v : Verdict) → Leaves (check_output v)
 check_leaves (no_database f) = refl
@@ -125,7 +125,8 @@ reading_leaves (dump skip directory file) reads input o only h =
     let S : List Database → Layers → Gives = λ databases l o. o ≡ dump_at skip directory l (paths_below l directory) in
     fault_leaves (directory_fault directory) (WithStore reads file S) o
     (λ o. store_leaves reads file S o (λ databases l o same. leaves o (dump_at skip directory l (paths_below l directory)) same
-    (dump_leaves directory (settings_at l (not_left_out skip (visible l) (paths_below l directory)))))) h
+    (dump_leaves directory (filter (λ path. is_some (visible l path)) (paths_below l directory))
+    (settings_at l (not_left_out (skip && not (has_line_feed directory)) (visible l) (paths_below l directory)))))) h
 reading_leaves (origin key file) reads input o only h =
     let S : List Database → Layers → Gives = λ databases l o. o ≡ done (origin_text databases (origin_of l key)) in
     fault_leaves (key_fault key) (WithStore reads file S) o

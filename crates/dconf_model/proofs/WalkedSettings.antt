@@ -55,6 +55,12 @@ same_settings l (path ∷ paths) =
 pub walk_has_each_setting : WalkHasEachSetting
 walk_has_each_setting l directory = sym (ap (settings_at l) (paths_are_kept l directory) ∙ same_settings l (keys_below (all_paths l.layers) directory))
 
+-- those that are seen have a value
+seen_has_value : (l : Layers) (path : List ℕ) → is_some (visible l path) ≡ true → has_value l path ≡ true
+seen_has_value l path seen =
+    by_bool (has_value l path) (has_value l path ≡ true) (λ there. there)
+    (λ other. absurd (no_truth (sym (ap (λ (o : Option Tree). is_some o) (none_seen (visible_bytes l path) other)) ∙ seen)))
+
 -- ---- what is left out of them
 
 kept : (p : List ℕ → Bool) (path : List ℕ) (paths : Texts) → p path ≡ true → filter p (path ∷ paths) ≡ path ∷ filter p paths
@@ -116,3 +122,9 @@ module _ (skip : Bool) (l : Layers) where
       let keys : Texts = keys_below (all_paths l.layers) directory in
       sym (same_settings l (filter others keys))
       ∙ ap (settings_at l) (kept_in_turn (has_value l) others keys ∙ ap (filter others) (sym (paths_are_kept l directory)))
+
+  pub walk_has_the_seen : (directory : List ℕ) →
+      filter (λ path. is_some (visible l path)) (keys_below (all_paths l.layers) directory) ≡ filter (λ path. is_some (visible l path)) (paths_below l directory)
+  walk_has_the_seen directory =
+      let seen : List ℕ → Bool = λ path. is_some (visible l path) in
+      sym (ap (filter seen) (paths_are_kept l directory) ∙ kept_again seen (has_value l) (seen_has_value l) (keys_below (all_paths l.layers) directory))

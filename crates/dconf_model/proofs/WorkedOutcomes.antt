@@ -1,5 +1,5 @@
 -- Worked runs: what commands answer.
-use Rattle.std.specs.Prelude.{◌≡◌, ℕ, Bool, true, false, List, [], ◌∷◌, ◌++◌, length, Ok, Err, Some, None, codes, refl, if◌then◌else◌, replicate, map, nat_lt, not, ◌&&◌}
+use Rattle.std.specs.Prelude.{◌≡◌, ℕ, Bool, true, false, List, [], ◌∷◌, ◌++◌, length, Result, Ok, Err, Option, Some, None, codes, refl, if◌then◌else◌, replicate, map, nat_lt, not, ◌&&◌, ◌||◌}
 use Rattle.std.proofs.Common.{inl, inr, arith, ◌∙◌, sym, ap}
 use Rattle.std.specs.Str.{bytes_eq}
 use Rattle.std.specs.FinMap.{get-empty, empty, keys, from_sorted, same_map, get-from_sorted, entries-from_sorted, slice_cmp-IsAntisymmetric, nat_cmp-IsAntisymmetric}
@@ -11,12 +11,14 @@ use Rattle.dconf_model.specs.Commands.{Command}
 use Rattle.dconf_model.specs.Commands.Command.{read, list, write, load, compile, repair}
 use Rattle.dconf_model.specs.Reads.{Content, Input, steady, failing}
 use Rattle.dconf_model.specs.Databases.Verdict.{no_database}
-use Rattle.dconf_model.specs.Outcomes.{IsOutcome, refused, done, UnlessFailed, OrLine, Loads, dump_of, with_value_if_any}
+use Rattle.dconf_model.specs.Outcomes.{IsOutcome, refused, done, UnlessFailed, OrLine, Loads, dump_of, dump_skipping, with_value_if_any}
+use Rattle.dconf_model.specs.Keyfiles.{Setting}
 use Rattle.dconf_model.specs.Layers.{level}
 use Rattle.dconf_model.specs.Lines.{longest_text}
 use Rattle.dconf_model.specs.Sources.{loaded}
+use Rattle.gv_model.specs.Tree.{Tree, depth}
 use Rattle.gv_model.specs.Tree.Tree.{number}
-use Rattle.gv_model.specs.Ty.Basic.{double}
+use Rattle.gv_model.specs.Ty.Basic.{boolean, double}
 use Rattle.gv_model.specs.Printed.{holds_double}
 use Rattle.dconf_model.proofs.WorkedLines.{text_of}
 use Rattle.dconf_model.proofs.WorkedSources.{meaning}
@@ -194,9 +196,34 @@ endless input long = go input.fails
 
 -- ---- dumps
 
-unreadable_key : dump_of (codes "/") (Ok (record { path = codes "/a=b"; text = codes "1" } ∷ [])) ≡ refused (codes "BadKeyName /a=b")
+unreadable_key : dump_of (codes "/") (codes "/a=b" ∷ []) (Ok (record { path = codes "/a=b"; text = codes "1" } ∷ [])) ≡ refused (codes "BadKeyName /a=b")
 unfolding meaning
 unreadable_key = refl
+
+-- doubles, and other values at /a and at /a=b
+abbrev double_mostly : List ℕ → Option Tree
+double_mostly path = if bytes_eq path (codes "/a") || bytes_eq path (codes "/a=b") then Some (number boolean 1) else Some (number double 0)
+
+abbrev printed_all : List (List ℕ) → Result (List Setting) (List ℕ)
+printed_all paths = Ok (map (λ path. record { path = path; text = codes "true" }) paths)
+
+double_is_named : dump_skipping true (codes "/") double_mostly printed_all (codes "/a" ∷ codes "/b/k" ∷ []) ≡ done (text_of (codes "# /b/k" ∷ codes "[/]" ∷ codes "a=true" ∷ []))
+unfolding meaning holds_double depth
+double_is_named = refl
+
+-- a path that could be no row isn't named in a comment: a keyfile's reader would take its further lines for rows
+double_at_no_row : dump_skipping true (codes "/") double_mostly printed_all (codes "/a" ∷ (codes "/x" ++ 10 ∷ codes "[b]/k") ∷ []) ≡ refused (codes "BadGroup /x" ++ 10 ∷ codes "[b]/k")
+unfolding meaning holds_double depth
+double_at_no_row = refl
+
+-- the first in the order of the paths refuses the dump, whether or not its value is a double
+first_at_no_row : dump_skipping true (codes "/") double_mostly printed_all (codes "/#k" ∷ codes "/a=b" ∷ []) ≡ refused (codes "BadKeyName /#k")
+unfolding meaning holds_double depth
+first_at_no_row = refl
+
+next_at_no_row : dump_skipping true (codes "/") double_mostly printed_all (codes "/a=b" ∷ codes "/b=c" ∷ []) ≡ refused (codes "BadKeyName /a=b")
+unfolding meaning holds_double depth
+next_at_no_row = refl
 
 double_value : with_value_if_any (codes "/x") (Some (number double 0)) (Ok []) ≡ Err (codes "DoubleText /x")
 unfolding meaning holds_double

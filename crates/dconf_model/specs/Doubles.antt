@@ -1,6 +1,7 @@
 -- Values that have no text for a double in them, and texts that have no value for one: what `dump --skip-doubles` and
 -- `load --skip-doubles` leave out. This project's.
-use Rattle.std.specs.Prelude.{ℕ, List, [], ◌∷◌, ◌++◌, Bool, true, false, Option, Some, None, codes, filter, flat_map, not, ◌&&◌}
+use Rattle.std.specs.Prelude.{ℕ, List, [], ◌∷◌, ◌++◌, Bool, true, false, Option, Some, None, codes, filter, flat_map, not, ◌&&◌, ◌==◌}
+use Rattle.std.specs.List.{list_any}
 use Rattle.gv_model.specs.TextFault.{Cause}
 use Rattle.gv_model.specs.TextFault.Cause.{double_text}
 use Rattle.gv_model.specs.Literals.{ValueFault}
@@ -19,6 +20,10 @@ is_double_if_any None = false
 is_double_if_any (Some v) = is_double v
 
 -- ---- values that are seen at paths
+
+-- no line can name a path below such a directory
+abbrev pub has_line_feed : List ℕ → Bool
+has_line_feed directory = list_any (λ c. c == 10) directory
 
 -- the paths of those that are left out where doubles are skipped, and the others
 abbrev pub left_out : Bool → (List ℕ → Option Tree) → List (List ℕ) → List (List ℕ)

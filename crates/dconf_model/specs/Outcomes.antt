@@ -1,7 +1,7 @@
 -- What each command makes of what it reads: a text for out, or one line for err, and for a command that changes a file the
 -- bytes that it is to hold. dconf(1). Each definition goes in the order of the refusals: words, the value, input, profile,
 -- databases, the change, the new file.
-use Rattle.std.specs.Prelude.{◌≡◌, ◌⊎◌, ℕ, zero, suc, ◌+◌, List, [], ◌∷◌, ◌++◌, length, codes, decimal, map, flat_map, slice_get, Option, Some, None, Result, Ok, Err, Bool, true, false, if◌then◌else◌, nat_lt, not, ◌&&◌, unwrap_or, option_map}
+use Rattle.std.specs.Prelude.{◌≡◌, ◌⊎◌, ℕ, zero, suc, ◌+◌, List, [], ◌∷◌, ◌++◌, length, codes, decimal, map, flat_map, slice_get, Option, Some, None, Result, Ok, Err, Bool, true, false, if◌then◌else◌, nat_lt, not, ◌&&◌, unwrap_or, option_map, filter, is_some}
 use Rattle.std.specs.FinMap.{len}
 use Rattle.gv_model.specs.Ty.{Ty}
 use Rattle.gv_model.specs.TypeText.{type_of_text}
@@ -19,8 +19,8 @@ use Rattle.dconf_model.specs.FaultTexts.{cause_text, path_fault_text, open_fault
 use Rattle.dconf_model.specs.Lines.{LineFault, longest_text}
 use Rattle.dconf_model.specs.Values.{value_of_text}
 use Rattle.dconf_model.specs.Profiles.{Database, database_file, has_writable, user_file, profile_of}
-use Rattle.dconf_model.specs.Keyfiles.{Setting, RowFault, dumped}
-use Rattle.dconf_model.specs.Doubles.{left_out, not_left_out, comment_lines}
+use Rattle.dconf_model.specs.Keyfiles.{Setting, dump_row, in_groups, row_fault, text_after}
+use Rattle.dconf_model.specs.Doubles.{comment_lines, has_line_feed, left_out, not_left_out}
 use Rattle.dconf_model.specs.Sources.{Loaded, Source, File, FileFault, loaded}
 use Rattle.dconf_model.specs.Sources.File.{keyfile, lock_file}
 use Rattle.dconf_model.specs.Databases.{Verdict, IsVerdict, IsDatabaseOf, IsTooBig, IsCompiled, AreLayers, IsFirstBad}
@@ -212,13 +212,27 @@ path_at paths n = unwrap_or (slice_get paths n) []
 abbrev pub setting_paths : List Setting → List (List ℕ)
 setting_paths settings = map (λ s. s.path) settings
 
-abbrev pub dump_output : List Setting → Result (List ℕ) RowFault → Outcome
-dump_output settings (Ok text) = done text
-dump_output settings (Err f) = refused (about (cause_text f.cause) (path_at (setting_paths settings) f.row))
+-- why a path is refused that could be no row of a keyfile below a directory
+abbrev pub row_refusal : List ℕ → List ℕ → Option (List ℕ)
+row_refusal directory path = option_map (λ cause. about (cause_text cause) path) (row_fault (dump_row directory (record { path = path; text = [] })))
 
-abbrev pub dump_of : List ℕ → Result (List Setting) (List ℕ) → Outcome
-dump_of directory (Err why) = refused why
-dump_of directory (Ok settings) = dump_output settings (dumped directory settings)
+abbrev pub or_next : Option (List ℕ) → Option (List ℕ) → Option (List ℕ)
+or_next (Some why) next = Some why
+or_next None next = next
+
+-- why the first of paths is
+abbrev pub first_refusal : List ℕ → List (List ℕ) → Option (List ℕ)
+first_refusal directory [] = None
+first_refusal directory (path ∷ more) = or_next (row_refusal directory path) (first_refusal directory more)
+
+abbrev pub dump_output : List ℕ → List Setting → Option (List ℕ) → Outcome
+dump_output directory settings (Some why) = refused why
+dump_output directory settings None = done (text_after None (in_groups (map (dump_row directory) settings)))
+
+-- the dump of settings, if they have texts, and if each of these paths could be a row
+abbrev pub dump_of : List ℕ → List (List ℕ) → Result (List Setting) (List ℕ) → Outcome
+dump_of directory paths (Err why) = refused why
+dump_of directory paths (Ok settings) = dump_output directory settings (first_refusal directory paths)
 
 -- these lines before what a command prints that is done
 abbrev pub before_out : ℕ → List ℕ → List ℕ → List ℕ
@@ -231,10 +245,16 @@ with_lines lines o = record {
   change = o.change;
 }
 
--- the values that are seen at paths below a directory: in comments those that are left out, and then the others
+-- The dump of values below a directory: comment lines with the paths of those that are left out, and then the others. Each path,
+-- left out or not, could be a row. None is left out below a directory with a line feed, as no line could name it.
+abbrev pub dump_skipping : Bool → List ℕ → (List ℕ → Option Tree) → (List (List ℕ) → Result (List Setting) (List ℕ)) → List (List ℕ) → Outcome
+dump_skipping skip directory seen settings paths =
+    let skips = skip && not (has_line_feed directory) in
+    with_lines (comment_lines (left_out skips seen paths))
+    (dump_of directory (filter (λ path. is_some (seen path)) paths) (settings (not_left_out skips seen paths)))
+
 abbrev pub dump_at : Bool → List ℕ → Layers → List (List ℕ) → Outcome
-dump_at skip directory l paths =
-    with_lines (comment_lines (left_out skip (visible l) paths)) (dump_of directory (settings_at l (not_left_out skip (visible l) paths)))
+dump_at skip directory l paths = dump_skipping skip directory (visible l) (settings_at l) paths
 
 -- ---- changes
 

@@ -12,7 +12,6 @@ use Rattle.dconf_model.specs.Locks.{is_below}
 use Rattle.dconf_model.specs.Order.{listing}
 use Rattle.dconf_model.specs.Profiles.{Database, database_file, has_writable, profile_of}
 use Rattle.dconf_model.specs.Keyfiles.{Setting}
-use Rattle.dconf_model.specs.Doubles.{left_out, not_left_out, comment_lines}
 use Rattle.dconf_model.specs.Sources.{Given, Loaded, Source, given, last_value, loaded}
 use Rattle.dconf_model.specs.Opening.{IsDatabase}
 use Rattle.dconf_model.specs.Salvaging.{IsSalvaged}
@@ -28,7 +27,7 @@ use Rattle.dconf_model.specs.Commands.{Command}
 use Rattle.dconf_model.specs.Commands.Command.{show, read, list, list_locks, write, reset, reset_below, dump, load, origin, explain, compile, check, repair}
 use Rattle.dconf_model.specs.Reads.{FileRead, Content, Input, read_of}
 use Rattle.dconf_model.specs.Reads.FileRead.{no_file, holds}
-use Rattle.dconf_model.specs.Outcomes.{Outcome, Output, done_output, shown_if_any, lines_text, origin_text, with_value_if_any, with_lines, dump_of, value_of_word}
+use Rattle.dconf_model.specs.Outcomes.{Outcome, Output, done_output, shown_if_any, lines_text, origin_text, with_value_if_any, dump_skipping, value_of_word}
 use Rattle.dconf_model.specs.Runs.{MayMake, NoMemory, Ran, RanCalmly}
 use Rattle.dconf_model.specs.Stores.{OwnValues, StoreHolds, FileGives, GivesRows, nothing_given, IsNamed, is_lock_given, level_given, value_given, number_given, own_after}
 
@@ -99,9 +98,7 @@ settings_given own gs (path ∷ more) = with_value_if_any path (value_given path
 
 -- the dump of the values at paths
 abbrev pub dump_given : Bool → List ℕ → OwnValues → List Given → List (List ℕ) → Outcome
-dump_given skip directory own gs paths =
-    with_lines (comment_lines (left_out skip (λ path. value_given path (own path) gs) paths))
-    (dump_of directory (settings_given own gs (not_left_out skip (λ path. value_given path (own path) gs) paths)))
+dump_given skip directory own gs paths = dump_skipping skip directory (λ path. value_given path (own path) gs) (settings_given own gs) paths
 
 -- the settings below a directory, in the order of their paths
 pub record SettingsPrinted (skip : Bool) (directory : List ℕ) (own : OwnValues) (gs : List Given) (output : Output) : Type 0 where

@@ -1,13 +1,15 @@
 //! A row of a dump: a setting's path below the directory, cut at its last slash.
-ghost use Rattle.std.specs.Prelude.{◌≡◌, IfOk, IfErr, IfNone, IfSome, None, Some, IsTrue, map, option_map, length, take, drop, ◌-◌, nat_eq};
+ghost use Rattle.std.specs.Prelude.{◌≡◌, [], IfOk, IfErr, IfNone, IfSome, None, Some, IsTrue, is_none, map, option_map, length, take, drop, ◌-◌, nat_eq};
 ghost use Rattle.std.specs.List.{starts_with};
 ghost use Rattle.refused.specs.Faults.{OfFault};
-ghost use Rattle.dconf_model.specs.Keyfiles.{first_row_fault, key_len};
+ghost use Rattle.dconf_model.specs.Keyfiles.{dump_row, first_row_fault, key_len, row_fault};
+ghost use Rattle.dconf_path.specs.Paths.{directory_text};
 
 use crate::groups::{group_name, is_group};
 use crate::keys::is_readable_key;
 use crate::rows_fault::{RowsCause, RowsFault, RowsFlaw};
 use crate::setting::AsSetting;
+use dconf_path::DirPath;
 use memchr::memrchr;
 use std::alloc::Global;
 
@@ -98,6 +100,15 @@ pub(crate) fn rows_below<'a, S: AsSetting>(
         rows.push(row)?;
     }
     Ok(rows)
+}
+
+/// Whether a path, which starts with the directory's, could be that of a row. [`write_settings`](crate::write_settings) refuses any other.
+pub fn is_row_path(path: &str, directory: DirPath<'_>) -> bool
+    requires { IsTrue (starts_with nat_eq path.now (directory_text directory)) }
+    ensures { result ≡ is_none (row_fault (dump_row (directory_text directory.entry) (record { path = path.entry.now; text = [] }))) }
+{
+    let row = DumpRow::new(path_below(path, directory.as_str()), "");
+    row.fault_after(None).is_none()
 }
 
 /// What follows the directory in a path below it.

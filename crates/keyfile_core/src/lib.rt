@@ -21,6 +21,7 @@ mod rows_fault;
 mod setting;
 mod write;
 
+pub use dump_row::is_row_path;
 pub use fault::{KeyfileCause, KeyfileFault, KeyfileFlaw};
 pub use rows::{Row, read};
 pub use rows_fault::{RowsCause, RowsFault, RowsFlaw};

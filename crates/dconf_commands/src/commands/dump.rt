@@ -1,8 +1,9 @@
 //! `dump [--skip-doubles] DIR`: the values that are seen below a directory, as a keyfile.
 ghost use Rattle.std.specs.Prelude.{◌≡◌, Err, Ok, map};
 ghost use Rattle.dconf_model.specs.Commands.Command.{dump as dump_of_directory};
+ghost use Rattle.dconf_model.specs.FaultTexts.{about, cause_text};
 ghost use Rattle.dconf_model.specs.Layers.{paths_below};
-ghost use Rattle.dconf_model.specs.Outcomes.{IsOutcome, dump_at, dump_of, dump_output, path_at, setting_paths, with_lines};
+ghost use Rattle.dconf_model.specs.Outcomes.{IsOutcome, dump_at, dump_of, path_at, refused as refused_outcome, setting_paths, with_lines};
 ghost use Rattle.dconf_model.specs.Reads.{Input};
 ghost use Rattle.dconf_path.specs.Paths.{directory_text};
 ghost use Rattle.keyfile_core.specs.DumpRows.{AreAllBelow};
@@ -57,7 +58,7 @@ fn dumped(
     ensures { GivesOutcome result (λ o. o ≡ dump_at skip_doubles (directory_text directory.entry) (seen_in layers.entry) (paths_below (seen_in layers.entry) (directory_text directory.entry))) }
 {
     let keys = layers.keys_below(alloc, directory)?;
-    let parts = DumpParts::of_keys(alloc, skip_doubles, keys)?;
+    let parts = DumpParts::of_keys(alloc, skip_doubles, directory, keys)?;
     written(alloc, parts.comments.as_str(), &parts.settings, directory)
 }
 
@@ -69,7 +70,8 @@ fn written(
     directory: DirPath<'_>,
 ) -> Result<Answer, Refusal>
     requires { AreAllBelow setting_of (directory_text directory) settings.now }
-    ensures { GivesOutcome result (λ o. o ≡ with_lines comments.entry.now (dump_of (directory_text directory.entry) (Ok (map setting_of settings.entry.now)))) }
+    ensures { GivesOutcome result (λ o. o ≡ with_lines comments.entry.now
+        (dump_of (directory_text directory.entry) (setting_paths (map setting_of settings.entry.now)) (Ok (map setting_of settings.entry.now)))) }
 {
     match write_settings(alloc, settings, directory) {
         Ok(mut text) => {
@@ -83,7 +85,7 @@ fn written(
 
 /// The refusal of a row that could not be read again.
 fn refused_row(alloc: Global, settings: &[PrintedSetting], row: usize, cause: RowsCause) -> Refusal
-    ensures { GivesOutcome (Err result) (λ o. o ≡ dump_output (map setting_of settings.entry.now) (Err (record { row = row; cause = rows_cause_of cause }))) }
+    ensures { GivesOutcome (Err result) (λ o. o ≡ refused_outcome (about (cause_text (rows_cause_of cause)) (path_at (setting_paths (map setting_of settings.entry.now)) row))) }
 {
     let path = path_of_row(settings, row);
     refused(alloc, format_args!("{cause} {path}"))
