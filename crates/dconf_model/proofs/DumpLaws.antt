@@ -17,7 +17,7 @@ use Rattle.dconf_model.proofs.DumpLines.{head_lines, dump_lines, text_is, dump_f
 
 module _ (directory : List ℕ) where
   -- what these lines give, after others, is at the settings of these rows
-  abbrev GivesRows : List (List ℕ) → List (List ℕ) → List DumpRow → Type 0
+  abbrev pub GivesRows : List (List ℕ) → List (List ℕ) → List DumpRow → Type 0
   GivesRows earlier lines rows = (out : List Row) × (read_after read_one earlier lines ≡ Ok out) × (map (setting_of directory) out ≡ map (setting_at directory) rows)
 
   -- ---- a row's path
@@ -35,7 +35,7 @@ module _ (directory : List ℕ) where
 
   -- ---- line by line
 
-  silent : (earlier : List (List ℕ)) (l : List ℕ) (lines : List (List ℕ)) (rows : List DumpRow) → read_one earlier l ≡ nothing → GivesRows (earlier ++ l ∷ []) lines rows → GivesRows earlier (l ∷ lines) rows
+  pub silent : (earlier : List (List ℕ)) (l : List ℕ) (lines : List (List ℕ)) (rows : List DumpRow) → read_one earlier l ≡ nothing → GivesRows (earlier ++ l ∷ []) lines rows → GivesRows earlier (l ∷ lines) rows
   silent earlier l lines rows e later =
       (later.0, ap (λ r. put_first (length earlier + 1) r (read_after read_one (earlier ++ l ∷ []) lines)) e ∙ later.1, later.2)
 
@@ -50,7 +50,7 @@ module _ (directory : List ℕ) where
       )
 
   -- the last group in earlier is the part of the row before
-  abbrev Knows : Option (List ℕ) → List (List ℕ) → Type 0
+  abbrev pub Knows : Option (List ℕ) → List (List ℕ) → Type 0
   Knows None earlier = Unit {0}
   Knows (Some part) earlier = last_group earlier ≡ Some (group_name part)
 
@@ -76,7 +76,7 @@ module _ (directory : List ℕ) where
         go true e = in_group earlier (known ∙ ap (λ p. Some (group_name p)) ((bytes_decides part r.part).0 e))
         go false e = silent earlier [] (head_line (group_name r.part) ∷ from_row) (r ∷ more) (read_empty earlier) (at_heading (earlier ++ [] ∷ []))
 
-  lines_give : (rows : List DumpRow) (before : Option (List ℕ)) (earlier : List (List ℕ)) → AllByRecursion Writes rows → Knows before earlier → GivesRows earlier (dump_lines before rows) rows
+  pub lines_give : (rows : List DumpRow) (before : Option (List ℕ)) (earlier : List (List ℕ)) → AllByRecursion Writes rows → Knows before earlier → GivesRows earlier (dump_lines before rows) rows
   lines_give [] before earlier w known = ([], refl, refl)
   lines_give (r ∷ more) before earlier w known = at_row r more w.0 (λ earlier known. lines_give more (Some r.part) earlier w.1 known) before earlier known
 
@@ -89,7 +89,7 @@ module _ (directory : List ℕ) where
       let text : is_utf8 (ended ls) ≡ true = is_utf8-from_IsUtf8 (ended ls) (dump_utf8 None rows w) in
       rw (small, text) (ap (read_after read_one []) (lines_of-ended ls (dump_feedless None rows w)))
 
-  abbrev ReadAgain : List DumpRow → List ℕ → Type 0
+  abbrev pub ReadAgain : List DumpRow → List ℕ → Type 0
   ReadAgain rows text = (out : List Row) × (rows_of text ≡ Ok out) × (map (setting_of directory) out ≡ map (setting_at directory) rows)
 
   ended_again : (rows : List DumpRow) → AllByRecursion Writes rows → length (ended (dump_lines None rows)) ≤ longest_text → ReadAgain rows (ended (dump_lines None rows))

@@ -113,7 +113,7 @@ utf8_row rest u = elim (split_key rest) [
 
 -- ---- rows without a fault
 
-no_row_fault : (a b : Bool) → (if not a then Some bad_group else if not b then Some bad_key_name else None) ≡ None → (a ≡ true) × (b ≡ true)
+pub no_row_fault : (a b : Bool) → (if not a then Some bad_group else if not b then Some bad_key_name else None) ≡ None → (a ≡ true) × (b ≡ true)
 no_row_fault true true e = (refl, refl)
 no_row_fault true false e = absurd (none-some bad_key_name (sym e))
 no_row_fault false b e = absurd (none-some bad_group (sym e))

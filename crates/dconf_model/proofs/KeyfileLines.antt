@@ -207,7 +207,7 @@ row_stays earlier key text k t =
 
 -- ---- no line feed in a group
 
-group_feedless : (g : List ℕ) → is_group g ≡ true → HasNoFeed g
+pub group_feedless : (g : List ℕ) → is_group g ≡ true → HasNoFeed g
 group_feedless g h = elim (or_cases (bytes_eq g (codes "/")) _ h) [
   | inl e ↦ subst HasNoFeed (sym ((bytes_decides g (codes "/")).0 e)) refl
   | inr e ↦ no_such_byte is_special 10 g refl (plain g (and_parts _ (is_plain g) e).1)

@@ -102,3 +102,4 @@ pub mod AttemptLaws
 pub mod EmptyFolders
 pub mod WorkedFolder
 pub mod WorkedUpdates
+pub mod PrintedDumps

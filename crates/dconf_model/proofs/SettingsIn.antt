@@ -91,7 +91,7 @@ value_given t i q b (Some name) e =
 value_found : (t : Table) (i : ℕ) (q : List ℕ) → (item t i).kind ≡ value_kind → is_some (found q (row_of_value t i (Some q))) ≡ true
 value_found t i q is = ap (λ (k : Bool). is_some (found q (cond k ((q, bytes_of t i) ∷ []) []))) (eq-eqb (item t i).kind value_kind is) ∙ entry_found q (bytes_of t i)
 
-is_there : {X : Type 0} (o : Option X) → is_some o ≡ true → (x : X) × (o ≡ Some x)
+pub is_there : {X : Type 0} (o : Option X) → is_some o ≡ true → (x : X) × (o ≡ Some x)
 is_there None e = absurd (no_truth e)
 is_there (Some x) e = (x, refl)
 

@@ -43,3 +43,4 @@ pub mod Reopened
 pub mod Programs
 pub mod Survivals
 pub mod Standings
+pub mod Dumps

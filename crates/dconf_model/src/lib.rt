@@ -23,6 +23,7 @@ ghost use Rattle.dconf_model.specs.Survivals.{NothingIsLost, NextRunFindsAll};
 ghost use Rattle.std.specs.Prelude.{ℕ, List};
 ghost use Rattle.dconf_model.specs.Order.{OrderIsStable, ListingIsOnceEach};
 ghost use Rattle.dconf_model.specs.Keyfiles.{DumpReadsBack, DumpHasEachSetting, DumpIsInOrder};
+ghost use Rattle.dconf_model.specs.Dumps.{PrintedReadsAsDumped};
 ghost use Rattle.dconf_model.specs.Databases.{SaysWhatIsInIt, SaysSettings, SaysOneThing, WrittenSaysSettings};
 ghost use Rattle.dconf_model.specs.Programs.{GivenHolds, NoFileGivesNothing, CompileGives, CompileSteps, RepairGives, RepairSteps, DoneIsSettled, QuestionsAreAnswered, EmptyPrintsNothing, ChangesAreKept, ProgramGives};
 ghost use Rattle.dconf_model.specs.Reopened.{ReopenedIsSame};
@@ -242,6 +243,12 @@ pub fn a_dump_reads_back()
     ensures again { DumpReadsBack }
     ensures same { DumpHasEachSetting }
     ensures order { DumpIsInOrder }
+{}
+
+/// What `dump` and `dump --skip-doubles` print of any databases is read again as the settings that they dump, comment lines and
+/// all: no part of a name is read as a row.
+pub fn a_printed_dump_reads_back()
+    ensures { PrintedReadsAsDumped }
 {}
 
 /// A walk over a directory, which takes the names that it has in their order and goes through what is below each before the
