@@ -1,6 +1,7 @@
 """The scripts and tables of this folder: how they are read, and how the program is asked what they have. The head of tests/program has their form."""
 import os
 import re
+import struct
 import subprocess
 from concurrent.futures import ThreadPoolExecutor
 from pathlib import Path
@@ -311,8 +312,60 @@ def row_of_table(store, line, kind):
         is_so('it is', locked(store) if kind == 'locks' else kept(store), after)
 
 
+# ---- doubles at any path
+
+NAMED = {**CONTROL, 0x2420: 32, 0x2421: 127}
+TRUE, DOUBLE = b'\1\0b', struct.pack('<d', 1.5) + b'\0d'
+# What a database has beside a double, and a path that could be no row.
+OTHERS, NO_ROW = dict.fromkeys([b'/a/j', b'/org/y/j', b'/z'], TRUE), b'/m[/k'
+
+
+def path_of(text):
+    return re.sub(rb'\\([0-9a-f]{2})', lambda found: bytes.fromhex(found[1].decode()), text.translate(NAMED).encode())
+
+
+def dumped(store, directory, values, *flags):
+    """What the dump of a database of these values leaves."""
+    store.put('site.db', gvdb.written(values, set()))
+    return store.run(['dump', *flags, '-p', 'named', directory])
+
+
+def loaded(store, directory, keyfile):
+    """What the dump of an empty store leaves into which a keyfile was loaded."""
+    (store.folder / 'me.user').unlink(missing_ok=True)
+    is_so(f'load {directory} of {keyfile}', store.run(['load', '-p', 'loaded', directory], keyfile), (0, b'', b''))
+    return store.run(['dump', '-p', 'loaded', directory])
+
+
+def is_skipped(store, directory, path):
+    """A double at a path refuses the dump as a boolean there does, or a comment names it, and what is printed loads as all others."""
+    found, plain = dumped(store, directory, {**OTHERS, path: DOUBLE}, '--skip-doubles'), dumped(store, directory, {**OTHERS, path: TRUE})
+    what = f'dump --skip-doubles {directory}'
+    if plain[0]:
+        return is_so(what, found, plain)
+    if b'\n' in directory:
+        return is_so(what, found, (1, b'', b'error: DoubleText ' + path + b'\n'))
+    others = dumped(store, directory, OTHERS)
+    is_so(what, found, (0, b'# ' + path + b'\n' + others[1], b''))
+    return is_so('what is loaded of it', loaded(store, directory, found[1]), others)
+
+
+def row_named(store, line):
+    text, wanted = line.rsplit(' |', 1)
+    path, why = path_of(text), wanted.removeprefix(' ! ').encode()
+    store.put('named', b'user-db:none\nsystem-db:site\n')
+    store.put('loaded', b'user-db:me\n')
+    found = dumped(store, b'/', {**OTHERS, path: DOUBLE}, '--skip-doubles')
+    is_so('the status, and what is on err', found[::2], (1, b'error: ' + why.replace(b'PATH', path) + b'\n') if why else (0, b''))
+    for directory in {path[:at + 1] for at in range(len(path)) if path[at:at + 1] == b'/' and path[at - 1:at] != b'/'}:
+        is_skipped(store, directory, path)
+    beside = {**OTHERS, NO_ROW: TRUE}
+    is_so('beside another path', dumped(store, b'/', {**beside, path: DOUBLE}, '--skip-doubles'), dumped(store, b'/', {**beside, path: TRUE}))
+
+
 # What tries a row, by the kind of its table.
-ROWS = {'text': lambda store, line, _: row_of_text(store, line), 'show': row_shown, 'bytes': row_shown, 'back': row_shown}
+ROWS = {'text': lambda store, line, _: row_of_text(store, line), 'show': row_shown, 'bytes': row_shown, 'back': row_shown,
+        'named': lambda store, line, _: row_named(store, line)}
 
 
 def table(store, lines, kind):

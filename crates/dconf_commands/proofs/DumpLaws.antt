@@ -207,7 +207,7 @@ module _ (l : Layers) (directory : List ℕ) (path : List ℕ) (later : List (Li
   named_in_comment comments earlier none =
       let lines = comment_lines (left_out true (visible l) later) in
       let whole : (comments ++ comment_lines (path ∷ [])) ++ lines ≡ comments ++ comment_lines (path ∷ left_out true (visible l) later) =
-          append_assoc comments (comment_lines (path ∷ [])) lines ∙ ap (λ text. comments ++ text) (ap (λ first. first ++ lines) (append-nil (codes "# " ++ (path ++ 10 ∷ [])))) in
+      append_assoc comments (comment_lines (path ∷ [])) lines ∙ ap (λ text. comments ++ text) (ap (λ first. first ++ lines) (append-nil (codes "# " ++ (path ++ 10 ∷ [])))) in
       ap (λ text. with_lines text (dump_of directory (setting_paths earlier ++ seen_at true l directory later) (with_earlier earlier (settings_at l (not_left_out true (visible l) later))))) whole
       ∙ same (with_earlier earlier (settings_at l (not_left_out true (visible l) later)))
       ∙ sym (left_next comments earlier)

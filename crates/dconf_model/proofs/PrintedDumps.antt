@@ -115,9 +115,9 @@ module _ (directory : List ℕ) (outs : List (List ℕ)) (rows : List DumpRow) (
   whole_again text fits e =
       let lines : List (List ℕ) = map comment outs ++ dump_lines None rows in
       let whole : text ≡ ended lines =
-          e ∙ ((λ i. comments_end outs i ++ text_is None rows i) ∙ sym (ended-append (map comment outs) (dump_lines None rows))) in
+      e ∙ ((λ i. comments_end outs i ++ text_is None rows i) ∙ sym (ended-append (map comment outs) (dump_lines None rows))) in
       let utf8 = subst IsUtf8 (sym (ended-append (map comment outs) (dump_lines None rows)))
-          (IsUtf8-append (ended (map comment outs)) (ended (dump_lines None rows)) (comments_utf8 outs named) (dump_utf8 None rows w)) in
+      (IsUtf8-append (ended (map comment outs)) (ended (dump_lines None rows)) (comments_utf8 outs named) (dump_utf8 None rows w)) in
       subst (ReadAgain directory rows) (sym whole)
       (lines_again directory lines rows (both_feedless (map comment outs) (dump_lines None rows) (comments_feedless outs named) (dump_feedless None rows w))
       utf8 (subst (λ t. length t ≤ longest_text) whole fits) (comments_give directory outs [] rows w))
@@ -253,24 +253,24 @@ printed_reads_as_dumped items l skip directory text layers d fits e =
     let is = was_done directory (filter seen paths) (comment_lines outs) (settings_at l others) text e in
     let asked : List ℕ → Bool = λ path. cond (is_below path directory) (has_value l path) false in
     let can : (path : List ℕ) → Contains paths path → is_some (visible l path) ≡ true → CanBeRow directory path = λ path c there.
-        let kept = kept_is_there asked (all_paths l.layers) path (listing_from (filter asked (all_paths l.layers)) path c) in
-        record {
-          below = (both_tests (is_below path directory) (has_value l path) kept.1).0;
-          key = layers_have_key_paths items l.layers layers path kept.0;
-          utf8 = layers_have_texts items l.layers layers path kept.0;
-          row = no_fault path (row_fault (dump_row directory (record { path = path; text = [] }))) (none_refused directory (filter seen paths) path is.faultless (there_is_kept seen paths path c there));
-        } in
+    let kept = kept_is_there asked (all_paths l.layers) path (listing_from (filter asked (all_paths l.layers)) path c) in
+    record {
+      below = (both_tests (is_below path directory) (has_value l path) kept.1).0;
+      key = layers_have_key_paths items l.layers layers path kept.0;
+      utf8 = layers_have_texts items l.layers layers path kept.0;
+      row = no_fault path (row_fault (dump_row directory (record { path = path; text = [] }))) (none_refused directory (filter seen paths) path is.faultless (there_is_kept seen paths path c there));
+    } in
     let rows : List DumpRow = map (dump_row directory) is.settings in
     let all = of_settings l (CanBeRow directory) others (λ path c there. can path (kept_is_there (λ p. not (skips && is_double_if_any (visible l p))) paths path c).0 there) is.settings is.printed in
     let none = rows_none directory 0 is.settings all in
     let named = all_of IsNamed outs (λ path c.
-        let out = kept_is_there (λ p. skips && is_double_if_any (visible l p)) paths path c in
-        let double = double_is_seen skips (visible l path) out.1 in
-        row_is_named directory path d (not-true (has_line_feed directory) (and_parts skip (not (has_line_feed directory)) double.0).1) (can path out.0 double.1)) in
+    let out = kept_is_there (λ p. skips && is_double_if_any (visible l p)) paths path c in
+    let double = double_is_seen skips (visible l path) out.1 in
+    row_is_named directory path d (not-true (has_line_feed directory) (and_parts skip (not (has_line_feed directory)) double.0).1) (can path out.0 double.1)) in
     let whole = λ (lines : List (List ℕ)) (each : AllByRecursion IsNamed lines) (t : List ℕ) (few : length t ≤ longest_text) (same : t ≡ comment_lines lines ++ text_after None (in_groups rows)) (fit : AllByRecursion FitsOnLine is.settings).
-        let written = writes_all directory 0 is.settings d (may_be_dumped directory is.settings all fit) none in
-        let again = whole_again directory lines (in_groups rows) each (writes_in_groups rows written) t few same in
-        reads_as directory t (in_dump_order directory is.settings) again.0 again.1 again.2 in
+    let written = writes_all directory 0 is.settings d (may_be_dumped directory is.settings all fit) none in
+    let again = whole_again directory lines (in_groups rows) each (writes_in_groups rows written) t few same in
+    reads_as directory t (in_dump_order directory is.settings) again.0 again.1 again.2 in
     let rest : List ℕ = text_after None (in_groups rows) in
     record {
       settings = is.settings;
