@@ -21,8 +21,8 @@ pub record ReadsAs (directory text : List ℕ) (settings : List Setting) : Type 
   pub read : rows_of text ≡ Ok rows
   pub are : map (setting_of directory) rows ≡ settings
 
--- A text is what is dumped: comment lines that name what is left out, and behind them the dump of the settings that are seen of the rest. It
--- reads as these settings, in the order of the dump. So does the dump without the comment lines.
+-- A text is what is dumped: comment lines that name what is left out, and behind them the dump of the other settings that are
+-- seen. It reads as those settings, in the order of the dump, and so does the dump without the comment lines.
 pub record IsDumpText (skip : Bool) (directory : List ℕ) (l : Layers) (text : List ℕ) : Type 0 where
   pub settings : List Setting
   pub seen : settings_at l (not_left_out (skip && not (has_line_feed directory)) (visible l) (paths_below l directory)) ≡ Ok settings
@@ -32,8 +32,7 @@ pub record IsDumpText (skip : Bool) (directory : List ℕ) (l : Layers) (text : 
   pub reads : AllByRecursion FitsOnLine settings → ReadsAs directory text (in_dump_order directory settings)
   pub rest_reads : AllByRecursion FitsOnLine settings → ReadsAs directory rest (in_dump_order directory settings)
 
--- So is what is printed of any databases, with and without `--skip-doubles`. So whatever the names in a database are, no part of them is
--- read as a row.
+-- law: whatever names databases have, what is printed of them is such a text, so that no part of a name is read as a row
 abbrev pub PrintedReadsAsDumped : Type 0
 PrintedReadsAsDumped =
     (items : List (Option (List ℕ))) (l : Layers) (skip : Bool) (directory text : List ℕ) →
