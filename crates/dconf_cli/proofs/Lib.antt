@@ -1,4 +1,4 @@
 pub mod StreamsLeft
 pub mod Runs
 pub mod Given
-pub mod Standing
+pub mod StandingLaws

@@ -21,8 +21,9 @@ pub(crate) fn everyones(alloc: Global, bytes: Vec<u8>) -> Result<Vec<u8>, AllocE
 fn written(alloc: Global, bytes: &[u8]) -> Result<Option<String>, AllocError>
     ensures { IfOk result (λ text. IsWritten bytes.now (option_map string_bytes text)) }
 {
-    let Ok(text) = settings_text(bytes) else {
-        return Ok(None);
+    let text = match settings_text(bytes) {
+        Ok(text) => text,
+        Err(_) => return Ok(None),
     };
     match read_profile(alloc, text) {
         Ok(profile) => Ok(Some(lines_of(alloc, profile.databases())?)),

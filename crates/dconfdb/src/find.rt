@@ -30,12 +30,14 @@ pub(crate) struct Found {
     pub(crate) has_profile: bool,
     /// Whether there is a folder.
     pub(crate) has_folder: bool,
+    /// Whether the folder was given by a word: then all its databases are there.
+    is_given: bool,
 }
 
 impl Found {
-    /// Whether its profile is that of all users, whose databases of the system are files beside it.
+    /// Whether the databases of the system that its profile names are beside that: it is the one of all users, and the folder the user's.
     pub(crate) fn is_everyones(&self) -> bool {
-        self.profile.as_str() == EVERYONES
+        self.profile.as_str() == EVERYONES && !self.is_given
     }
 }
 
@@ -67,6 +69,7 @@ pub(crate) fn enter(rt: &HostRuntime, place: Place, makes: bool) -> Result<Found
         folder,
         profile,
     } = place;
+    let is_given = folder.is_some();
     let folder = match folder {
         Some(_) if is_users => return Err(NotFound::Both),
         Some(folder) => absolute(rt, folder)?,
@@ -81,8 +84,9 @@ pub(crate) fn enter(rt: &HostRuntime, place: Place, makes: bool) -> Result<Found
             profile,
             has_profile: true,
             has_folder,
+            is_given,
         }),
-        None => with_own_profile(rt, folder, has_folder),
+        None => with_own_profile(rt, folder, has_folder, is_given),
     }
 }
 
@@ -114,7 +118,12 @@ fn named_profile(rt: &HostRuntime, word: Option<String>) -> Result<Option<String
 }
 
 /// The profile in the folder, else that of all users, else that of the user alone.
-fn with_own_profile(rt: &HostRuntime, folder: String, has_folder: bool) -> Result<Found, NotFound> {
+fn with_own_profile(
+    rt: &HostRuntime,
+    folder: String,
+    has_folder: bool,
+    is_given: bool,
+) -> Result<Found, NotFound> {
     let alloc = rt.alloc();
     let is_own = has_folder && is_there(rt, OWN_PROFILE);
     let profile = if is_own {
@@ -127,6 +136,7 @@ fn with_own_profile(rt: &HostRuntime, folder: String, has_folder: bool) -> Resul
         profile,
         has_profile: is_own || is_there(rt, EVERYONES),
         has_folder,
+        is_given,
     })
 }
 

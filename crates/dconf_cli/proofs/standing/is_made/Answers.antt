@@ -2,7 +2,7 @@ use Rattle.std.proofs.Common.{◌∙◌, Ok, Err, ap, refl, subst, sym}
 use Rattle.command_words.specs.Commands.{command_of}
 use Rattle.dconf_streams.specs.Answers.{outcome_of}
 use Rattle.dconf_streams.specs.Streams.{NoneFailed}
-use Rattle.dconf_cli.proofs.Standing.{calm_reads, changed_reads, differs, due, made, no_says, yes_says}
+use Rattle.dconf_cli.proofs.StandingLaws.{calm_reads, changed_reads, differs, due, made, no_says, yes_says}
 use Rattle.dconf_cli.proofs.standing.is_made.Goals as goal
 
 pub returns-in-Ok-Changed-clause-made : goal.returns-in-Ok-Changed-clause-made
