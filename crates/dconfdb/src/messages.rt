@@ -77,6 +77,7 @@ pub(crate) fn warn_of_missing(rt: &HostRuntime, folder: &str, name: &str) -> io:
 }
 
 /// What is wrong with a file. It is printed with the rule that it breaks, if it breaks one, and the item.
+#[derive(Clone, Copy)]
 struct Wrong(BadFile);
 
 impl fmt::Display for Wrong {
