@@ -3,10 +3,11 @@ use crate::messages::{REFUSED, refuse, refuse_device, refuse_memory};
 use crate::named::warn_of_missing_ones;
 use crate::runs::run_in_turn;
 use crate::sources::{Unread, is_folder, names_in, source_folder};
-use dconf_args::{Command, updates};
+use dconf_args::{Command, Replaced, updates};
 use dconf_cli::{Counted, is_made};
 use dconf_disk::StdFolder;
 use std::env;
+use std::fs;
 use std::io::ErrorKind;
 
 /// The folder where none is named.
@@ -85,11 +86,25 @@ fn run_each(rt: &HostRuntime, commands: Vec<Command>) -> u8 {
 ///
 /// No time is asked for: what was saved while a database was made, or has an older time, is told by what it says.
 fn run_if_due(rt: &HostRuntime, command: Command) -> u8 {
+    if !has_file(rt, &command) {
+        return run_in_turn(rt, command);
+    }
     let mut folder = StdFolder::read_only(rt);
     let mut input = Counted::new(rt.stdin());
     match is_made(rt.alloc(), &command, &mut folder, &mut input) {
         Ok(true) => 0,
         Ok(false) => run_in_turn(rt, command),
         Err(_) => refuse_memory(rt),
+    }
+}
+
+/// Whether a file has the name of the one that the command replaces. What is no regular file is not read: that may never end.
+fn has_file(rt: &HostRuntime, command: &Command) -> bool {
+    let Some(Replaced::File(name)) = command.replaced() else {
+        return false;
+    };
+    match fs::metadata(rt, name) {
+        Ok(found) => found.is_file(),
+        Err(_) => false,
     }
 }
