@@ -271,6 +271,12 @@ uint32_t dconfdb_repair(const uint8_t *file, size_t len, uint8_t *room, size_t r
  * or MEMORY, and then nothing is written. */
 uint32_t dconfdb_keyless(const uint8_t *file, size_t len, uint8_t *room, size_t room_len, size_t *mended_len);
 
+/* What is said of a bad database, after what is wrong with it: how many values and locks of it count, or,
+ * where a change put a new file into its place (`is_aside`), how the text goes on after the name that it has
+ * now. The locks of the first database of a profile never count. `len` as dconfdb_list has it. MEMORY, and
+ * then nothing is written. */
+uint32_t dconfdb_fate_text(size_t keys, size_t locks, bool is_first, bool is_aside, uint8_t *room, size_t room_len, size_t *len);
+
 /* The databases that a profile's text names, 64 at most. `names` is how many; where they are more
  * than the room, nothing is put into it. MEMORY, NOT_TEXT, or BAD_LINE to TOO_MANY with the line,
  * counted from 1; of the others it is 0. */

@@ -1,9 +1,8 @@
 /* dconfdb, as it is installed: `watch` and `lint` are programs of their own in the folder LIBEXEC, and every other
- * command is the proved program's, which is handed the arguments as they are, and a home if the environment names none. */
+ * command is the proved program's, which is handed the arguments as they are, by dconfdb-home if the environment names no home. */
 #define _DEFAULT_SOURCE
 #define _POSIX_C_SOURCE 200809L
 #include <errno.h>
-#include <pwd.h>
 #include <stdbool.h>
 #include <stdio.h>
 #include <stdlib.h>
@@ -15,7 +14,7 @@ typedef struct {
     char name[16]; /* by which it calls itself */
 } Program;
 
-static Program proved = {"", LIBEXEC "/dconfdb", ""};
+static Program proved = {"", LIBEXEC "/dconfdb", ""}, homeless = {"", LIBEXEC "/dconfdb-home", ""};
 static Program others[] = {{"watch", LIBEXEC "/dconfdb-watch", "dconfdb watch"}, {"lint", LIBEXEC "/dconfdb-lint", "dconfdb lint"}};
 
 static Program *program_of(const char *word)
@@ -27,21 +26,11 @@ static Program *program_of(const char *word)
     return &proved;
 }
 
-/* The home that passwd(5) knows of the user. The file is read here: what else getpwuid asks can't be linked. */
-static bool set_home(void)
+/* A home counts by its whole path, as for the library. */
+static bool has_home(void)
 {
     const char *home = getenv("HOME");
-    if (home && home[0] == '/')
-        return true;
-    FILE *users = fopen("/etc/passwd", "re");
-    bool is_set = true;
-    for (struct passwd *user = NULL; users && (user = fgetpwent(users));) {
-        if (user->pw_uid == getuid()) {
-            is_set = user->pw_dir[0] != '/' || setenv("HOME", user->pw_dir, 1) == 0;
-            break;
-        }
-    }
-    return (!users || fclose(users) == 0) && is_set;
+    return home && home[0] == '/';
 }
 
 int main(int count, char **words)
@@ -53,10 +42,8 @@ int main(int count, char **words)
         words = asks_help ? helped : words + 1;
         words[0] = program->name;
     }
-    if (program == &proved && !set_home()) {
-        fprintf(stderr, "error: Memory\n");
-        return 1;
-    }
+    if (program == &proved && !has_home())
+        program = &homeless;
     execv(program->file, words);
     fprintf(stderr, "error: %s %s\n", errno == ENOENT ? "NoFile" : "Device", program->file);
     return 1;

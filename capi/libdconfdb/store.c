@@ -50,7 +50,7 @@ struct DconfdbSnapshot {
 };
 
 /* A file and a profile have at most so many bytes, and a profile so many databases. */
-enum { LARGEST_PROFILE = 16777216, MOST_DATABASES = 64, ROOM_OF_PASSWD = 65536 };
+enum { LARGEST_PROFILE = 16777216, MOST_DATABASES = 64, ROOM_OF_PASSWD = 65536, ROOM_OF_FATE = 128 };
 #define LARGEST_FILE 4294967295U
 
 static const DconfdbOptions strict = DCONFDB_OPTIONS_INIT, lenient = {sizeof lenient, true, false, DCONFDB_USUAL_WAIT};
@@ -294,17 +294,15 @@ const char *dconfdb_snapshot_file(const DconfdbSnapshot *snapshot, size_t databa
     return database < snapshot->count ? snapshot->parts[database]->name : NULL;
 }
 
-/* What becomes of a bad file, after what is wrong with it: in the words of `dconfdb repair`. */
+/* What becomes of a bad file, after what is wrong with it. Without memory nothing is said of it. */
 static int say_fate(char *text, size_t size, const Fault *fault, size_t database)
 {
-    const Saved *saved = &fault->saved;
-    if (fault->aside && saved->keys == 0)
-        return snprintf(text, size, "; it is now %s, and a new file was begun", fault->aside);
-    if (fault->aside)
-        return snprintf(text, size, "; it is now %s, and a new file has the %zu keys that could be read", fault->aside, saved->keys);
-    if (saved->keys == 0 && (saved->locks == 0 || database == 0))
-        return snprintf(text, size, "; kept nothing of it");
-    return snprintf(text, size, "; kept %zu keys, %zu locks of it", saved->keys, saved->locks);
+    uint8_t fate[ROOM_OF_FATE];
+    size_t len = 0;
+    uint32_t number = dconfdb_fate_text(fault->saved.keys, fault->saved.locks, database == 0, fault->aside != NULL, fate, sizeof fate, &len);
+    if (number != DCONFDB_OK || len > sizeof fate)
+        return 0;
+    return snprintf(text, size, "%s%s%.*s", fault->aside ? "; it is now " : "", fault->aside ? fault->aside : "", (int)len, (const char *)fate);
 }
 
 bool dconfdb_snapshot_fault(const DconfdbSnapshot *snapshot, size_t database, DconfdbError *error)

@@ -214,7 +214,7 @@ pub(crate) const COMMANDS: [Line<'static>; 14] = [
     // `update [FOLDER]`.
     Line {
         name: "update",
-        about: "Compile the databases in FOLDER whose sources are newer",
+        about: "Compile the databases in FOLDER that are not what their sources say",
         more: help!(
             files: "  NAME.d        the sources of the database NAME.db: its keyfiles\n",
             "  NAME.d/locks  its files of locks, if it has any\n",

@@ -12,6 +12,6 @@ mod place;
 mod word;
 mod words;
 
-pub use command_words::{Command, Replaced, SourceFile, SourceFolder, updates, user_file};
+pub use command_words::{Command, Replaced, SourceFolder, updates, user_file};
 pub use place::{Asked, Place};
 pub use words::command;

@@ -18,6 +18,6 @@ pub struct Place {
 pub enum Asked {
     /// A command, and where its store is, if it is one on a store.
     Run { command: Command, place: Place },
-    /// To make the databases of a folder whose sources are newer; if none is named, of the one for all users.
+    /// To make the databases of a folder that are not what their sources say; if none is named, of the one for all users.
     Update { folder: Option<String> },
 }

@@ -1,3 +1,4 @@
 pub mod StreamsLeft
 pub mod Runs
 pub mod Given
+pub mod StandingLaws

@@ -74,7 +74,7 @@ module _ (es : List Event) where
   given_in (r ∷ more) zero name = either r.gave (read_of (read_content es name))
   given_in (r ∷ more) (suc n) name = given_in more n name
 
-  gave_steadily : (log : List Reading) (k : ℕ) → AreReadFrom es log → AllRead log → Gave (steady (read_content es)) k log
+  pub gave_steadily : (log : List Reading) (k : ℕ) → AreReadFrom es log → AllRead log → Gave (steady (read_content es)) k log
   gave_steadily [] k are all = tt
   gave_steadily (r ∷ more) k are all = (read are.0, gave_steadily more (k + 1) are.1 all.1)
     where

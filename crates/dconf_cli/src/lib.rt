@@ -12,7 +12,9 @@
 
 mod command_run;
 mod outcome;
+mod standing;
 
 pub use command_run::run;
 pub use dconf_args::{Asked, Command, command};
 pub use dconf_streams::{Counted, FailedRead, InputFault, read_input};
+pub use standing::is_made;

@@ -1,16 +1,21 @@
 //! The permission bits of a file that takes another's place.
-ghost use Rattle.std.specs.Prelude.{◌≡◌, ◌∷◌};
+ghost use Rattle.std.specs.Prelude.{◌≡◌, ◌∷◌, true};
 ghost use Rattle.dconf_folders.specs.SystemCalls.{given_mode};
 
 use dconf_folders::Record;
-use std::fs::{OpenFile, OpenOptions, Permissions};
+use std::fs::{Metadata, OpenFile, OpenOptions, Permissions};
 use std::io::ErrorKind;
-use std::os::unix::fs::{OpenOptionsExt, PermissionsExt};
+use std::os::unix::fs::{MetadataExt, OpenOptionsExt, PermissionsExt};
 use std::rt::Files;
 use std::{fs, io};
 
 /// Who may read, write and run a file: the owner, its group, all others.
 const PERMISSION_BITS: u32 = 0o777;
+
+/// Those of the owner, and those of all others.
+const OWNER: u32 = 0o700;
+
+const OTHERS: u32 = 0o7;
 
 /// The number of the call as it is noted, and of its answer.
 const SET_MODE: u64 = 7;
@@ -24,10 +29,18 @@ const READ_AND_WRITE: u32 = 0o600;
 pub(crate) fn open_new<R: Files>(rt: &R, name: &str) -> io::Result<R::File> {
     let mut options = OpenOptions::new();
     options.write(true).create_new(true);
-    if let Some(bits) = mode_of_replaced(rt, name)? {
-        options.mode(bits | READ_AND_WRITE);
+    let Some(old) = replaced(rt, name)? else {
+        return options.open(rt, name);
+    };
+    let bits = bits_of(&old);
+    options.mode(bits | READ_AND_WRITE);
+    let file = options.open(rt, name)?;
+    if old.gid() != file.metadata()?.gid() {
+        file.set_permissions(Permissions::from_mode(
+            bits_for(bits, false) | READ_AND_WRITE,
+        ))?;
     }
-    options.open(rt, name)
+    Ok(file)
 }
 
 /// Gives an open file of this name the permission bits of the one whose place it is to take, if there is one.
@@ -40,27 +53,46 @@ pub(crate) fn keep_mode<R: Files>(
     ensures { calls.new.notes ≡ given_mode name.now ∷ calls.old.notes }
 {
     calls.note(&[SET_MODE, DONE], name.as_bytes(), &[]);
-    let Some(bits) = mode_of_replaced(rt, name)? else {
+    let Some(old) = replaced(rt, name)? else {
         return Ok(());
     };
-    if file.metadata()?.permissions().mode() & PERMISSION_BITS == bits {
+    let new = file.metadata()?;
+    let bits = bits_for(bits_of(&old), old.gid() == new.gid());
+    if bits_of(&new) == bits {
         return Ok(());
     }
     file.set_permissions(Permissions::from_mode(bits))
 }
 
-/// The permission bits of the file whose place that of this name is to take, if there is one.
-fn mode_of_replaced<R: Files>(rt: &R, name: &str) -> io::Result<Option<u32>> {
+/// The permission bits of a file.
+fn bits_of(file: &Metadata) -> u32 {
+    file.permissions().mode() & PERMISSION_BITS
+}
+
+/// The bits of a file that takes the place of one with these. No call here gives a file another group. So where the new one's group is not
+/// the old one's, its group and all others may do what both of these might, and nobody more than before.
+fn bits_for(bits: u32, is_of_group: bool) -> u32
+    ensures same { is_of_group ≡ true → result ≡ bits }
+{
+    if is_of_group {
+        return bits;
+    }
+    let both = (bits >> 3) & bits & OTHERS;
+    (bits & OWNER) | (both << 3) | both
+}
+
+/// The file whose place that of this name is to take, if there is one.
+fn replaced<R: Files>(rt: &R, name: &str) -> io::Result<Option<Metadata>> {
     match name.strip_suffix(".new") {
-        Some(replaced) => mode_of(rt, replaced),
+        Some(old) => found(rt, old),
         None => Ok(None),
     }
 }
 
-/// The permission bits of a file, if there is one.
-fn mode_of<R: Files>(rt: &R, name: &str) -> io::Result<Option<u32>> {
+/// A file, if there is one.
+fn found<R: Files>(rt: &R, name: &str) -> io::Result<Option<Metadata>> {
     match fs::metadata(rt, name) {
-        Ok(found) => Ok(Some(found.permissions().mode() & PERMISSION_BITS)),
+        Ok(found) => Ok(Some(found)),
         Err(error) if error.kind() == ErrorKind::NotFound => Ok(None),
         Err(error) => Err(error),
     }

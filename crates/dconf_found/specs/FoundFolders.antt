@@ -4,6 +4,7 @@ use Rattle.std.specs.String.{string_bytes}
 use Rattle.dconf_model.specs.Folders.{Event, file_of, read_content}
 use Rattle.dconf_model.specs.Folders.Event.{touch}
 use Rattle.dconf_folders.specs.Notes.{events_noted, is_honest}
+use Rattle.dconf_found.specs.Everyones.{IsEveryones}
 use Rattle.dconf_found.specs.declared.found.FoundFolder.{FoundFolder}
 use Rattle.dconf_found.specs.declared.lookup.Lookup.{Lookup}
 use Rattle.std.specs.Str.{bytes_eq}
@@ -80,10 +81,16 @@ losses_of name (Some loss) = (name, loss) ∷ []
 
 -- ---- what a read gives
 
--- the profile as it is, or that of the user alone
-abbrev pub IsProfile : Bool → Option (List ℕ) → Option (List ℕ) → Type 0
-IsProfile true held given = given ≡ held
-IsProfile false held given = given ≡ Some (codes "user-db:user")
+-- the profile of all users with its databases beside it, another one as it is
+abbrev pub IsProfileFile : Bool → Option (List ℕ) → Option (List ℕ) → Type 0
+IsProfileFile is_everyones None given = given ≡ None
+IsProfileFile true (Some held) given = (text : List ℕ) × IsEveryones held text × (given ≡ Some text)
+IsProfileFile false (Some held) given = given ≡ Some held
+
+-- or that of the user alone
+abbrev pub IsProfile : Bool → Bool → Option (List ℕ) → Option (List ℕ) → Type 0
+IsProfile true is_everyones held given = IsProfileFile is_everyones held given
+IsProfile false is_everyones held given = given ≡ Some (codes "user-db:user")
 
 -- of a database what counts
 abbrev pub IsDatabaseGiven : Option (List ℕ) → Option (List ℕ) → Option Loss → Type 0
@@ -98,14 +105,14 @@ abbrev pub is_nowhere : Lookup → List ℕ → Bool
 is_nowhere lookup name = not lookup.has_folder && not (starts_with_slash name)
 
 -- by whether the name is the profile's, and whether it is nowhere
-abbrev pub IsGivenBy : Bool → Bool → Bool → Option (List ℕ) → Option (List ℕ) → Option Loss → Type 0
-IsGivenBy true nowhere has_profile held given lost = IsProfile has_profile held given × (lost ≡ None)
-IsGivenBy false true has_profile held given lost = (given ≡ None) × (lost ≡ None)
-IsGivenBy false false has_profile held given lost = IsDatabaseGiven held given lost
+abbrev pub IsGivenBy : Bool → Bool → Lookup → Option (List ℕ) → Option (List ℕ) → Option Loss → Type 0
+IsGivenBy true nowhere lookup held given lost = IsProfile lookup.has_profile lookup.is_everyones held given × (lost ≡ None)
+IsGivenBy false true lookup held given lost = (given ≡ None) × (lost ≡ None)
+IsGivenBy false false lookup held given lost = IsDatabaseGiven held given lost
 
 -- where the name has this file, a read gives this, and this is lost
 abbrev pub IsGiven : Lookup → List ℕ → Option (List ℕ) → Option (List ℕ) → Option Loss → Type 0
-IsGiven lookup name held given lost = IsGivenBy (is_profile lookup name) (is_nowhere lookup name) lookup.has_profile held given lost
+IsGiven lookup name held given lost = IsGivenBy (is_profile lookup name) (is_nowhere lookup name) lookup held given lost
 
 -- and what was lost before, with that
 abbrev pub IsLookedUp : Lookup → List ℕ → Option (List ℕ) → Option (List ℕ) → List Lost → List Lost → Type 0
@@ -113,21 +120,22 @@ IsLookedUp lookup name held given old new = (lost : Option Loss) × IsGiven look
 
 -- ---- what is too big to be read
 
-abbrev pub IsTooBigProfile : Bool → Option (List ℕ) → Type 0
-IsTooBigProfile true held = IsOverSize held
-IsTooBigProfile false held = ⊥
+-- the file, or its lines
+abbrev pub IsTooBigProfile : Bool → Bool → Option (List ℕ) → Type 0
+IsTooBigProfile true is_everyones held = IsOverSize held ⊎ ((given : Option (List ℕ)) × IsProfileFile is_everyones held given × IsOverSize given)
+IsTooBigProfile false is_everyones held = ⊥
 
 abbrev pub IsTooBigDatabase : Option (List ℕ) → Type 0
 IsTooBigDatabase None = ⊥
 IsTooBigDatabase (Some file) = IsOverSize (Some file) ⊎ IsTooBigToCount file
 
-abbrev pub IsTooBigBy : Bool → Bool → Bool → Option (List ℕ) → Type 0
-IsTooBigBy true nowhere has_profile held = IsTooBigProfile has_profile held
-IsTooBigBy false true has_profile held = ⊥
-IsTooBigBy false false has_profile held = IsTooBigDatabase held
+abbrev pub IsTooBigBy : Bool → Bool → Lookup → Option (List ℕ) → Type 0
+IsTooBigBy true nowhere lookup held = IsTooBigProfile lookup.has_profile lookup.is_everyones held
+IsTooBigBy false true lookup held = ⊥
+IsTooBigBy false false lookup held = IsTooBigDatabase held
 
 abbrev pub IsTooBigAt : Lookup → List ℕ → Option (List ℕ) → Type 0
-IsTooBigAt lookup name held = IsTooBigBy (is_profile lookup name) (is_nowhere lookup name) lookup.has_profile held
+IsTooBigAt lookup name held = IsTooBigBy (is_profile lookup name) (is_nowhere lookup name) lookup held
 
 -- ---- the folder that is shown
 

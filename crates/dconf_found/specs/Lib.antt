@@ -1,1 +1,2 @@
+pub mod Everyones
 pub mod FoundFolders

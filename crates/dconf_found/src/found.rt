@@ -38,12 +38,14 @@ impl<F: Folder> FoundFolder<F> {
     ghost use Rattle.std.specs.Prelude.{true};
     ghost use Rattle.dconf_found.specs.FoundFolders.{agrees, failures_of, inner_of, lost_of, losses};
 
-    /// The folder `inner`, with the profile in the file `profile`, or that of the user alone if there is none.
+    /// The folder `inner`, with the profile in the file `profile`, or that of the user alone if there is none. If it is that of all users
+    /// its databases of the system are files beside it.
     pub fn new(
         alloc: Global,
         inner: F,
         profile: String,
         has_profile: bool,
+        is_everyones: bool,
         has_folder: bool,
     ) -> FoundFolder<F>
         ensures inner { inner_of result ≡ inner }
@@ -57,6 +59,7 @@ impl<F: Folder> FoundFolder<F> {
             lookup: Lookup {
                 profile,
                 has_profile,
+                is_everyones,
                 has_folder,
             },
             bad: Vec::new(alloc),

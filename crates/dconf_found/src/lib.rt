@@ -1,7 +1,8 @@
 //! The folder of a store that was found for somebody: in it a bad database is no refusal. What can be saved of it counts, and
 //! what was wrong is kept to be said.
 //!
-//! A [`FoundFolder`] shows what counts of the files of another folder: the profile as it is, and of a database what [`counted`] makes of it.
+//! A [`FoundFolder`] shows what counts of the files of another folder: the profile as it is, that of all users with its
+//! databases of the system beside it, and of a database what [`counted`] makes of it.
 //! dconf_commands' commands run on it as on any. It is for one run, which reads, and then replaces a file.
 //!
 //! What can never happen: a read gives of a sound database another one, or of a bad one anything but what is saved of it; a database of
@@ -13,6 +14,7 @@
 
 mod bad;
 mod bad_databases;
+mod everyones;
 mod found;
 mod lookup;
 

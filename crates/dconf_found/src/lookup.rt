@@ -2,13 +2,14 @@
 ghost use Rattle.std.specs.Prelude.{◌≡◌, ◌≤◌, ◌++◌, List, Option, IfOk, IfSome, IsTrue, IsErrOf, OnErr, false, length, option_map, vec_items};
 ghost use Rattle.dconf_model.specs.Folders.{Event, read_content};
 ghost use Rattle.dconf_model.specs.Reads.{IsOverSize};
-ghost use Rattle.dconf_found.specs.FoundFolders.{Counts, IsTooBigToCount, IsDatabaseGiven, IsLookedUp, IsProfile, IsTooBigAt, IsTooBigDatabase, IsTooBigProfile, is_nowhere, losses, losses_of};
+ghost use Rattle.dconf_found.specs.FoundFolders.{Counts, IsTooBigToCount, IsDatabaseGiven, IsLookedUp, IsProfile, IsProfileFile, IsTooBigAt, IsTooBigDatabase, IsTooBigProfile, is_nowhere, losses, losses_of};
 ghost use Rattle.dconf_found.specs.declared.bad_databases.Loss.{Loss};
 
 use crate::bad::{BadDatabase, note};
 use crate::bad_databases::counted;
+use crate::everyones::everyones;
 use dconf_folders::{Folder, FolderFault, LARGEST_FILE};
-use std::alloc::Global;
+use std::alloc::{AllocError, Global};
 
 /// The profile where no file says another one.
 const USERS: &str = "user-db:user";
@@ -19,6 +20,8 @@ pub(crate) struct Lookup {
     /// The profile's file; it holds `user-db:user` where there is none.
     pub(crate) profile: String,
     pub(crate) has_profile: bool,
+    /// Whether it is that of all users, whose databases of the system are files beside it.
+    pub(crate) is_everyones: bool,
     /// Whether there is a folder: else only names that start with `/` may have a file.
     pub(crate) has_folder: bool,
 }
@@ -43,7 +46,7 @@ pub(crate) fn look_up<F: Folder>(
     ensures turn { F.holds_turn folder.new ≡ F.holds_turn folder.old }
 {
     if name == lookup.profile.as_str() {
-        return read_profile(alloc, folder, lookup.has_profile, name);
+        return read_profile(alloc, folder, lookup, name);
     }
     if is_nowhere(lookup, name) {
         return Ok(None);
@@ -62,22 +65,41 @@ fn is_nowhere(lookup: &Lookup, name: &str) -> bool
 fn read_profile<F: Folder>(
     alloc: Global,
     folder: &mut F,
-    has_profile: bool,
+    lookup: &Lookup,
     name: &str,
 ) -> Result<Option<Vec<u8>>, FolderFault>
     ensures gives { IsTrue (F.honest folder.new) → (es : List Event) → F.past folder.old es → IfOk result (λ found.
-        IsProfile has_profile (read_content es name.now) (option_map vec_items found)) }
+        IsProfile lookup.now.has_profile lookup.now.is_everyones (read_content es name.now) (option_map vec_items found)) }
     ensures too_big { IsTrue (F.honest folder.new) → (es : List Event) → F.past folder.old es → IsErrOf result FolderFault.TooBig →
-        IsTooBigProfile has_profile (read_content es name.now) }
+        IsTooBigProfile lookup.now.has_profile lookup.now.is_everyones (read_content es name.now) }
     ensures size { IfOk result (λ found. IfSome found (λ v. length v.items ≤ LARGEST_FILE)) }
     ensures past { (es : List Event) → F.past folder.old es → F.past folder.new es }
     ensures honest { IsTrue (F.honest folder.new) → IsTrue (F.honest folder.old) }
     ensures turn { F.holds_turn folder.new ≡ F.holds_turn folder.old }
 {
-    if has_profile {
-        return folder.read(alloc, name);
+    if !lookup.has_profile {
+        return Ok(Some(USERS.as_bytes().to_vec(alloc)?));
     }
-    Ok(Some(USERS.as_bytes().to_vec(alloc)?))
+    let found = folder.read(alloc, name)?;
+    let shown = profile_file(alloc, lookup.is_everyones, found)?;
+    if is_too_big(&shown) {
+        return Err(FolderFault::TooBig);
+    }
+    Ok(shown)
+}
+
+/// What is read of the profile's file.
+fn profile_file(
+    alloc: Global,
+    is_everyones: bool,
+    found: Option<Vec<u8>>,
+) -> Result<Option<Vec<u8>>, AllocError>
+    ensures { IfOk result (λ given. IsProfileFile is_everyones (option_map vec_items found) (option_map vec_items given)) }
+{
+    match found {
+        Some(bytes) if is_everyones => Ok(Some(everyones(alloc, bytes)?)),
+        found => Ok(found),
+    }
 }
 
 /// What counts of a database's file.

@@ -34,6 +34,7 @@ pub mod Replacing
 pub mod Salvaging
 pub mod Commands
 pub mod Updates
+pub mod Made
 pub mod Reads
 pub mod Outcomes
 pub mod Runs

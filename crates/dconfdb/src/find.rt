@@ -11,6 +11,9 @@ const OWN_PROFILE: &str = "profile";
 
 const EVERYONES: &str = "/etc/dconfdb/profile";
 
+/// The folder of that profile, in which its databases of the system are.
+pub(crate) const EVERYONES_FOLDER: &str = "/etc/dconfdb";
+
 const NAMED: &str = "/etc/dconfdb/profiles";
 
 /// A folder that is made is its user's alone.
@@ -21,12 +24,21 @@ const OWN: u32 = 0o700;
 pub(crate) struct Found {
     /// Its absolute path.
     pub(crate) folder: String,
-    /// The file of the profile.
+    /// The whole path of the file of the profile.
     pub(crate) profile: String,
     /// Whether there is one; else the profile is that of the user alone.
     pub(crate) has_profile: bool,
     /// Whether there is a folder.
     pub(crate) has_folder: bool,
+    /// Whether the folder was given by a word: then all its databases are there.
+    is_given: bool,
+}
+
+impl Found {
+    /// Whether the databases of the system that its profile names are beside that: it is the one of all users, and the folder the user's.
+    pub(crate) fn is_everyones(&self) -> bool {
+        self.profile.as_str() == EVERYONES && !self.is_given
+    }
 }
 
 /// Why there is none.
@@ -57,6 +69,7 @@ pub(crate) fn enter(rt: &HostRuntime, place: Place, makes: bool) -> Result<Found
         folder,
         profile,
     } = place;
+    let is_given = folder.is_some();
     let folder = match folder {
         Some(_) if is_users => return Err(NotFound::Both),
         Some(folder) => absolute(rt, folder)?,
@@ -71,8 +84,9 @@ pub(crate) fn enter(rt: &HostRuntime, place: Place, makes: bool) -> Result<Found
             profile,
             has_profile: true,
             has_folder,
+            is_given,
         }),
-        None => with_own_profile(rt, folder, has_folder),
+        None => with_own_profile(rt, folder, has_folder, is_given),
     }
 }
 
@@ -104,14 +118,25 @@ fn named_profile(rt: &HostRuntime, word: Option<String>) -> Result<Option<String
 }
 
 /// The profile in the folder, else that of all users, else that of the user alone.
-fn with_own_profile(rt: &HostRuntime, folder: String, has_folder: bool) -> Result<Found, NotFound> {
+fn with_own_profile(
+    rt: &HostRuntime,
+    folder: String,
+    has_folder: bool,
+    is_given: bool,
+) -> Result<Found, NotFound> {
+    let alloc = rt.alloc();
     let is_own = has_folder && is_there(rt, OWN_PROFILE);
-    let name = if is_own { OWN_PROFILE } else { EVERYONES };
+    let profile = if is_own {
+        format!(in alloc; "{folder}/{OWN_PROFILE}")?
+    } else {
+        String::from_str(alloc, EVERYONES)?
+    };
     Ok(Found {
         folder,
-        profile: String::from_str(rt.alloc(), name)?,
+        profile,
         has_profile: is_own || is_there(rt, EVERYONES),
         has_folder,
+        is_given,
     })
 }
 

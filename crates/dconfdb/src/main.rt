@@ -4,6 +4,7 @@
 mod find;
 mod keep;
 mod messages;
+mod named;
 mod runs;
 mod sources;
 mod updates;

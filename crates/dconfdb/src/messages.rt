@@ -1,8 +1,9 @@
 //! What is said on err of what `main` itself finds, and the statuses that it gives.
 use crate::find::NotFound;
 use dconf_found::BadDatabase;
-use dconfdb_calls::{BadFile, Fault};
-use std::fmt::Display;
+use dconfdb_calls::{BadFile, Fate, Fault};
+use std::fmt::{self, Display};
+use std::io;
 
 /// The status of a command that is refused.
 pub(crate) const REFUSED: u8 = 1;
@@ -48,34 +49,50 @@ pub(crate) fn refuse_place(rt: &HostRuntime, fault: NotFound) -> u8 {
 }
 
 /// Says on err what was wrong with a database in a folder, and what counts of it, as the library for C says it.
-pub(crate) fn say_bad(rt: &HostRuntime, folder: &str, bad: &BadDatabase) {
+pub(crate) fn warn_of_bad(
+    rt: &HostRuntime,
+    folder: &str,
+    bad: &BadDatabase,
+    is_first: bool,
+) -> io::Result<()> {
     let name = bad.name.as_str();
     let (start, between) = if name.starts_with('/') {
         ("", "")
     } else {
         (folder, "/")
     };
-    let _ = eprint!(rt; "error: {start}{between}{name}: ");
-    say_fault(rt, bad.loss.bad);
-    if bad.loss.keys == 0 && bad.loss.locks == 0 {
-        let _ = eprintln!(rt; "; kept nothing of it");
-    } else {
-        let _ = eprintln!(rt;
-            "; kept {} keys, {} locks of it",
-            bad.loss.keys, bad.loss.locks
-        );
-    }
+    let wrong = Wrong(bad.loss.bad);
+    let fate = Fate {
+        keys: bad.loss.keys,
+        locks: bad.loss.locks,
+        is_first,
+        is_aside: false,
+    };
+    eprintln!(rt; "warning: {start}{between}{name}: {wrong}{fate}")
 }
 
-/// What is wrong with a file, and if it breaks a rule, which, and at which item.
-fn say_fault(rt: &HostRuntime, bad: BadFile) {
-    let broken = bad.unsound;
-    if bad.fault != Fault::Unsound {
-        let _ = eprint!(rt; "{}", bad.fault.text());
-        return;
-    }
-    let _ = eprint!(rt; "the database breaks the rule S{}", broken.rule);
-    if broken.has_item {
-        let _ = eprint!(rt; ", at item {}", broken.item);
+/// Says on err that the profile in a folder names a database of the system which isn't beside it.
+pub(crate) fn warn_of_missing(rt: &HostRuntime, folder: &str, name: &str) -> io::Result<()> {
+    eprintln!(rt; "warning: {folder}/profile names system-db:{name}, and there is no {folder}/{name}.db")
+}
+
+/// What is wrong with a file. It is printed with the rule that it breaks, if it breaks one, and the item.
+#[derive(Clone, Copy)]
+struct Wrong(BadFile);
+
+impl fmt::Display for Wrong {
+    fn fmt<W: fmt::Write>(&self, f: &mut fmt::Formatter<W>) -> fmt::Result {
+        let broken = self.0.unsound;
+        if self.0.fault != Fault::Unsound {
+            return f.write_str(self.0.fault.text());
+        }
+        if broken.has_item {
+            return write!(
+                f,
+                "the database breaks the rule S{}, at item {}",
+                broken.rule, broken.item
+            );
+        }
+        write!(f, "the database breaks the rule S{}", broken.rule)
     }
 }

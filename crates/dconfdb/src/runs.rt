@@ -10,14 +10,18 @@ ghost use Rattle.dconf_streams.specs.Streams.{NoneFailed};
 ghost use Rattle.dconf_found.specs.FoundFolders as found;
 ghost use Rattle.dconf_found.specs.FoundFolders.{IsPast, agrees, inner_of};
 
-use crate::find::{Found, NotFound, enter};
+use crate::find::{EVERYONES_FOLDER, Found, NotFound, enter};
 use crate::keep::{forget, keep};
-use crate::messages::{REFUSED, refuse, refuse_device, refuse_memory, refuse_place, say_bad};
+use crate::messages::{
+    REFUSED, refuse, refuse_device, refuse_memory, refuse_place, warn_of_bad,
+};
+use crate::named::{first_file, warn_of_missing_ones};
 use dconf_args::{Command, Place, Replaced, user_file};
 use dconf_cli::{Counted, run};
 use dconf_disk::{Folder, FolderFault, FolderLock, LockFault, StdFolder, folder_of};
-use dconf_found::FoundFolder;
+use dconf_found::{BadDatabase, FoundFolder};
 use std::alloc::AllocError;
+use std::io;
 
 /// Runs the command where its store is.
 pub(crate) fn run_at(rt: &HostRuntime, asked: Command, place: Place) -> u8 {
@@ -64,7 +68,10 @@ fn run_found(rt: &HostRuntime, asked: Command, found: Found) -> u8 {
     match FolderLock::take(rt, rt.alloc(), ".") {
         Ok(lock) => change_found(rt, asked, StdFolder::in_turn(rt, lock), &found),
         Err(LockFault::Busy) => match users_file(rt, &found) {
-            Ok(name) => refuse_busy_file(rt, name.as_str()),
+            Ok(name) => match whole_path(rt, found.folder.as_str(), name) {
+                Ok(path) => refuse_busy_file(rt, path.as_str()),
+                Err(_) => refuse_memory(rt),
+            },
             Err(_) => refuse_memory(rt),
         },
         Err(LockFault::Memory) => refuse_memory(rt),
@@ -83,10 +90,28 @@ fn read_found(
         return refuse_memory(rt);
     };
     let status = run_within(rt, asked, &mut folder);
-    for bad in folder.bad() {
-        say_bad(rt, found.folder.as_str(), bad);
+    match warn(rt, folder.bad(), found) {
+        Ok(()) => status,
+        Err(_) => REFUSED,
     }
-    status
+}
+
+/// Says what nobody would learn from the status alone. What can't be said is a refusal.
+fn warn(rt: &HostRuntime, bad: &[BadDatabase], found: &Found) -> io::Result<()> {
+    let first = match bad.first() {
+        Some(_) => first_file(rt, found)?,
+        None => None,
+    };
+    let mut may_be_first = true;
+    for database in bad {
+        let is_first = may_be_first && first.as_deref() == Some(database.name.as_str());
+        warn_of_bad(rt, found.folder.as_str(), database, is_first)?;
+        may_be_first = false;
+    }
+    if found.is_everyones() && found.has_profile {
+        warn_of_missing_ones(rt, EVERYONES_FOLDER, EVERYONES_FOLDER)?;
+    }
+    Ok(())
 }
 
 fn found_folder<'a>(
@@ -100,6 +125,7 @@ fn found_folder<'a>(
         folder,
         profile,
         found.has_profile,
+        found.is_everyones(),
         found.has_folder,
     ))
 }
@@ -120,13 +146,29 @@ fn change_found(
     let kept = match keep(rt, name.as_str()) {
         Ok(kept) => kept,
         Err(FolderFault::Memory) => return refuse_memory(rt),
-        Err(_) => return refuse_device(rt, name.as_str()),
+        Err(_) => return refuse_kept(rt, found, name),
     };
     let status = read_found(rt, asked, folder, found);
     if let Some(other) = kept {
         forget(rt, name.as_str(), other.as_str());
     }
     status
+}
+
+/// Says on err that the user's bad file couldn't be kept under another name.
+fn refuse_kept(rt: &HostRuntime, found: &Found, name: String) -> u8 {
+    match whole_path(rt, found.folder.as_str(), name) {
+        Ok(path) => refuse_device(rt, path.as_str()),
+        Err(_) => refuse_memory(rt),
+    }
+}
+
+/// The whole path of a file in a store's folder.
+fn whole_path(rt: &HostRuntime, folder: &str, name: String) -> Result<String, AllocError> {
+    if name.starts_with('/') {
+        return Ok(name);
+    }
+    format!(in rt.alloc(); "{folder}/{}", name.as_str())
 }
 
 /// The name of the user's file of a store, or of its profile where it has none.

@@ -1,19 +1,29 @@
-//! `update [FOLDER]`: the databases whose sources are newer, each made by `compile`.
+//! `update [FOLDER]`: the databases that are not what their sources say, each made by `compile`.
 use crate::messages::{REFUSED, refuse, refuse_device, refuse_memory};
+use crate::named::warn_of_missing_ones;
 use crate::runs::run_in_turn;
 use crate::sources::{Unread, is_folder, names_in, source_folder};
-use dconf_args::{Command, updates};
+use dconf_args::{Command, Replaced, updates};
+use dconf_cli::{Counted, is_made};
+use dconf_disk::StdFolder;
 use std::env;
+use std::fs;
 use std::io::ErrorKind;
 
 /// The folder where none is named.
 const EVERYONES: &str = "/etc/dconfdb";
 
-/// Makes the databases of a folder that are due.
+/// Makes the databases of a folder that are not what their sources say.
 pub(crate) fn update(rt: &HostRuntime, folder: Option<String>) -> u8 {
     let folder = folder.as_deref().unwrap_or(EVERYONES);
     match env::set_current_dir(rt, folder) {
-        Ok(()) => update_here(rt, folder),
+        Ok(()) => {
+            let status = update_here(rt, folder);
+            match warn_of_missing_ones(rt, ".", folder) {
+                Ok(()) => status,
+                Err(_) => REFUSED,
+            }
+        }
         Err(error) if error.kind() == ErrorKind::NotFound => {
             refuse(rt, format_args!("NoFile {folder}"));
             REFUSED
@@ -51,7 +61,7 @@ fn database_of<'a>(rt: &HostRuntime, name: &'a str) -> Option<&'a str> {
     Some(database)
 }
 
-/// Makes the database of one folder, if it is due.
+/// Makes the database of one folder, if it isn't made.
 fn update_one(rt: &HostRuntime, name: &str) -> u8 {
     match source_folder(rt, name) {
         Ok(folder) => match updates(rt.alloc(), &[folder]) {
@@ -67,7 +77,34 @@ fn update_one(rt: &HostRuntime, name: &str) -> u8 {
 fn run_each(rt: &HostRuntime, commands: Vec<Command>) -> u8 {
     let mut status = 0;
     for command in commands {
-        status |= run_in_turn(rt, command);
+        status |= run_if_due(rt, command);
     }
     status
+}
+
+/// Runs a command, unless its file holds already what it would be given: then nothing is written, and nobody is told of a change.
+///
+/// No time is asked for: what was saved while a database was made, or has an older time, is told by what it says.
+fn run_if_due(rt: &HostRuntime, command: Command) -> u8 {
+    if !has_file(rt, &command) {
+        return run_in_turn(rt, command);
+    }
+    let mut folder = StdFolder::read_only(rt);
+    let mut input = Counted::new(rt.stdin());
+    match is_made(rt.alloc(), &command, &mut folder, &mut input) {
+        Ok(true) => 0,
+        Ok(false) => run_in_turn(rt, command),
+        Err(_) => refuse_memory(rt),
+    }
+}
+
+/// Whether a file has the name of the one that the command replaces. What is no regular file is not read: that may never end.
+fn has_file(rt: &HostRuntime, command: &Command) -> bool {
+    let Some(Replaced::File(name)) = command.replaced() else {
+        return false;
+    };
+    match fs::metadata(rt, name) {
+        Ok(found) => found.is_file(),
+        Err(_) => false,
+    }
 }

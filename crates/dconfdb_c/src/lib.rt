@@ -6,6 +6,7 @@
 
 mod change;
 mod due;
+mod fates;
 mod get;
 mod list;
 mod look;

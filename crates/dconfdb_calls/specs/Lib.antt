@@ -12,3 +12,4 @@ pub mod Keyless
 pub mod Changed
 pub mod Turns
 pub mod Since
+pub mod Fates

@@ -18,6 +18,7 @@
 mod changes;
 mod compare;
 mod differences;
+mod fates;
 mod fault;
 mod given;
 mod keyless;
@@ -34,6 +35,7 @@ mod values;
 pub use changes::{DconfdbChange, Refused, user_file};
 pub use compare::is_stored;
 pub use differences::{differing_keys, keys_differing_first};
+pub use fates::Fate;
 pub use fault::Fault;
 pub use given::hand_out;
 pub use keyless::keyless_file;

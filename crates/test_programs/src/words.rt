@@ -1,7 +1,7 @@
 //! What the command of a line replaces, where its store is, the user's file of a profile, and what an update makes.
 use crate::questions::RowsOf;
 use crate::script::words_of;
-use dconf_args::{Asked, SourceFile, SourceFolder, command, updates, user_file};
+use dconf_args::{Asked, SourceFolder, command, updates, user_file};
 use std::alloc::{AllocError, Global};
 use std::fmt::Write;
 use std::test::Fail;
@@ -91,31 +91,24 @@ fn names_the_users_file(rt: HostRuntime) -> Result<(), Fail> {
     Ok(())
 }
 
-fn source(alloc: Global, name: &str, changed: u64) -> Result<SourceFile, AllocError> {
-    let name = String::from_str(alloc, name)?;
-    Ok(SourceFile { name, changed })
-}
-
-/// Made at 5, with a hidden keyfile, and a lock file that was changed then.
-fn site(alloc: Global, changed: u64) -> Result<SourceFolder, AllocError> {
+/// With a hidden keyfile, and a lock file.
+fn folder(alloc: Global, name: &str) -> Result<SourceFolder, AllocError> {
     let mut keyfiles = Vec::new(alloc);
-    keyfiles.push(source(alloc, "a", 2)?)?;
-    keyfiles.push(source(alloc, ".b", 9)?)?;
+    keyfiles.push(String::from_str(alloc, "a")?)?;
+    keyfiles.push(String::from_str(alloc, ".b")?)?;
     let mut locks = Vec::new(alloc);
-    locks.push(source(alloc, "l", changed)?)?;
+    locks.push(String::from_str(alloc, "l")?)?;
     Ok(SourceFolder {
-        name: String::from_str(alloc, "site")?,
-        made: Some(5),
-        changed: 3,
+        name: String::from_str(alloc, name)?,
         keyfiles,
         locks,
     })
 }
 
 #[test]
-fn makes_what_is_newer(rt: HostRuntime) -> Result<(), Fail> {
+fn makes_what_is_shown(rt: HostRuntime) -> Result<(), Fail> {
     let alloc = rt.alloc();
-    let commands = updates(alloc, &[site(alloc, 5)?, site(alloc, 6)?])?;
+    let commands = updates(alloc, &[folder(alloc, ".x")?, folder(alloc, "site")?])?;
     let text = format!(in alloc; "{commands:?}")?;
     let wanted =
         r#"[Compile { out: "site.db", locks: ["site.d/locks/l"], keyfiles: ["site.d/a"] }]"#;

@@ -9,7 +9,7 @@ complete -c dconfdb -n __fish_use_subcommand -f -a origin -d 'Print which databa
 complete -c dconfdb -n __fish_use_subcommand -f -a explain -d 'Print what each database has for KEY, what is seen, and whether it can be set'
 complete -c dconfdb -n __fish_use_subcommand -f -a list-locks -d 'List the locks on DIR and on paths below it'
 complete -c dconfdb -n __fish_use_subcommand -f -a compile -d 'Compile keyfiles into the database OUT'
-complete -c dconfdb -n __fish_use_subcommand -f -a update -d 'Compile the databases in FOLDER whose sources are newer'
+complete -c dconfdb -n __fish_use_subcommand -f -a update -d 'Compile the databases in FOLDER that are not what their sources say'
 complete -c dconfdb -n __fish_use_subcommand -f -a check -d 'Check that FILE is a sound database'
 complete -c dconfdb -n __fish_use_subcommand -f -a repair -d 'Rebuild a sound database OUT from what can be read of FILE'
 complete -c dconfdb -n __fish_use_subcommand -f -a show -d 'Print the bytes of FILE as a GVariant value of type TYPE'

@@ -1,7 +1,6 @@
 use Rattle.std.proofs.Common.{◌≡◌, map, string_bytes, take}
 use Rattle.dconf_model.specs.Updates.{sources_in}
-use Rattle.command_words.specs.Updates.{file_of}
 use Rattle.command_words.proofs.sources.sources_in.Given as goal
 
 abbrev pub invariant-loop-file : goal.invariant-loop-file
-invariant-loop-file l = map string_bytes l.names.items ≡ sources_in l.start (map file_of (take l.file-index l.files))
+invariant-loop-file l = map string_bytes l.names.items ≡ sources_in l.start (map string_bytes (take l.file-index l.files))
