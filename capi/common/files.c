@@ -383,3 +383,28 @@ int replacing_remove(const Replacing *it)
 {
     return unlinkat(it->folder, it->new_name, 0) != 0 && errno != ENOENT ? errno : 0;
 }
+
+/* A file is opened only to be synced: nobody waits for a pipe's writer. */
+static int settle_at(int folder, const char *name, int flags)
+{
+    int fault = 0, file = openat(folder, name, O_RDONLY | O_NONBLOCK | O_NOCTTY | O_CLOEXEC | flags);
+    if (file < 0)
+        return errno == ENOENT ? 0 : errno;
+    if (fsync(file) != 0)
+        fault = errno;
+    close(file);
+    return fault;
+}
+
+int replacing_settle(const Replacing *it)
+{
+    if (it->is_unsynced)
+        return 0;
+    int fault = settle_at(it->folder, it->name, 0);
+    return fault != 0 ? fault : replacing_sync_folder(it);
+}
+
+int folder_settle(const char *folder)
+{
+    return settle_at(AT_FDCWD, folder, O_DIRECTORY);
+}
