@@ -87,7 +87,7 @@ int replacing_remove(const Replacing *it);
 /* What the name is gets to the disk, if there is such a file, and the folder's names. */
 int replacing_settle(const Replacing *it);
 
-/* A folder's names get to the disk. A missing one is not an error. */
-int folder_settle(const char *folder);
+/* The same of a file of a folder, or of no file (NULL). A missing one is not an error. */
+int folder_settle(const char *folder, const char *name);
 
 #endif

@@ -1664,14 +1664,26 @@ bool refuse_lock(const DconfdbStore *store, int fault, DconfdbError *error)
     return refuse(error, DCONFDB_ERROR_BUSY, 0, nowhere, "%s: others have been changing it for %d ms", name, wait);
 }
 
-/* That there is no file is on the disk, too. */
-static bool settle_nothing(const DconfdbStore *store, DconfdbError *error)
+/* What the user's file is, or that there is none, gets to the disk, whoever wrote it. */
+static bool settle_own(const DconfdbStore *store, const char *name, DconfdbError *error)
 {
-    int fault = store->user_file && !store->options.is_unsynced ? folder_settle(store->place.folder) : 0;
+    int fault = store->user_file && !store->options.is_unsynced ? folder_settle(store->place.folder, name) : 0;
     if (fault == 0)
         return true;
-    refuse_file(error, fault, store->place.folder, nowhere);
-    return refuse_outcome(error, DCONFDB_TURN_UNSYNCED, store->place.folder);
+    refuse_file(error, fault, user_file_or_folder(store), nowhere);
+    return refuse_outcome(error, DCONFDB_TURN_UNSYNCED, user_file_or_folder(store));
+}
+
+bool settle_store(DconfdbStore *store, DconfdbError *error)
+{
+    FileState state;
+    pthread_mutex_lock(&store->refreshing);
+    Part *own = store->user_file ? store->now->parts[0] : NULL;
+    bool done = !own || own->is_settled || settle_own(store, own_name(store), error);
+    if (done && own && !own->is_settled)
+        own->is_settled = !store->options.is_unsynced && file_look(store->user_file, &state) == 0 && file_is_same(&own->state, &state);
+    pthread_mutex_unlock(&store->refreshing);
+    return done;
 }
 
 /* No file is to be made: only why a change is at fault has to be said, and which edit. */
@@ -1685,7 +1697,7 @@ static bool change_nothing(DconfdbStore *store, const Asking *asking, DconfdbErr
     if (!done)
         return false;
     file_release(&file);
-    return settle_nothing(store, error);
+    return settle_own(store, NULL, error);
 }
 
 /* `lock` is NULL where no file is to be made. */
