@@ -3,9 +3,9 @@
 //!
 //! What is read is whole, or nothing; and no bytes say two things. Nothing is opened here.
 //!
+//! Where `head` is of a turn at 7 that left no file, and `set` a note of `/user/desk/size`:
+//!
 //! ```
-//! let head = DconfdbTime { path: b"", when: 7, value: 0 };
-//! let set = DconfdbTime { path: b"/user/desk/size", when: 5, value: 3 };
 //! let bytes = notes_written(alloc, &[head, set], 100, 1000)?;
 //! let read = notes_read(alloc, bytes.as_slice())?;
 //! let len = read.map(|notes| notes.len());
