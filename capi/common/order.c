@@ -248,14 +248,27 @@ bool order_read(Order *order, int lock)
     return true;
 }
 
-bool order_has_left(const Order *order, const char *name, const FileState *file)
+/* The newest note of a file that was left so, or NULL. */
+static const DconfdbTime *note_of_left(const Order *order, const char *name, const FileState *file)
 {
     char room[LEFT_SIZE];
     DconfdbBytes sought = left_path(room, name, file);
-    bool has = false;
-    for (size_t i = 0; !has && i < order->left; i++)
-        has = is_same_path(&order->notes[1 + i].path, &sought);
-    return has && file->is_there;
+    for (size_t i = 0; file->is_there && i < order->left; i++) {
+        if (is_same_path(&order->notes[1 + i].path, &sought))
+            return &order->notes[1 + i];
+    }
+    return NULL;
+}
+
+bool order_has_left(const Order *order, const char *name, const FileState *file)
+{
+    return note_of_left(order, name, file) != NULL;
+}
+
+bool order_is_synced(const Order *order, const char *name, const FileState *file)
+{
+    const DconfdbTime *left = note_of_left(order, name, file);
+    return left && left->value == 1;
 }
 
 /* A directory of which all was reset, and the path is below it. */
@@ -306,11 +319,11 @@ bool order_note(Order *order, const DconfdbTime *times, size_t count)
 /* ---- written anew */
 
 /* Those of the lock's file, in front of which the newest of the files stands that were left. */
-static size_t with_left(const Order *order, DconfdbTime *all, const DconfdbBytes *newest)
+static size_t with_left(const Order *order, DconfdbTime *all, const DconfdbBytes *newest, bool is_synced)
 {
     size_t count = 1;
     if (newest->len > 0)
-        all[count++] = (DconfdbTime){*newest, order->now, 0};
+        all[count++] = (DconfdbTime){*newest, order->now, is_synced};
     for (size_t i = 0; i < order->left && count <= MOST_LEFT; i++)
         all[count++] = order->notes[1 + i];
     all[0] = (DconfdbTime){DCONFDB_NOTHING, order->moment, count - 1};
@@ -346,7 +359,7 @@ static size_t bytes_of_notes(Order *order, const DconfdbTime *all, size_t count)
     return len;
 }
 
-void order_write(Order *order, int lock, const char *name, const FileState *left)
+void order_write(Order *order, int lock, const char *name, const FileState *left, bool is_synced)
 {
     char room[LEFT_SIZE];
     DconfdbBytes newest = left_path(room, name, left);
@@ -355,7 +368,7 @@ void order_write(Order *order, int lock, const char *name, const FileState *left
     DconfdbTime *all = malloc((2 + order->left + order->count) * sizeof *all);
     if (!all)
         return;
-    size_t len = bytes_of_notes(order, all, with_left(order, all, &newest));
+    size_t len = bytes_of_notes(order, all, with_left(order, all, &newest, is_synced));
     free(all);
     if (len > 0)
         put_in_file(order, lock, len);

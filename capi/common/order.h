@@ -54,14 +54,17 @@ DconfdbTime *order_guess(Order *order, const DconfdbBytes *path);
 /* Whether who left the file of that name so noted what it changed. */
 bool order_has_left(const Order *order, const char *name, const FileState *file);
 
+/* Whether who left it so noted, too, that it is on the disk. */
+bool order_is_synced(const Order *order, const char *name, const FileState *file);
+
 /* Notes that these were set, too: as long as the order is used the paths stay. False: no memory is left. */
 bool order_note(Order *order, const DconfdbTime *times, size_t count);
 
 /* Whether what a file has at a path, a number for it, is what was left there by who noted it. */
 bool order_has_value(const Order *order, const DconfdbBytes *path, uint64_t value);
 
-/* Writes it, with the file of that name as it is left now. Where it fails, nothing is noted. */
-void order_write(Order *order, int lock, const char *name, const FileState *left);
+/* Writes it, with the file of that name as it is left now, and whether it is on the disk. Where it fails, nothing is noted. */
+void order_write(Order *order, int lock, const char *name, const FileState *left, bool is_synced);
 
 void order_end(Order *order);
 

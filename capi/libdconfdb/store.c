@@ -14,6 +14,7 @@
 #include "repair.h"
 
 #include <errno.h>
+#include <fcntl.h>
 #include <pthread.h>
 #include <stddef.h>
 #include <pwd.h>
@@ -1520,6 +1521,12 @@ static bool make_newer(Changing *it, size_t *len)
     return it->newer != NULL;
 }
 
+/* Whether this store, or who left it, brought it to the disk. */
+static bool is_known_settled(const Changing *it, const Part *own)
+{
+    return own->is_settled || order_is_synced(it->order, own_name(it->store), &own->state);
+}
+
 /* What others are to know of it. */
 static void note(Changing *it)
 {
@@ -1530,7 +1537,8 @@ static void note(Changing *it)
         asking->times[i].value = value_in(now, asking->changes[i].path.at, asking->changes[i].path.len);
     if (is_made && !order_note(it->order, asking->times, asking->count))
         return;
-    order_write(it->order, it->lock->file, own_name(it->store), &now->parts[0]->state);
+    const Part *own = now->parts[0];
+    order_write(it->order, it->lock->file, own_name(it->store), &own->state, is_known_settled(it, own));
     forget_seen(it->store);
     if (is_made && asking->count > 0)
         it->store->noted = asking->times[asking->count - 1].when;
@@ -1542,12 +1550,20 @@ static int append(const Changing *it, size_t at, size_t *count)
     return replacing_append(it->replacing, bytes->at + at, bytes->len - at, count);
 }
 
-/* What this store has brought to the disk itself is there. */
 static int settle(Changing *it)
 {
     Part *own = it->store->now->parts[0];
-    int fault = own->is_settled ? 0 : replacing_settle(it->replacing);
-    own->is_settled = fault == 0 && !it->replacing->is_unsynced;
+    bool is_known = is_known_settled(it, own);
+    int fault = is_known ? 0 : replacing_settle(it->replacing);
+    own->is_settled = is_known || (fault == 0 && !it->replacing->is_unsynced);
+    return fault;
+}
+
+/* And then the new file is on the disk. */
+static int sync_folder(Changing *it)
+{
+    int fault = replacing_sync_folder(it->replacing);
+    it->newer->parts[0]->is_settled = fault == 0 && !it->replacing->is_unsynced;
     return fault;
 }
 
@@ -1561,7 +1577,7 @@ static int on_disk(Changing *it, const DconfdbStep *step, size_t *n)
     case DCONFDB_TURN_SET_ASIDE: return replacing_set_aside(it->replacing, n);
     case DCONFDB_TURN_EXCHANGE: return replacing_exchange(it->replacing);
     case DCONFDB_TURN_RENAME: return replacing_rename(it->replacing);
-    case DCONFDB_TURN_SYNC_FOLDER: return replacing_sync_folder(it->replacing);
+    case DCONFDB_TURN_SYNC_FOLDER: return sync_folder(it);
     case DCONFDB_TURN_REMOVE: return replacing_remove(it->replacing);
     case DCONFDB_TURN_SETTLE: return settle(it);
     default: return 0;
@@ -1590,7 +1606,6 @@ static bool end(Changing *it, uint32_t outcome, uint32_t fault)
 {
     if (outcome == DCONFDB_TURN_MADE || outcome == DCONFDB_TURN_UNSETTLED) {
         Part *part = it->newer->parts[0];
-        part->is_settled = outcome == DCONFDB_TURN_MADE && !it->replacing->is_unsynced;
         if (part->fault && it->replacing->is_aside) {
             part->fault->aside = it->replacing->aside;
             it->replacing->aside = NULL;
@@ -1674,14 +1689,28 @@ static bool settle_own(const DconfdbStore *store, const char *name, DconfdbError
     return refuse_outcome(error, DCONFDB_TURN_UNSYNCED, user_file_or_folder(store));
 }
 
+/* Whether who left the file noted that it is on the disk. Nobody waits for the lock: notes that others write meanwhile are not whole. */
+static bool is_noted_settled(DconfdbStore *store, const Part *own)
+{
+    char *lock = joined(store->place.folder, "/", LOCK_NAME);
+    int file = lock ? open(lock, O_RDONLY | O_NONBLOCK | O_NOCTTY | O_CLOEXEC) : -1;
+    free(lock);
+    if (file < 0)
+        return false;
+    bool is = order_read(&store->order, file) && order_is_synced(&store->order, own_name(store), &own->state);
+    close(file);
+    return is;
+}
+
 bool settle_store(DconfdbStore *store, DconfdbError *error)
 {
     FileState state;
     pthread_mutex_lock(&store->refreshing);
     Part *own = store->user_file ? store->now->parts[0] : NULL;
-    bool done = !own || own->is_settled || settle_own(store, own_name(store), error);
-    if (done && own && !own->is_settled)
-        own->is_settled = !store->options.is_unsynced && file_look(store->user_file, &state) == 0 && file_is_same(&own->state, &state);
+    bool is_known = !own || own->is_settled || is_noted_settled(store, own);
+    bool done = is_known || settle_own(store, own_name(store), error);
+    if (own && done)
+        own->is_settled = is_known || (!store->options.is_unsynced && file_look(store->user_file, &state) == 0 && file_is_same(&own->state, &state));
     pthread_mutex_unlock(&store->refreshing);
     return done;
 }
