@@ -29,6 +29,7 @@ void dconfdb_queue_answered(void *queue, void *edits, size_t count, uint32_t ans
 void dconfdb_wait_begin(void *wait, uint32_t longest);
 void dconfdb_wait_answered(void *wait, uint32_t answer, uint64_t passed, uint32_t fault);
 
+uint32_t dconfdb_notes_written(const void *notes, size_t n, size_t most, size_t most_bytes, uint8_t *room, size_t room_len, size_t *len);
 bool dconfdb_is_overtaken(const void *times, size_t n, const uint8_t *path, size_t path_len, uint64_t when, uint64_t now);
 
 /* How many bytes a field takes: a bool, a uint32_t, a size_t or pointer, and bytes that are lent. */
