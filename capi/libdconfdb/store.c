@@ -1056,12 +1056,25 @@ static bool have_same_locks(const DconfdbSnapshot *one, const DconfdbSnapshot *o
     return have;
 }
 
+/* Whether a file that was mapped was written over in place: nobody has its old bytes any more, and they may be cut off. */
+static bool is_written_over(const DconfdbSnapshot *before, const DconfdbSnapshot *after)
+{
+    bool is = false;
+    for (size_t i = 0; !is && i < before->count; i++) {
+        const FileState *old = &before->parts[i]->state, *new = &after->parts[i]->state;
+        is = before->parts[i] != after->parts[i] && before->parts[i]->bytes.is_mapped && old->inode == new->inode && old->device == new->device;
+    }
+    return is;
+}
+
 /* Whether a key is seen otherwise, or may be set or not, or a file can be read or not. */
 static bool is_news(const DconfdbSnapshot *before, const DconfdbSnapshot *after)
 {
     size_t len = 0;
     uint8_t room[1];
-    if (before->is_writable != after->is_writable || !have_same_faults(before, after) || !have_same_locks(before, after))
+    if (before->is_writable != after->is_writable || !have_same_faults(before, after))
+        return true;
+    if (is_written_over(before, after) || !have_same_locks(before, after))
         return true;
     return lists_differences(after, before, room, 0, &len) != DCONFDB_OK || len > 0;
 }
