@@ -59,7 +59,7 @@ fn records_read<'a>(
     ensures some { IfOk result (λ read. IfSome read (λ r. (bytes.now ≡ records_bytes (map noted_of r.0.items) ++ r.1.now) × (length r.1.now ≡ 8))) }
     ensures none { IfOk result (λ read. read ≡ None → (notes : List Noted) (end : List ℕ) → length end ≡ 8 → bytes.now ≡ records_bytes notes ++ end → ⊥) }
 {
-    let mut notes = Vec::new(alloc);
+    let mut notes = Vec::with_capacity(alloc, bytes.len() / NUMBERS_LEN)?;
     let mut rest = bytes;
     while rest.len() > NUMBER_LEN {
         match record_read(rest) {

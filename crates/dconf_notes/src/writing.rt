@@ -9,6 +9,9 @@ use crate::reading::TITLE;
 use dconf_times::DconfdbTime;
 use std::alloc::{AllocError, Global};
 
+/// A note mostly has no more bytes than that.
+const MOSTLY: usize = 96;
+
 /// The path above that of each database's keys.
 const ROOT: &[u8] = b"/";
 
@@ -44,7 +47,7 @@ pub fn notes_written(
 fn all_written(alloc: Global, notes: &[DconfdbTime<'_>]) -> Result<Vec<u8>, AllocError>
     ensures { IfOk result (λ bytes. bytes.items ≡ file_bytes (map noted_of notes.now)) }
 {
-    let mut bytes = Vec::new(alloc);
+    let mut bytes = Vec::with_capacity(alloc, notes.len().saturating_mul(MOSTLY))?;
     let Some(head) = notes.first() else {
         return Ok(bytes);
     };
