@@ -5,6 +5,7 @@
 #include "order.h"
 
 #include <errno.h>
+#include <stddef.h>
 #include <stdlib.h>
 #include <string.h>
 #include <time.h>
@@ -134,8 +135,13 @@ static void forget_rooms(Order *order)
     }
 }
 
+/* The first of a turn may have the room of the turn before. */
 char *order_room(Order *order, size_t size)
 {
+    if (order->own_len == 0 && has_bytes_for(&order->own, &order->own_room, size)) {
+        order->own_len = size;
+        return order->own;
+    }
     OrderRoom *room = malloc(sizeof *room + size);
     if (!room)
         return NULL;
@@ -167,24 +173,19 @@ static bool is_same_path(const DconfdbBytes *one, const DconfdbBytes *other)
     return one->len == other->len && memcmp(one->at, other->at, one->len) == 0;
 }
 
-/* What stands for a file as it was left: its name, a zero byte, and what tells it from others. */
-typedef struct {
-    uint64_t device, inode, size;
-    int64_t seconds, nanoseconds;
-} LeftFile;
-
-enum { LEFT_SIZE = NAME_MAX + 1 + sizeof(LeftFile) };
-
-static DconfdbBytes left_path(char *room, const char *name, const FileState *file)
+/* FNV-1a of a name. */
+static uint64_t number_of(const char *name)
 {
-    LeftFile left = {(uint64_t)file->device, (uint64_t)file->inode, (uint64_t)file->size, (int64_t)file->written.tv_sec,
-                     (int64_t)file->written.tv_nsec};
-    size_t len = strlen(name) + 1;
-    if (len > NAME_MAX + 1)
-        return (DconfdbBytes){(const uint8_t *)room, 0};
-    memcpy(room, name, len);
-    memcpy(room + len, &left, sizeof left);
-    return (DconfdbBytes){(const uint8_t *)room, len + sizeof left};
+    uint64_t hash = 0xcbf29ce484222325U;
+    for (; *name; name++)
+        hash = (hash ^ (uint8_t)*name) * 0x100000001b3U;
+    return hash;
+}
+
+static LeftFile left_of(const char *name, const FileState *file, bool is_synced)
+{
+    return (LeftFile){number_of(name), (uint64_t)file->device, (uint64_t)file->inode, (uint64_t)file->size, (int64_t)file->written.tv_sec,
+                      (int64_t)file->written.tv_nsec, is_synced};
 }
 
 /* ---- what is noted */
@@ -223,52 +224,57 @@ static bool read_text(Order *order, int lock)
 static bool take_notes(Order *order)
 {
     size_t count = 0;
-    if (!has_notes_for(&order->notes, &order->notes_most, order->size / NOTE + 1))
+    size_t most = order->size / NOTE;
+    if (!has_notes_for(&order->notes, &order->notes_most, most))
         return false;
-    for (size_t i = 0; i < order->notes_most; i++)
+    for (size_t i = 0; i < most; i++)
         order->notes[i] = (DconfdbTime){DCONFDB_NOTHING, 0, 0};
-    if (dconfdb_notes_read((const uint8_t *)order->text, order->size, order->notes, order->notes_most, &count) != DCONFDB_OK)
+    if (dconfdb_notes_read((const uint8_t *)order->text, order->size, order->notes, most, &count) != DCONFDB_OK || count > most)
         return false;
-    order->left = count > 0 ? (size_t)order->notes[0].value : 0;
-    order->count = count > 0 ? count - 1 - order->left : 0;
+    size_t left = count > 0 ? (size_t)order->notes[0].value : 0;
+    if (left > 0)
+        order->left = order->notes[1].path;
+    order->count = count > 0 ? count - 1 - left : 0;
     if (!has_room_for(order, order->count))
         return false;
     if (order->count > 0)
-        memcpy(order->times, order->notes + 1 + order->left, order->count * sizeof *order->times);
+        memcpy(order->times, order->notes + 1 + left, order->count * sizeof *order->times);
     return true;
 }
 
 bool order_read(Order *order, int lock)
 {
     forget_rooms(order);
-    order->count = order->left = 0;
+    order->count = order->own_len = 0;
+    order->left = (DconfdbBytes)DCONFDB_NOTHING;
     if (!read_text(order, lock) || !take_notes(order))
         return false;
     read_clocks(order);
     return true;
 }
 
-/* The newest note of a file that was left so, or NULL. */
-static const DconfdbTime *note_of_left(const Order *order, const char *name, const FileState *file)
+/* Whether the file was left so, on the disk or not, by who left it last. */
+static bool finds_left(const Order *order, const char *name, const FileState *file, LeftFile *found)
 {
-    char room[LEFT_SIZE];
-    DconfdbBytes sought = left_path(room, name, file);
-    for (size_t i = 0; file->is_there && i < order->left; i++) {
-        if (is_same_path(&order->notes[1 + i].path, &sought))
-            return &order->notes[1 + i];
+    LeftFile sought = left_of(name, file, false);
+    for (size_t at = 0; file->is_there && at + sizeof *found <= order->left.len; at += sizeof *found) {
+        memcpy(found, order->left.at + at, sizeof *found);
+        if (memcmp(found, &sought, offsetof(LeftFile, is_synced)) == 0)
+            return true;
     }
-    return NULL;
+    return false;
 }
 
 bool order_has_left(const Order *order, const char *name, const FileState *file)
 {
-    return note_of_left(order, name, file) != NULL;
+    LeftFile found;
+    return finds_left(order, name, file, &found);
 }
 
 bool order_is_synced(const Order *order, const char *name, const FileState *file)
 {
-    const DconfdbTime *left = note_of_left(order, name, file);
-    return left && left->value == 1;
+    LeftFile found;
+    return finds_left(order, name, file, &found) && found.is_synced == 1;
 }
 
 /* A directory of which all was reset, and the path is below it. */
@@ -318,18 +324,27 @@ bool order_note(Order *order, const DconfdbTime *times, size_t count)
 
 /* ---- written anew */
 
-/* Those of the lock's file, in front of which the newest of the files stands that were left. */
-static size_t with_left(const Order *order, DconfdbTime *all, const DconfdbBytes *newest, bool is_synced)
+/* The files that were left, in front of which the newest stands. */
+static DconfdbBytes with_left(const Order *order, LeftFile *room, const char *name, const FileState *left, bool is_synced)
 {
-    size_t count = 1;
-    if (newest->len > 0)
-        all[count++] = (DconfdbTime){*newest, order->now, is_synced};
-    for (size_t i = 0; i < order->left && count <= MOST_LEFT; i++)
-        all[count++] = order->notes[1 + i];
-    all[0] = (DconfdbTime){DCONFDB_NOTHING, order->moment, count - 1};
+    size_t count = 0, more = order->left.len / sizeof *room;
+    if (left->is_there)
+        room[count++] = left_of(name, left, is_synced);
+    if (more > MOST_LEFT - count)
+        more = MOST_LEFT - count;
+    if (more > 0)
+        memcpy(room + count, order->left.at, more * sizeof *room);
+    return (DconfdbBytes){(const uint8_t *)room, (count + more) * sizeof *room};
+}
+
+/* Of the turn, of the files that were left, and of what was set. */
+static size_t all_notes(const Order *order, DconfdbTime *all, const DconfdbBytes *left)
+{
+    all[0] = (DconfdbTime){DCONFDB_NOTHING, order->moment, 1};
+    all[1] = (DconfdbTime){*left, order->now, 0};
     if (order->count > 0)
-        memcpy(all + count, order->times, order->count * sizeof *all);
-    return count + order->count;
+        memcpy(all + 2, order->times, order->count * sizeof *all);
+    return 2 + order->count;
 }
 
 /* Who is killed amid this leaves the first moment of one writer, and the last of another. */
@@ -361,15 +376,11 @@ static size_t bytes_of_notes(Order *order, const DconfdbTime *all, size_t count)
 
 void order_write(Order *order, int lock, const char *name, const FileState *left, bool is_synced)
 {
-    char room[LEFT_SIZE];
-    DconfdbBytes newest = left_path(room, name, left);
-    if (!left->is_there)
-        newest.len = 0;
-    DconfdbTime *all = malloc((2 + order->left + order->count) * sizeof *all);
-    if (!all)
+    LeftFile room[MOST_LEFT];
+    DconfdbBytes files = with_left(order, room, name, left, is_synced);
+    if (!has_room_for(order, 2 + order->count))
         return;
-    size_t len = bytes_of_notes(order, all, with_left(order, all, &newest, is_synced));
-    free(all);
+    size_t len = bytes_of_notes(order, order->others, all_notes(order, order->others, &files));
     if (len > 0)
         put_in_file(order, lock, len);
 }
@@ -380,6 +391,7 @@ void order_end(Order *order)
     free(order->notes);
     free(order->text);
     free(order->next);
+    free(order->own);
     free(order->times);
     free(order->others);
 }

@@ -1087,17 +1087,22 @@ static bool is_tried(const DconfdbStore *store, const DconfdbSnapshot *newer)
 }
 
 /* `refreshing` is held. What this store itself changed is no news. */
+static void hear(DconfdbStore *store, DconfdbSnapshot *newer)
+{
+    const DconfdbSnapshot *before = is_tried(store, newer) ? store->tried : store->now;
+    store->has_news = store->has_news || is_news(before, newer);
+    dconfdb_snapshot_unref(store->tried);
+    store->tried = NULL;
+    renew(store, newer);
+}
+
+/* `refreshing` is held. */
 static bool refresh(DconfdbStore *store, int turn, DconfdbError *error)
 {
     DconfdbSnapshot *newer = NULL;
     uint32_t end = look(store, turn, &newer, error);
-    if (end == DCONFDB_LOOK_NEWER) {
-        const DconfdbSnapshot *before = is_tried(store, newer) ? store->tried : store->now;
-        store->has_news = store->has_news || is_news(before, newer);
-        dconfdb_snapshot_unref(store->tried);
-        store->tried = NULL;
-        renew(store, newer);
-    }
+    if (end == DCONFDB_LOOK_NEWER)
+        hear(store, newer);
     return end != DCONFDB_LOOK_FAILED;
 }
 
