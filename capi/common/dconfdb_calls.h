@@ -96,7 +96,7 @@ enum {
     DCONFDB_TURN_LOCK,        /* wait for the turn to change files of the folder */
     DCONFDB_TURN_READ,        /* read NAME; answer the permission bits of the new file, 512 more if the old one is to be
                                * set aside, or 1024 if the system is to choose them */
-    DCONFDB_TURN_MAKE,        /* make the new bytes; answer how many there are */
+    DCONFDB_TURN_MAKE,        /* make the new bytes; answer how many there are, or the fault DCONFDB_TURN_NOTHING */
     DCONFDB_TURN_CREATE,      /* make NAME.new, empty, in the place of any other, with the permission bits `number` */
     DCONFDB_TURN_APPEND,      /* write the bytes from `number` on to it, or some of them; answer how many */
     DCONFDB_TURN_SYNC,        /* give it the permission bits `number`, if `has_number`, and have it on the disk */
@@ -105,6 +105,7 @@ enum {
     DCONFDB_TURN_RENAME,      /* rename NAME.new to NAME */
     DCONFDB_TURN_SYNC_FOLDER, /* have the folder's names on the disk */
     DCONFDB_TURN_REMOVE,      /* remove NAME.new */
+    DCONFDB_TURN_SETTLE,      /* have what NAME is on the disk, if it is there, and the folder's names */
     DCONFDB_TURN_NOTE,        /* write to the lock's own file what others are to know of the change */
     DCONFDB_TURN_UNLOCK,      /* give the turn back */
     DCONFDB_TURN_DONE         /* nothing: `number` is the outcome, and `fault` the first fault */
@@ -112,17 +113,22 @@ enum {
 
 /* What became of NAME. The fault 0 is a write that wrote nothing, or more than there was. */
 enum {
-    DCONFDB_TURN_MADE,     /* it holds the new bytes, also after a crash */
-    DCONFDB_TURN_KEPT,     /* it is as it was */
-    DCONFDB_TURN_EITHER,   /* it is as it was, or holds the new bytes */
-    DCONFDB_TURN_UNSETTLED /* it holds the new bytes, but a crash may leave it as it was */
+    DCONFDB_TURN_MADE,      /* it holds the new bytes, also after a crash */
+    DCONFDB_TURN_KEPT,      /* it is as it was */
+    DCONFDB_TURN_EITHER,    /* it is as it was, or holds the new bytes */
+    DCONFDB_TURN_UNSETTLED, /* it holds the new bytes, but a crash may leave it as it was */
+    DCONFDB_TURN_SAME,      /* it is as it was and was to stay, also after a crash */
+    DCONFDB_TURN_UNSYNCED   /* it is as it was and was to stay, but a crash may leave what was there before */
 };
 
-/* A path that was set, and when: a key's, or that of a directory of which all keys were reset, and
- * nanoseconds since 1970. */
+/* The fault of a caller that makes no new bytes, since NAME is to stay as it is. */
+#define DCONFDB_TURN_NOTHING UINT32_MAX
+
+/* A path that was set, and when: a key's, or that of a directory of which all keys were reset,
+ * nanoseconds since 1970, and a number of the caller's for what was set. */
 typedef struct {
     DconfdbBytes path;
-    uint64_t when;
+    uint64_t when, value;
 } DconfdbTime;
 
 /* Why a call failed. */
@@ -440,6 +446,18 @@ bool dconfdb_is_overtaken(const DconfdbTime *times, size_t n, const uint8_t *pat
  * that are handed in. MEMORY, and then nothing is written. */
 uint32_t dconfdb_note_times(const DconfdbTime *times, size_t n, const DconfdbTime *more, size_t more_n, uint64_t now,
                             DconfdbTime *room, size_t room_len, size_t *len);
+
+/* The notes that a file's bytes are. The first is of the turn in which they were written: its `value` is how many of
+ * the others are of files that were left, which come next, and those that were set come after them. There is none
+ * where the bytes are no such file's, or not whole. They are handed out as dconfdb_list does; the paths are lent from
+ * the bytes. What dconfdb_notes_written wrote is read again. MEMORY, and then nothing is written. */
+uint32_t dconfdb_notes_read(const uint8_t *bytes, size_t bytes_len, DconfdbTime *room, size_t room_len, size_t *len);
+
+/* The bytes of a file of these notes, of which the first is of the turn. Where there are more than `most`, or they take
+ * more than `most_bytes`, one note stands for all that were set: it says of all paths below "/" that they were set
+ * by the latest of their times. They are handed out as dconfdb_list does. MEMORY, and then nothing is written. */
+uint32_t dconfdb_notes_written(const DconfdbTime *notes, size_t n, size_t most, size_t most_bytes, uint8_t *room, size_t room_len,
+                               size_t *len);
 
 #ifdef __cplusplus
 }

@@ -383,3 +383,35 @@ int replacing_remove(const Replacing *it)
 {
     return unlinkat(it->folder, it->new_name, 0) != 0 && errno != ENOENT ? errno : 0;
 }
+
+/* A file is opened only to be synced: nobody waits for a pipe's writer. */
+static int settle_at(int folder, const char *name)
+{
+    int fault = 0, file = openat(folder, name, O_RDONLY | O_NONBLOCK | O_NOCTTY | O_CLOEXEC);
+    if (file < 0)
+        return errno == ENOENT ? 0 : errno;
+    if (fsync(file) != 0)
+        fault = errno;
+    close(file);
+    return fault;
+}
+
+int replacing_settle(const Replacing *it)
+{
+    if (it->is_unsynced)
+        return 0;
+    int fault = settle_at(it->folder, it->name);
+    return fault != 0 ? fault : replacing_sync_folder(it);
+}
+
+int folder_settle(const char *folder, const char *name)
+{
+    int at = open(folder, O_RDONLY | O_DIRECTORY | O_CLOEXEC);
+    if (at < 0)
+        return errno == ENOENT ? 0 : errno;
+    int fault = name ? settle_at(at, name) : 0;
+    if (fault == 0 && fsync(at) != 0)
+        fault = errno;
+    close(at);
+    return fault;
+}

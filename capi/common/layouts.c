@@ -29,6 +29,7 @@ void dconfdb_queue_answered(void *queue, void *edits, size_t count, uint32_t ans
 void dconfdb_wait_begin(void *wait, uint32_t longest);
 void dconfdb_wait_answered(void *wait, uint32_t answer, uint64_t passed, uint32_t fault);
 
+uint32_t dconfdb_notes_written(const void *notes, size_t n, size_t most, size_t most_bytes, uint8_t *room, size_t room_len, size_t *len);
 bool dconfdb_is_overtaken(const void *times, size_t n, const uint8_t *path, size_t path_len, uint64_t when, uint64_t now);
 
 /* How many bytes a field takes: a bool, a uint32_t, a size_t or pointer, and bytes that are lent. */
@@ -293,7 +294,7 @@ static void finds_name(void)
 /* ---- a turn, and its steps: of a new file of 7,777 bytes, of which 1,234 are written */
 
 enum { BITS = 63, SET_ASIDE = 512, NO_BITS = 1024, WHOLE = 7777, PART = 1234, FAULT = 77 };
-enum { REMOVING = 10, KEPT = 1, APPEND = 4, DONE = 13 };
+enum { REMOVING = 10, KEPT = 1, APPEND = 4, DONE = 14 };
 
 /* A turn that came so far, whose read was answered so. */
 static Written turn_of(size_t read)
@@ -514,12 +515,13 @@ static void finds_queue(void)
 
 /* ---- two times, of which the second is asked for */
 
-enum { WHEN = 16, TIME = 24 };
+enum { WHEN = 16, SET_VALUE = 24, TIME = 32, TITLE_AND_WHEN = 24 };
 
 static void makes_time(uint8_t *time, const char *path, uint64_t when)
 {
     lends(time + PATH, path, strlen(path));
     memcpy(time + WHEN, &when, WORD);
+    memset(time + SET_VALUE, 0, WORD);
 }
 
 static void tries_times(void)
@@ -531,7 +533,14 @@ static void tries_times(void)
     is_so(dconfdb_is_overtaken(times, 2, path, 2, 4, 5) && !dconfdb_is_overtaken(times, 2, path, 2, 5, 5), "DconfdbTime");
     is_so(!dconfdb_is_overtaken(times, 1, path, 2, 1, 5), "DconfdbTime");
     lies("DconfdbTime", "path", PATH, LENT);
+    uint64_t value = 0x0102030405060708;
+    uint8_t written[128];
+    size_t len = 0;
+    memcpy(times + SET_VALUE, &value, WORD);
+    is_so(dconfdb_notes_written(times, 1, 2, sizeof written, written, sizeof written, &len) == 0 && len <= sizeof written, "DconfdbTime");
+    is_so(memcmp(written + TITLE_AND_WHEN, &value, WORD) == 0, "DconfdbTime");
     lies("DconfdbTime", "when", WHEN, WORD);
+    lies("DconfdbTime", "value", SET_VALUE, WORD);
     printf("TAKES(DconfdbTime, %d);\n", TIME);
 }
 

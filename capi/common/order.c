@@ -1,11 +1,11 @@
-/* Who set what last: records in the lock's file, as this machine has its numbers. The moment in which all was written
- * stands in front and behind: if both are the same, what is between them is of one writer, and whole. */
+/* Who set what last: notes in the lock's file, which the proved calls read and write. */
 #define _DEFAULT_SOURCE
 #define _POSIX_C_SOURCE 200809L
 #define _FILE_OFFSET_BITS 64
 #include "order.h"
 
 #include <errno.h>
+#include <stddef.h>
 #include <stdlib.h>
 #include <string.h>
 #include <time.h>
@@ -14,8 +14,8 @@
 /* A longer file is none of ours. */
 enum { LARGEST = 1 << 20 };
 
-/* The room that is made first: for so many bytes, and times. */
-enum { FEW_BYTES = 1024, FEW_TIMES = 16 };
+/* The room that is made first: for so many bytes, and times. No note takes fewer bytes than NOTE. */
+enum { FEW_BYTES = 1024, FEW_TIMES = 16, NOTE = 24 };
 
 /* Two clocks are read at once if no more than so many nanoseconds pass meanwhile; else again, so often. */
 enum { MOST_BETWEEN = 50000, MOST_READS = 20 };
@@ -25,24 +25,11 @@ static const uint64_t second = 1000000000;
 /* Of a time: the bit of one that is no set's own. */
 static const uint64_t is_guess = 1;
 
-/* Numbers in another order of bytes are never whole. */
-static const char name[16] = "dconfdb times 1";
-
-typedef struct {
-    char name[sizeof name];
-    uint64_t moment, files, sets;
-} Head;
-
-/* A file as one who noted left it. */
-typedef struct {
-    uint64_t device, inode, size;
-    int64_t seconds, nanoseconds;
-} LeftRecord;
-
-/* What was set: the path's bytes come after it. */
-typedef struct {
-    uint64_t when, value, len;
-} SetRecord;
+/* Bytes of paths, and those that were had before. */
+typedef struct OrderRoom {
+    struct OrderRoom *next;
+    char bytes[];
+} OrderRoom;
 
 /* ---- times */
 
@@ -109,6 +96,19 @@ static bool has_bytes_for(char **bytes, size_t *most, size_t wanted)
     return true;
 }
 
+static bool has_notes_for(DconfdbTime **notes, size_t *most, size_t wanted)
+{
+    if (*most > 0 && wanted <= *most)
+        return true;
+    size_t next = next_of(*most, FEW_TIMES, wanted);
+    DconfdbTime *room = realloc(*notes, next * sizeof *room);
+    if (!room)
+        return false;
+    *notes = room;
+    *most = next;
+    return true;
+}
+
 /* In both. */
 static bool has_room_for(Order *order, size_t count)
 {
@@ -126,72 +126,66 @@ static bool has_room_for(Order *order, size_t count)
     return true;
 }
 
-/* ---- records */
-
-/* What is left to be taken of the file's bytes. */
-typedef struct {
-    const char *at, *end;
-} Bytes;
-
-/* Copies the next so many, if there are so many. */
-static bool take(Bytes *bytes, void *room, size_t size)
+static void forget_rooms(Order *order)
 {
-    if ((size_t)(bytes->end - bytes->at) < size)
-        return false;
-    memcpy(room, bytes->at, size);
-    bytes->at += size;
-    return true;
-}
-
-static LeftRecord record_of(const FileState *file)
-{
-    return (LeftRecord){(uint64_t)file->device, (uint64_t)file->inode, (uint64_t)file->size, (int64_t)file->written.tv_sec,
-                        (int64_t)file->written.tv_nsec};
-}
-
-static bool take_files(Order *order, Bytes *bytes, uint64_t count)
-{
-    if (count > MOST_LEFT || (size_t)(bytes->end - bytes->at) < count * sizeof(LeftRecord))
-        return false;
-    order->left = bytes->at;
-    order->left_count = (size_t)count;
-    bytes->at += count * sizeof(LeftRecord);
-    return true;
-}
-
-static bool take_set(Order *order, Bytes *bytes)
-{
-    SetRecord set;
-    if (!take(bytes, &set, sizeof set) || set.len == 0 || (size_t)(bytes->end - bytes->at) < set.len)
-        return false;
-    order->times[order->count++] = (DconfdbTime){{(const uint8_t *)bytes->at, (size_t)set.len}, set.when};
-    bytes->at += set.len;
-    return true;
-}
-
-static bool take_sets(Order *order, Bytes *bytes, uint64_t count)
-{
-    for (uint64_t i = 0; i < count; i++) {
-        if (!take_set(order, bytes))
-            return false;
+    while (order->rooms) {
+        OrderRoom *room = order->rooms;
+        order->rooms = room->next;
+        free(room);
     }
-    return true;
 }
 
-/* What is whole; else nothing. False: no memory is left. */
-static bool take_all(Order *order)
+/* The first of a turn may have the room of the turn before. */
+char *order_room(Order *order, size_t size)
 {
-    Head head;
-    uint64_t end;
-    Bytes bytes = {order->text, order->text + order->size};
-    bool is_ours = take(&bytes, &head, sizeof head) && memcmp(head.name, name, sizeof name) == 0 && head.sets <= MOST_TIMES;
-    if (!has_room_for(order, is_ours ? (size_t)head.sets : 0))
-        return false;
-    bool is_whole = is_ours && take_files(order, &bytes, head.files) && take_sets(order, &bytes, head.sets)
-        && take(&bytes, &end, sizeof end) && bytes.at == bytes.end && end == head.moment;
-    if (!is_whole)
-        order->count = order->left_count = 0;
-    return true;
+    if (order->own_len == 0 && has_bytes_for(&order->own, &order->own_room, size)) {
+        order->own_len = size;
+        return order->own;
+    }
+    OrderRoom *room = malloc(sizeof *room + size);
+    if (!room)
+        return NULL;
+    room->next = order->rooms;
+    order->rooms = room;
+    return room->bytes;
+}
+
+/* ---- paths */
+
+size_t order_path_size(const char *name, size_t len)
+{
+    return 1 + strlen(name) + len;
+}
+
+DconfdbBytes order_path(char **at, const char *name, const DconfdbBytes *path)
+{
+    char *start = *at;
+    size_t len = strlen(name);
+    start[0] = '/';
+    memcpy(start + 1, name, len);
+    memcpy(start + 1 + len, path->at, path->len);
+    *at = start + 1 + len + path->len;
+    return (DconfdbBytes){(const uint8_t *)start, 1 + len + path->len};
+}
+
+static bool is_same_path(const DconfdbBytes *one, const DconfdbBytes *other)
+{
+    return one->len == other->len && memcmp(one->at, other->at, one->len) == 0;
+}
+
+/* FNV-1a of a name. */
+static uint64_t number_of(const char *name)
+{
+    uint64_t hash = 0xcbf29ce484222325U;
+    for (; *name; name++)
+        hash = (hash ^ (uint8_t)*name) * 0x100000001b3U;
+    return hash;
+}
+
+static LeftFile left_of(const char *name, const FileState *file, bool is_synced)
+{
+    return (LeftFile){number_of(name), (uint64_t)file->device, (uint64_t)file->inode, (uint64_t)file->size, (int64_t)file->written.tv_sec,
+                      (int64_t)file->written.tv_nsec, is_synced};
 }
 
 /* ---- what is noted */
@@ -226,72 +220,100 @@ static bool read_text(Order *order, int lock)
     return true;
 }
 
+/* The first note is of the turn in which they were written. */
+static bool take_notes(Order *order)
+{
+    size_t count = 0;
+    size_t most = order->size / NOTE;
+    if (!has_notes_for(&order->notes, &order->notes_most, most))
+        return false;
+    for (size_t i = 0; i < most; i++)
+        order->notes[i] = (DconfdbTime){DCONFDB_NOTHING, 0, 0};
+    if (dconfdb_notes_read((const uint8_t *)order->text, order->size, order->notes, most, &count) != DCONFDB_OK || count > most)
+        return false;
+    size_t left = count > 0 ? (size_t)order->notes[0].value : 0;
+    if (left > 0)
+        order->left = order->notes[1].path;
+    order->count = count > 0 ? count - 1 - left : 0;
+    if (!has_room_for(order, order->count))
+        return false;
+    if (order->count > 0)
+        memcpy(order->times, order->notes + 1 + left, order->count * sizeof *order->times);
+    return true;
+}
+
 bool order_read(Order *order, int lock)
 {
-    order->count = order->left_count = 0;
-    if (!read_text(order, lock) || !take_all(order))
+    forget_rooms(order);
+    order->count = order->own_len = 0;
+    order->left = (DconfdbBytes)DCONFDB_NOTHING;
+    if (!read_text(order, lock) || !take_notes(order))
         return false;
     read_clocks(order);
     return true;
 }
 
-bool order_has_left(const Order *order, const FileState *file)
+/* Whether the file was left so, on the disk or not, by who left it last. */
+static bool finds_left(const Order *order, const char *name, const FileState *file, LeftFile *found)
 {
-    LeftRecord sought = record_of(file);
-    bool has = false;
-    for (size_t i = 0; !has && i < order->left_count; i++)
-        has = memcmp(order->left + i * sizeof sought, &sought, sizeof sought) == 0;
-    return has && file->is_there;
-}
-
-/* The value that was noted with a path; `is` says whether one was, before this turn. */
-static uint64_t value_noted(const Order *order, const DconfdbTime *time, bool *is)
-{
-    SetRecord set = {0, 0, 0};
-    uintptr_t at = (uintptr_t)time->path.at, text = (uintptr_t)order->text;
-    *is = at >= text && at < text + order->size;
-    if (*is)
-        memcpy(&set, time->path.at - sizeof set, sizeof set);
-    return set.value;
-}
-
-static bool is_directory_of(const DconfdbBytes *directory, const uint8_t *path, size_t len)
-{
-    return directory->len < len && directory->at[directory->len - 1] == '/' && memcmp(directory->at, path, directory->len) == 0;
-}
-
-bool order_has_value(const Order *order, const uint8_t *path, size_t len, uint64_t value)
-{
-    for (size_t i = 0; i < order->count; i++) {
-        const DconfdbTime *time = &order->times[i];
-        bool is_noted, is_same = time->path.len == len && memcmp(time->path.at, path, len) == 0;
-        uint64_t noted = value_noted(order, time, &is_noted);
-        if (is_noted && is_same && noted == value)
-            return true;
-        if (is_noted && value == 0 && is_directory_of(&time->path, path, len))
+    LeftFile sought = left_of(name, file, false);
+    for (size_t at = 0; file->is_there && at + sizeof *found <= order->left.len; at += sizeof *found) {
+        memcpy(found, order->left.at + at, sizeof *found);
+        if (memcmp(found, &sought, offsetof(LeftFile, is_synced)) == 0)
             return true;
     }
     return false;
+}
+
+bool order_has_left(const Order *order, const char *name, const FileState *file)
+{
+    LeftFile found;
+    return finds_left(order, name, file, &found);
+}
+
+bool order_is_synced(const Order *order, const char *name, const FileState *file)
+{
+    LeftFile found;
+    return finds_left(order, name, file, &found) && found.is_synced == 1;
+}
+
+/* A directory of which all was reset, and the path is below it. */
+static bool is_reset_with(const DconfdbTime *time, const DconfdbBytes *path)
+{
+    const DconfdbBytes *directory = &time->path;
+    return time->value == 0 && directory->len > 0 && directory->len < path->len && directory->at[directory->len - 1] == '/'
+        && memcmp(directory->at, path->at, directory->len) == 0;
+}
+
+bool order_has_value(const Order *order, const DconfdbBytes *path, uint64_t value)
+{
+    bool has = false;
+    for (size_t i = 0; !has && i < order->count; i++) {
+        const DconfdbTime *time = &order->times[i];
+        has = is_same_path(&time->path, path) ? time->value == value : value == 0 && is_reset_with(time, path);
+    }
+    return has;
 }
 
 DconfdbTime *order_guess(Order *order, const DconfdbBytes *path)
 {
     for (size_t i = 0; i < order->count; i++) {
         DconfdbTime *time = &order->times[i];
-        if (time->path.len == path->len && memcmp(time->path.at, path->at, path->len) == 0)
+        if (is_same_path(&time->path, path))
             return (time->when & is_guess) != 0 ? time : NULL;
     }
     return NULL;
 }
 
+/* There is room for all. */
 bool order_note(Order *order, const DconfdbTime *times, size_t count)
 {
-    size_t len = 0, most = count < MOST_TIMES - order->count ? order->count + count : MOST_TIMES;
+    size_t len = 0, most = order->count + count;
     if (!has_room_for(order, most))
         return false;
     DconfdbTime *noted = order->times, *room = order->others;
     for (size_t i = 0; i < most; i++)
-        room[i] = (DconfdbTime){DCONFDB_NOTHING, 0};
+        room[i] = (DconfdbTime){DCONFDB_NOTHING, 0, 0};
     if (dconfdb_note_times(noted, order->count, times, count, order->now, room, most, &len) != DCONFDB_OK)
         return false;
     order->times = room;
@@ -302,61 +324,35 @@ bool order_note(Order *order, const DconfdbTime *times, size_t count)
 
 /* ---- written anew */
 
-/* As much as there is room for. */
-typedef struct {
-    char *at;
-    size_t len;
-} Room;
-
-static void put(Room *room, const void *record, size_t size)
+/* The files that were left, in front of which the newest stands. */
+static DconfdbBytes with_left(const Order *order, LeftFile *room, const char *name, const FileState *left, bool is_synced)
 {
-    memcpy(room->at + room->len, record, size);
-    room->len += size;
-}
-
-static void put_set(Room *room, const DconfdbTime *time, uint64_t value)
-{
-    SetRecord set = {time->when, value, time->path.len};
-    put(room, &set, sizeof set);
-    put(room, time->path.at, time->path.len);
-}
-
-/* How many bytes all of it takes, and how many of the sets there is room for. */
-static size_t length_of(const Order *order, uint64_t *sets)
-{
-    size_t len = sizeof(Head) + (order->left_count + 1) * sizeof(LeftRecord) + sizeof(uint64_t);
-    for (*sets = 0; *sets < order->count; ++*sets) {
-        size_t more = sizeof(SetRecord) + order->times[*sets].path.len;
-        if (len + more > LARGEST)
-            break;
-        len += more;
-    }
-    return len;
-}
-
-static void put_all(Room *room, const Order *order, Head head, const FileState *left, ValueOf *value_of, const void *file)
-{
-    LeftRecord newest = record_of(left);
-    put(room, &head, sizeof head);
+    size_t count = 0, more = order->left.len / sizeof *room;
     if (left->is_there)
-        put(room, &newest, sizeof newest);
-    if (order->left_count > 0)
-        put(room, order->left, (head.files - left->is_there) * sizeof newest);
-    for (uint64_t i = 0; i < head.sets; i++) {
-        const DconfdbTime *time = &order->times[i];
-        bool is_noted;
-        uint64_t value = value_noted(order, time, &is_noted);
-        put_set(room, time, is_noted ? value : value_of(file, time->path.at, time->path.len));
-    }
-    put(room, &head.moment, sizeof head.moment);
+        room[count++] = left_of(name, left, is_synced);
+    if (more > MOST_LEFT - count)
+        more = MOST_LEFT - count;
+    if (more > 0)
+        memcpy(room + count, order->left.at, more * sizeof *room);
+    return (DconfdbBytes){(const uint8_t *)room, (count + more) * sizeof *room};
+}
+
+/* Of the turn, of the files that were left, and of what was set. */
+static size_t all_notes(const Order *order, DconfdbTime *all, const DconfdbBytes *left)
+{
+    all[0] = (DconfdbTime){DCONFDB_NOTHING, order->moment, 1};
+    all[1] = (DconfdbTime){*left, order->now, 0};
+    if (order->count > 0)
+        memcpy(all + 2, order->times, order->count * sizeof *all);
+    return 2 + order->count;
 }
 
 /* Who is killed amid this leaves the first moment of one writer, and the last of another. */
-static void put_in_file(const Order *order, int lock, const Room *room)
+static void put_in_file(const Order *order, int lock, size_t len)
 {
     size_t at = 0;
-    while (at < room->len) {
-        ssize_t put = pwrite(lock, room->at + at, room->len - at, (off_t)at);
+    while (at < len) {
+        ssize_t put = pwrite(lock, order->next + at, len - at, (off_t)at);
         if (put == 0 || (put < 0 && errno != EINTR))
             break;
         at += put > 0 ? (size_t)put : 0;
@@ -365,23 +361,37 @@ static void put_in_file(const Order *order, int lock, const Room *room)
         return; /* its end isn't its last moment: nothing counts */
 }
 
-void order_write(Order *order, int lock, const FileState *left, ValueOf *value_of, const void *file)
+/* Their bytes, in `next`: how many, or 0 without memory. */
+static size_t bytes_of_notes(Order *order, const DconfdbTime *all, size_t count)
 {
-    size_t files = order->left_count + left->is_there;
-    Head head = {.moment = order->moment, .files = files < MOST_LEFT ? files : MOST_LEFT};
-    memcpy(head.name, name, sizeof name);
-    size_t len = length_of(order, &head.sets);
-    if (!has_bytes_for(&order->next, &order->next_room, len))
+    size_t len = 0;
+    do {
+        if (!has_bytes_for(&order->next, &order->next_room, len))
+            return 0;
+        if (dconfdb_notes_written(all, count, MOST_NOTES, LARGEST, (uint8_t *)order->next, order->next_room, &len) != DCONFDB_OK)
+            return 0;
+    } while (len > order->next_room);
+    return len;
+}
+
+void order_write(Order *order, int lock, const char *name, const FileState *left, bool is_synced)
+{
+    LeftFile room[MOST_LEFT];
+    DconfdbBytes files = with_left(order, room, name, left, is_synced);
+    if (!has_room_for(order, 2 + order->count))
         return;
-    Room room = {order->next, 0};
-    put_all(&room, order, head, left, value_of, file);
-    put_in_file(order, lock, &room);
+    size_t len = bytes_of_notes(order, order->others, all_notes(order, order->others, &files));
+    if (len > 0)
+        put_in_file(order, lock, len);
 }
 
 void order_end(Order *order)
 {
+    forget_rooms(order);
+    free(order->notes);
     free(order->text);
     free(order->next);
+    free(order->own);
     free(order->times);
     free(order->others);
 }

@@ -2,6 +2,8 @@
  * meanwhile, and notes what it sets. It stands in the lock's own file, and is of use only as long as sets wait: it is
  * written in place, and not brought to the disk. What isn't whole counts for nothing, as does a time of the future.
  *
+ * The lock is the folder's, and may have several databases: what is noted is `/NAME` and the path, of the file NAME.
+ *
  * Who changes the file without a note, as the program does, leaves it as a file that nobody noted: then what differs in
  * it counts as set when it was written. */
 #ifndef ORDER_H
@@ -10,19 +12,30 @@
 #include "dconfdb_calls.h"
 #include "files.h"
 
-/* So many paths are noted, and so many of the files that were left. */
-enum { MOST_TIMES = 1024, MOST_LEFT = 64 };
+/* So many notes there are, and so many files that were left stand in one of them. Where there would be more, one note says of
+ * all databases of the folder that they were set by then. */
+enum { MOST_NOTES = 8192, MOST_LEFT = 64 };
+
+/* A file as one who noted left it: a number for its name, what tells it from others, and whether it was on the disk. */
+typedef struct {
+    uint64_t name, device, inode, size;
+    int64_t seconds, nanoseconds;
+    uint64_t is_synced;
+} LeftFile;
 
 /* All bits 0 at first. What it holds is of one turn, and its memory stays for the next. */
 typedef struct {
-    uint64_t now, moment;         /* the same, as a time and by order_clock() */
-    DconfdbTime *times, *others;  /* what is noted; room for as many */
+    uint64_t now, moment;        /* the same, as a time and by order_clock() */
+    DconfdbTime *times, *others; /* what is noted; room for as many */
     size_t count, most;
-    char *text, *next;            /* the bytes of the lock's file, which lend paths; room for those that it gets */
+    DconfdbTime *notes;          /* those of the lock's file: of its turn, of the files that were left, and of what was set */
+    size_t notes_most;
+    DconfdbBytes left;            /* files that were left, the newest first: LeftFile after LeftFile */
+    char *text, *next, *own;      /* the bytes of the lock's file, which lend paths; room for those that it gets; the turn's own paths */
     size_t size, room, next_room; /* how many are taken, of how many there may be */
-    size_t stood;                 /* how many there are, or SIZE_MAX */
-    const char *left;             /* in the text, records of files, the newest first */
-    size_t left_count;
+    size_t own_len, own_room;
+    size_t stood;            /* how many there are, or SIZE_MAX */
+    struct OrderRoom *rooms; /* where the turn's own paths had no room */
 } Order;
 
 /* The moment of a set: nanoseconds of a clock that nobody puts forward or back, and that goes on while the machine sleeps. */
@@ -37,23 +50,30 @@ uint64_t order_time(const Order *order, uint64_t moment);
 /* When a file was written, or got its name. It is odd: what differs in a file that nobody noted was set then, or before. */
 uint64_t order_time_of(const FileState *file);
 
+/* So many bytes until the order is read again; or NULL. */
+char *order_room(Order *order, size_t size);
+
+/* What is noted of a path of a file, put where `at` points, which goes on behind it: so many bytes. */
+DconfdbBytes order_path(char **at, const char *name, const DconfdbBytes *path);
+size_t order_path_size(const char *name, size_t len);
+
 /* The note of a path, if its time is such a one; or NULL. */
 DconfdbTime *order_guess(Order *order, const DconfdbBytes *path);
 
-/* Whether who left the file so noted what it changed. */
-bool order_has_left(const Order *order, const FileState *file);
+/* Whether who left the file of that name so noted what it changed. */
+bool order_has_left(const Order *order, const char *name, const FileState *file);
+
+/* Whether who left it so noted, too, that it is on the disk. */
+bool order_is_synced(const Order *order, const char *name, const FileState *file);
 
 /* Notes that these were set, too: as long as the order is used the paths stay. False: no memory is left. */
 bool order_note(Order *order, const DconfdbTime *times, size_t count);
 
-/* A number for what a file has at a path; 0: nothing. */
-typedef uint64_t ValueOf(const void *file, const uint8_t *path, size_t len);
+/* Whether what a file has at a path, a number for it, is what was left there by who noted it. */
+bool order_has_value(const Order *order, const DconfdbBytes *path, uint64_t value);
 
-/* Whether what a file has at a path, which was read in this turn, is what was left there by who noted it. */
-bool order_has_value(const Order *order, const uint8_t *path, size_t len, uint64_t value);
-
-/* Writes it, with the file as it is left now, and what that has. Where it fails, nothing is noted. */
-void order_write(Order *order, int lock, const FileState *left, ValueOf *value_of, const void *file);
+/* Writes it, with the file of that name as it is left now, and whether it is on the disk. Where it fails, nothing is noted. */
+void order_write(Order *order, int lock, const char *name, const FileState *left, bool is_synced);
 
 void order_end(Order *order);
 

@@ -191,6 +191,7 @@ static Outcome make(DconfdbBackend *self, Change *change, GTree **told)
     Outcome outcome = outcome_of(self, change, stored);
     if (outcome == WAITS && told)
         *told = change_tree(change);
+    self->is_to_settle = self->is_to_settle || outcome == EMPTY;
     if (outcome == WAITS) {
         bool is_first = waiting_add(&self->waiting, change);
         self->added++;

@@ -139,6 +139,7 @@ typedef struct {
     guint64 tries, failed;  /* how often a write was tried, and which was the last that failed after others had for long; 0: none */
     guint64 last_try;       /* the program's end takes it for given if a later one fails so */
     bool is_asked;          /* a write is to be tried now */
+    bool is_to_settle;      /* what was set was there already: a sync brings it to the disk */
     GCond settles;          /* more are settled, or a try has failed so */
     bool has_ended;
     GHashTable *subscribed;

@@ -445,6 +445,21 @@ static bool await_settled(DconfdbBackend *self, Patience *patience, guint64 trie
     return is_settled;
 }
 
+/* `turn` is held. Another program may have written what was set once more, and not brought it to the disk. */
+static bool settle(DconfdbBackend *self)
+{
+    g_mutex_lock(&self->lock);
+    bool is = self->is_to_settle;
+    self->is_to_settle = false;
+    g_mutex_unlock(&self->lock);
+    if (!is || !self->store || settle_store(self->store, NULL))
+        return true;
+    g_mutex_lock(&self->lock);
+    self->is_to_settle = true;
+    g_mutex_unlock(&self->lock);
+    return false;
+}
+
 bool store_sync(DconfdbBackend *self)
 {
     Notice notice = {.faults = NULL};
@@ -456,9 +471,10 @@ bool store_sync(DconfdbBackend *self)
         return false;
     if (self->place.folder)
         look(self, &notice);
+    bool is_settled = settle(self);
     g_mutex_unlock(&self->turn);
     notice_tell(self, &notice);
-    return true;
+    return is_settled;
 }
 
 void store_end(DconfdbBackend *self)

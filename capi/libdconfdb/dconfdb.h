@@ -253,8 +253,10 @@ DCONFDB_NODISCARD DCONFDB_API DconfdbSnapshot *dconfdb_store_snapshot(DconfdbSto
 /* Looks at the files again, with one stat() each, and reads those that were replaced. `changed`, if it
  * isn't NULL, says whether the newest snapshot has anything that others changed since `changed` was
  * last asked for, or since the store was opened: what this call finds, and what a change in between
- * has read. The store's own edits don't count. False: it failed, and the newest snapshot stays the
- * newest. */
+ * has read. That is another value at a path, a key that may be set and might not, or the other way
+ * round, or a file that can't be read, or can again. A file that others replaced by one that says the
+ * same is none of it, and the store's own edits don't count. False: it failed, and the newest snapshot
+ * stays the newest. */
 DCONFDB_API bool dconfdb_store_refresh(DconfdbStore *store, bool *changed, DconfdbError *error)
     DCONFDB_NOEXCEPT DCONFDB_NONNULL((1));
 
@@ -451,7 +453,8 @@ typedef struct DconfdbEdit {
  *
  * If no edit changes anything, because the user has that value already, or none where one is removed,
  * no file is written, unless this store's last write ended with EITHER or UNSETTLED. Values are compared,
- * not bytes.
+ * not bytes. What stands there may be another program's, which did not wait for the disk: the file and its
+ * folder are synced then, unless it is known that who wrote it did so.
  *
  * The new file has the permission bits of the old one. A first file is its owner's alone (0600),
  * whatever the umask. If root makes the change, the file keeps its owner and group; a first file, and
@@ -464,13 +467,13 @@ typedef struct DconfdbEdit {
  * turns with flock() on the file `.lock` in its folder, which is created if it is missing; only those
  * who may write in the folder may open it. This call waits at most ten seconds for that lock, or as long
  * as the store's options say; then it waits, without a limit, for threads that refresh the same store. The
- * file says which keys were set last, and when: so a GSettings program, whose sets may wait, never
- * overwrites an edit with an older set.
+ * file says which keys of which database were set last, and when: so a GSettings program, whose sets may
+ * wait, never overwrites an edit with an older set.
  *
  * False: it failed, and `outcome` says what became of the file. It has its old bytes, unless the code
  * is DCONFDB_ERROR_FILE and the outcome another: EITHER if the rename failed, since it may have been done
- * all the same; UNSETTLED if the folder could not be synced after it. Only then the newest snapshot has
- * the edits. The text says so, too. After either of them, make the same edits again: if that returns true
+ * all the same; UNSETTLED if the folder could not be synced after it, or what is there already could not
+ * be synced. Only then the newest snapshot has the edits. The text says so, too. After either of them, make the same edits again: if that returns true
  * they are on the disk. */
 DCONFDB_NODISCARD DCONFDB_API bool dconfdb_store_change(DconfdbStore *store, const DconfdbSnapshot *expected,
     const DconfdbEdit *edits, size_t count, DconfdbError *error)

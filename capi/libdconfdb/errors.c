@@ -68,10 +68,13 @@ bool refuse_outcome(DconfdbError *error, uint32_t outcome, const char *name)
     if (!error || outcome == DCONFDB_TURN_KEPT)
         return false;
     int fault = error->code == DCONFDB_ERROR_FILE ? error->errnum : error->code == DCONFDB_ERROR_FILE_TOO_LARGE ? EOVERFLOW : ENOMEM;
-    refuse(error, DCONFDB_ERROR_FILE, fault, nowhere,
-           outcome == DCONFDB_TURN_EITHER ? "%s: it is perhaps replaced: %s" : "%s: it is replaced, but perhaps not on the disk yet: %s", name,
-           words_of(fault).text);
-    error->outcome = (DconfdbOutcome)outcome;
+    if (outcome == DCONFDB_TURN_EITHER)
+        refuse(error, DCONFDB_ERROR_FILE, fault, nowhere, "%s: it is perhaps replaced: %s", name, words_of(fault).text);
+    else if (outcome == DCONFDB_TURN_UNSYNCED)
+        refuse(error, DCONFDB_ERROR_FILE, fault, nowhere, "%s: it is as it was to be, but perhaps not on the disk yet: %s", name, words_of(fault).text);
+    else
+        refuse(error, DCONFDB_ERROR_FILE, fault, nowhere, "%s: it is replaced, but perhaps not on the disk yet: %s", name, words_of(fault).text);
+    error->outcome = outcome == DCONFDB_TURN_UNSYNCED ? DCONFDB_OUTCOME_UNSETTLED : (DconfdbOutcome)outcome;
     return false;
 }
 

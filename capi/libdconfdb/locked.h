@@ -18,6 +18,10 @@ bool locked_change(DconfdbStore *store, const FolderLock *lock, const DconfdbEdi
 /* While edits wait: what others changed between two snapshots, which the next locked_change heeds. */
 void heed_others(DconfdbStore *store, const DconfdbSnapshot *before, const DconfdbSnapshot *after);
 
+/* Brings to the disk what the user's file is, unless this store knows that it is there: a program that set what was there already wants
+ * to know that it stays. */
+bool settle_store(DconfdbStore *store, DconfdbError *error);
+
 /* What a lock's errno is to who changes the store. It returns false. */
 bool refuse_lock(const DconfdbStore *store, int fault, DconfdbError *error);
 

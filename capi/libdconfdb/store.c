@@ -14,6 +14,7 @@
 #include "repair.h"
 
 #include <errno.h>
+#include <fcntl.h>
 #include <pthread.h>
 #include <stddef.h>
 #include <pwd.h>
@@ -37,7 +38,8 @@ typedef struct {
     FileState state;
     FileBytes bytes;
     DconfdbLayer layer;
-    Fault *fault; /* NULL: there is none */
+    Fault *fault;    /* NULL: there is none */
+    bool is_settled; /* this store knows that it is on the disk; under its `refreshing` */
     char name[];
 } Part;
 
@@ -72,6 +74,7 @@ struct DconfdbStore {
     uint64_t noted;             /* the time of what this store noted last; under `refreshing` */
     Order order;                /* of the turn that it has; under `refreshing` */
     bool is_unsettled;          /* its last change is perhaps not on the disk; under `refreshing` */
+    DconfdbSnapshot *tried;     /* of a change of this store's that is perhaps made; under `refreshing` */
     DconfdbSnapshot *now;
     Notices notices;
     StorePlace place;
@@ -965,6 +968,7 @@ void dconfdb_store_close(DconfdbStore *store)
     notices_end(&store->notices);
     forget_seen(store);
     order_end(&store->order);
+    dconfdb_snapshot_unref(store->tried);
     dconfdb_snapshot_unref(store->now);
     for (size_t i = 0; i < store->count; i++)
         free(store->files[i]);
@@ -1014,15 +1018,89 @@ static void renew(DconfdbStore *store, DconfdbSnapshot *newer)
     dconfdb_snapshot_unref(old);
 }
 
+/* What is wrong with a file that has its name still. */
+static const DconfdbError *fault_at(const Part *part)
+{
+    return part->fault && !part->fault->aside ? &part->fault->error : NULL;
+}
+
+static bool has_same_fault(const Part *one, const Part *other)
+{
+    const DconfdbError *first = fault_at(one), *second = fault_at(other);
+    if (!first || !second)
+        return first == second;
+    return first->code == second->code && first->errnum == second->errnum && first->line == second->line;
+}
+
+static bool have_same_faults(const DconfdbSnapshot *one, const DconfdbSnapshot *other)
+{
+    bool have = one->count == other->count;
+    for (size_t i = 0; have && i < one->count; i++)
+        have = one->parts[i] == other->parts[i] || has_same_fault(one->parts[i], other->parts[i]);
+    return have;
+}
+
+/* Locks of what no database has, too. Without memory they differ. */
+static bool have_same_locks(const DconfdbSnapshot *one, const DconfdbSnapshot *other)
+{
+    size_t size = 0, other_size = 0;
+    if (have_same_others(one, other))
+        return true;
+    char *locks = listed(lists_locks, one, "/", "locks", &size, NULL);
+    char *others = listed(lists_locks, other, "/", "locks", &other_size, NULL);
+    bool have = locks && others && size == other_size && memcmp(locks, others, size) == 0;
+    free(locks);
+    free(others);
+    return have;
+}
+
+/* Whether a file that was mapped was written over in place: nobody has its old bytes any more, and they may be cut off. */
+static bool is_written_over(const DconfdbSnapshot *before, const DconfdbSnapshot *after)
+{
+    bool is = false;
+    for (size_t i = 0; !is && i < before->count; i++) {
+        const FileState *old = &before->parts[i]->state, *new = &after->parts[i]->state;
+        is = before->parts[i] != after->parts[i] && before->parts[i]->bytes.is_mapped && old->inode == new->inode && old->device == new->device;
+    }
+    return is;
+}
+
+/* Whether a key is seen otherwise, or may be set or not, or a file can be read or not. */
+static bool is_news(const DconfdbSnapshot *before, const DconfdbSnapshot *after)
+{
+    size_t len = 0;
+    uint8_t room[1];
+    if (before->is_writable != after->is_writable || !have_same_faults(before, after))
+        return true;
+    if (is_written_over(before, after) || !have_same_locks(before, after))
+        return true;
+    return lists_differences(after, before, room, 0, &len) != DCONFDB_OK || len > 0;
+}
+
+/* Whether the file is that of a change of this store's, of which it couldn't say whether it is made. */
+static bool is_tried(const DconfdbStore *store, const DconfdbSnapshot *newer)
+{
+    const Part *tried = store->tried ? store->tried->parts[0] : NULL;
+    return tried && file_is_same(&tried->state, &newer->parts[0]->state) && has_bytes(tried, &newer->parts[0]->bytes);
+}
+
+/* `refreshing` is held. What this store itself changed is no news. */
+static void hear(DconfdbStore *store, DconfdbSnapshot *newer)
+{
+    const DconfdbSnapshot *before = is_tried(store, newer) ? store->tried : store->now;
+    store->has_news = store->has_news || is_news(before, newer);
+    dconfdb_snapshot_unref(store->tried);
+    store->tried = NULL;
+    renew(store, newer);
+}
+
 /* `refreshing` is held. */
 static bool refresh(DconfdbStore *store, int turn, DconfdbError *error)
 {
     DconfdbSnapshot *newer = NULL;
     uint32_t end = look(store, turn, &newer, error);
-    if (end == DCONFDB_LOOK_NEWER) {
-        renew(store, newer);
-        store->has_news = true;
-    }
+    if (end == DCONFDB_LOOK_NEWER)
+        hear(store, newer);
     return end != DCONFDB_LOOK_FAILED;
 }
 
@@ -1219,20 +1297,32 @@ static uint64_t value_in(const void *snapshot, const uint8_t *path, size_t len)
     return hashed(hashed(0xcbf29ce484222325U, &found.type_text), &found.value) | 1;
 }
 
+/* The user's file in its folder. */
+static const char *own_name(const DconfdbStore *store)
+{
+    return strrchr(store->user_file, '/') + 1;
+}
+
 /* Notes that these paths were set when the file was written, but for what is there by who noted it. */
 static bool note_seen(const DconfdbStore *store, const Seen *seen, Order *order)
 {
-    size_t count = 0;
-    for (const char *at = seen->paths; *at; at += strlen(at) + 1)
+    size_t count = 0, size = 0;
+    for (const char *at = seen->paths; *at; at += strlen(at) + 1) {
+        size += order_path_size(own_name(store), strlen(at));
         count++;
+    }
     DconfdbTime *times = calloc(count + 1, sizeof *times);
-    if (!times)
+    char *room = order_room(order, size);
+    if (!times || !room) {
+        free(times);
         return false;
+    }
     count = 0;
     for (const char *at = seen->paths; *at; at += strlen(at) + 1) {
-        DconfdbBytes path = {bytes_of(at), strlen(at)};
-        if (!order_has_value(order, path.at, path.len, value_in(store->now, path.at, path.len)))
-            times[count++] = (DconfdbTime){path, order_time_of(&seen->left)};
+        DconfdbBytes own = {bytes_of(at), strlen(at)}, path = order_path(&room, own_name(store), &own);
+        uint64_t value = value_in(store->now, own.at, own.len);
+        if (!order_has_value(order, &path, value))
+            times[count++] = (DconfdbTime){path, order_time_of(&seen->left), value};
     }
     bool done = order_note(order, times, count);
     free(times);
@@ -1244,7 +1334,7 @@ static bool note_others(const DconfdbStore *store, Order *order)
 {
     bool done = true;
     for (const Seen *seen = store->seen; done && seen; seen = seen->next)
-        done = order_has_left(order, &seen->left) || note_seen(store, seen, order);
+        done = order_has_left(order, own_name(store), &seen->left) || note_seen(store, seen, order);
     return done;
 }
 
@@ -1275,7 +1365,7 @@ static bool asking_begin(Asking *asking, const DconfdbEdit *edits, const uint64_
     asking->edits = (size_t *)(asking->times + count);
     for (size_t i = 0; i < count; i++) {
         asking->changes[i] = change_of(&edits[i]);
-        asking->times[i] = (DconfdbTime){asking->changes[i].path, moments ? moments[i] : UINT64_MAX};
+        asking->times[i] = (DconfdbTime){asking->changes[i].path, moments ? moments[i] : UINT64_MAX, 0};
         asking->edits[i] = i;
     }
     return true;
@@ -1290,12 +1380,12 @@ static uint64_t time_of(const DconfdbStore *store, const Order *order, uint64_t 
 }
 
 /* Whether it was seen that others changed a path later. */
-static bool has_seen(const DconfdbStore *store, const DconfdbTime *time)
+static bool has_seen(const DconfdbStore *store, const DconfdbBytes *path, uint64_t when)
 {
     for (const Seen *seen = store->seen; seen; seen = seen->next) {
-        const char *at = order_time_of(&seen->left) > time->when ? seen->paths : "";
+        const char *at = order_time_of(&seen->left) > when ? seen->paths : "";
         for (; *at; at += strlen(at) + 1) {
-            if (strlen(at) == time->path.len && memcmp(at, time->path.at, time->path.len) == 0)
+            if (strlen(at) == path->len && memcmp(at, path->at, path->len) == 0)
                 return true;
         }
     }
@@ -1304,11 +1394,11 @@ static bool has_seen(const DconfdbStore *store, const DconfdbTime *time)
 
 /* Whether it is only another program's guess that the path was set so late, and this one, which had a snapshot before the change
  * was asked for, has seen it as it is ever since. Then it is noted no longer. */
-static bool forgets_guess(const DconfdbStore *store, Order *order, const DconfdbSnapshot *before, const DconfdbTime *time)
+static bool forgets_guess(const DconfdbStore *store, Order *order, const DconfdbSnapshot *before, const DconfdbTime *time,
+                          const DconfdbBytes *path)
 {
-    const DconfdbBytes *path = &time->path;
-    DconfdbTime *guess = order_guess(order, path);
-    bool is_as_before = guess && before->is_writable && !has_seen(store, time)
+    DconfdbTime *guess = order_guess(order, &time->path);
+    bool is_as_before = guess && before->is_writable && !has_seen(store, path, time->when)
         && value_in(before, path->at, path->len) == value_in(store->now, path->at, path->len);
     if (is_as_before)
         guess->when = 0;
@@ -1321,26 +1411,33 @@ static bool is_overtaken(const Order *order, const DconfdbTime *time)
 }
 
 /* Leaves out what others have set since. What this store's last write may have left looks like that, too: it is in the file. */
-static void leave_out(Asking *asking, const DconfdbStore *store, Order *order, const DconfdbSnapshot *before)
+static bool leave_out(Asking *asking, const DconfdbStore *store, Order *order, const DconfdbSnapshot *before)
 {
-    size_t left = 0;
+    size_t left = 0, size = 0;
+    for (size_t i = 0; i < asking->count; i++)
+        size += order_path_size(own_name(store), asking->changes[i].path.len);
+    char *room = order_room(order, size);
+    if (!room)
+        return false;
     for (size_t i = 0; i < asking->count; i++) {
-        DconfdbTime time = {asking->times[i].path, time_of(store, order, asking->times[i].when)};
+        const DconfdbBytes *path = &asking->changes[i].path;
+        DconfdbTime time = {order_path(&room, own_name(store), path), time_of(store, order, asking->times[i].when), 0};
         bool is_own = store->is_unsettled && is_made(store->now, &asking->changes[i]);
-        if (!is_own && is_overtaken(order, &time) && !(forgets_guess(store, order, before, &time) && !is_overtaken(order, &time)))
+        if (!is_own && is_overtaken(order, &time) && !(forgets_guess(store, order, before, &time, path) && !is_overtaken(order, &time)))
             continue;
         asking->changes[left] = asking->changes[i];
         asking->times[left] = time;
         asking->edits[left++] = asking->edits[i];
     }
     asking->count = left;
+    return true;
 }
 
 /* Looks at the files. What differs since the last look is of use where who left the user's file noted nothing. */
 static bool refresh_and_heed(DconfdbStore *store, const DconfdbSnapshot *before, int turn, const Order *order, DconfdbError *error)
 {
     bool done = refresh(store, turn, error);
-    if (done && !order_has_left(order, &store->now->parts[0]->state))
+    if (done && !order_has_left(order, own_name(store), &store->now->parts[0]->state))
         heed(store, before, store->now);
     return done;
 }
@@ -1387,8 +1484,8 @@ static bool read_old(Changing *it, size_t *bits)
     return fault == 0 || refuse_file(it->error, fault, it->store->user_file, nowhere);
 }
 
-/* The new file's bytes. None are made, and the file stays, as bad as it may be, where the changes change nothing of what is on the
- * disk: it is written once more where that isn't known. */
+/* The new file's bytes. None are made, and the file stays, as bad as it may be, where the changes change nothing: it is written once
+ * more where this store's last change of it failed to get to the disk. */
 static bool make_bytes(Changing *it, FileBytes *file)
 {
     const Asking *asking = it->asking;
@@ -1431,12 +1528,19 @@ static bool make_newer(Changing *it, size_t *len)
     FileBytes file;
     if (!is_as_expected(it->store->now, it->asking, it->error))
         return false;
-    leave_out(it->asking, it->store, it->order, it->before);
+    if (!leave_out(it->asking, it->store, it->order, it->before))
+        return refuse_memory(it->error);
     if (!make_bytes(it, &file))
         return false;
     *len = file.len;
     it->newer = with_part(it->store, part_of_new(it->store, file, it->error), it->error);
     return it->newer != NULL;
+}
+
+/* Whether this store, or who left it, brought it to the disk. */
+static bool is_known_settled(const Changing *it, const Part *own)
+{
+    return own->is_settled || order_is_synced(it->order, own_name(it->store), &own->state);
 }
 
 /* What others are to know of it. */
@@ -1445,9 +1549,12 @@ static void note(Changing *it)
     const DconfdbSnapshot *now = it->is_placed ? it->newer : it->store->now;
     const Asking *asking = it->asking;
     bool is_made = it->is_placed || it->is_nothing;
+    for (size_t i = 0; is_made && i < asking->count; i++)
+        asking->times[i].value = value_in(now, asking->changes[i].path.at, asking->changes[i].path.len);
     if (is_made && !order_note(it->order, asking->times, asking->count))
         return;
-    order_write(it->order, it->lock->file, &now->parts[0]->state, value_in, now);
+    const Part *own = now->parts[0];
+    order_write(it->order, it->lock->file, own_name(it->store), &own->state, is_known_settled(it, own));
     forget_seen(it->store);
     if (is_made && asking->count > 0)
         it->store->noted = asking->times[asking->count - 1].when;
@@ -1457,6 +1564,23 @@ static int append(const Changing *it, size_t at, size_t *count)
 {
     const FileBytes *bytes = &it->newer->parts[0]->bytes;
     return replacing_append(it->replacing, bytes->at + at, bytes->len - at, count);
+}
+
+static int settle(Changing *it)
+{
+    Part *own = it->store->now->parts[0];
+    bool is_known = is_known_settled(it, own);
+    int fault = is_known ? 0 : replacing_settle(it->replacing);
+    own->is_settled = is_known || (fault == 0 && !it->replacing->is_unsynced);
+    return fault;
+}
+
+/* And then the new file is on the disk. */
+static int sync_folder(Changing *it)
+{
+    int fault = replacing_sync_folder(it->replacing);
+    it->newer->parts[0]->is_settled = fault == 0 && !it->replacing->is_unsynced;
+    return fault;
 }
 
 /* A call of the system; what is at fault is the user's file. */
@@ -1469,8 +1593,9 @@ static int on_disk(Changing *it, const DconfdbStep *step, size_t *n)
     case DCONFDB_TURN_SET_ASIDE: return replacing_set_aside(it->replacing, n);
     case DCONFDB_TURN_EXCHANGE: return replacing_exchange(it->replacing);
     case DCONFDB_TURN_RENAME: return replacing_rename(it->replacing);
-    case DCONFDB_TURN_SYNC_FOLDER: return replacing_sync_folder(it->replacing);
+    case DCONFDB_TURN_SYNC_FOLDER: return sync_folder(it);
     case DCONFDB_TURN_REMOVE: return replacing_remove(it->replacing);
+    case DCONFDB_TURN_SETTLE: return settle(it);
     default: return 0;
     }
 }
@@ -1487,12 +1612,12 @@ static bool carry_out(Changing *it, const DconfdbStep *step, size_t *n)
     int fault = on_disk(it, step, n);
     if (fault == 0 && (step->kind == DCONFDB_TURN_RENAME || step->kind == DCONFDB_TURN_EXCHANGE))
         it->is_placed = true;
-    if (fault != 0 && step->kind < DCONFDB_TURN_REMOVE)
+    if (fault != 0 && (step->kind < DCONFDB_TURN_REMOVE || step->kind == DCONFDB_TURN_SETTLE))
         refuse_file(it->error, fault, it->store->user_file, nowhere);
     return fault == 0;
 }
 
-/* The newer snapshot is handed out exactly where it is the file. */
+/* The newer snapshot is handed out exactly where it is the file. Where it perhaps is, it is kept: a later look may find it. */
 static bool end(Changing *it, uint32_t outcome, uint32_t fault)
 {
     if (outcome == DCONFDB_TURN_MADE || outcome == DCONFDB_TURN_UNSETTLED) {
@@ -1504,14 +1629,17 @@ static bool end(Changing *it, uint32_t outcome, uint32_t fault)
             part_forgive(part);
         }
         renew(it->store, it->newer);
+    } else if (outcome == DCONFDB_TURN_EITHER) {
+        dconfdb_snapshot_unref(it->store->tried);
+        it->store->tried = it->newer;
     } else {
         dconfdb_snapshot_unref(it->newer);
     }
     if (outcome != DCONFDB_TURN_KEPT)
-        it->store->is_unsettled = outcome != DCONFDB_TURN_MADE;
+        it->store->is_unsettled = outcome != DCONFDB_TURN_MADE && outcome != DCONFDB_TURN_SAME;
     if (outcome == DCONFDB_TURN_KEPT && fault == 0)
         refuse_file(it->error, EIO, it->store->user_file, nowhere);
-    return outcome == DCONFDB_TURN_MADE || it->is_nothing || refuse_outcome(it->error, outcome, it->store->user_file);
+    return outcome == DCONFDB_TURN_MADE || outcome == DCONFDB_TURN_SAME || refuse_outcome(it->error, outcome, it->store->user_file);
 }
 
 /* The changes, while it is this program's turn: each step that the proved calls say, until they say how it ended. */
@@ -1521,7 +1649,7 @@ static bool change_in_turn(DconfdbStore *store, const FolderLock *lock, Asking *
     Changing it = {.store = store, .lock = lock, .asking = asking, .error = error, .replacing = &replacing};
     DconfdbTurn turn = {.len = 0};
     DconfdbStep step = {.kind = DCONFDB_TURN_LOCK};
-    int fault = replacing_begin(&replacing, lock->folder, strrchr(store->user_file, '/') + 1);
+    int fault = replacing_begin(&replacing, lock->folder, own_name(store));
     if (fault != 0)
         return refuse_file(error, fault, store->user_file, nowhere);
     replacing.is_unsynced = store->options.is_unsynced;
@@ -1531,7 +1659,7 @@ static bool change_in_turn(DconfdbStore *store, const FolderLock *lock, Asking *
     for (dconfdb_turn_next(&turn, &step); step.kind != DCONFDB_TURN_DONE; dconfdb_turn_next(&turn, &step)) {
         size_t n = 0;
         bool done = carry_out(&it, &step, &n);
-        dconfdb_turn_answered(&turn, done ? 0 : 1, n);
+        dconfdb_turn_answered(&turn, done ? 0 : it.is_nothing && step.kind == DCONFDB_TURN_MAKE ? DCONFDB_TURN_NOTHING : 1, n);
     }
     bool done = end(&it, (uint32_t)step.number, step.fault);
     dconfdb_snapshot_unref(it.before);
@@ -1567,6 +1695,42 @@ bool refuse_lock(const DconfdbStore *store, int fault, DconfdbError *error)
     return refuse(error, DCONFDB_ERROR_BUSY, 0, nowhere, "%s: others have been changing it for %d ms", name, wait);
 }
 
+/* What the user's file is, or that there is none, gets to the disk, whoever wrote it. */
+static bool settle_own(const DconfdbStore *store, const char *name, DconfdbError *error)
+{
+    int fault = store->user_file && !store->options.is_unsynced ? folder_settle(store->place.folder, name) : 0;
+    if (fault == 0)
+        return true;
+    refuse_file(error, fault, user_file_or_folder(store), nowhere);
+    return refuse_outcome(error, DCONFDB_TURN_UNSYNCED, user_file_or_folder(store));
+}
+
+/* Whether who left the file noted that it is on the disk. Nobody waits for the lock: notes that others write meanwhile are not whole. */
+static bool is_noted_settled(DconfdbStore *store, const Part *own)
+{
+    char *lock = joined(store->place.folder, "/", LOCK_NAME);
+    int file = lock ? open(lock, O_RDONLY | O_NONBLOCK | O_NOCTTY | O_CLOEXEC) : -1;
+    free(lock);
+    if (file < 0)
+        return false;
+    bool is = order_read(&store->order, file) && order_is_synced(&store->order, own_name(store), &own->state);
+    close(file);
+    return is;
+}
+
+bool settle_store(DconfdbStore *store, DconfdbError *error)
+{
+    FileState state;
+    pthread_mutex_lock(&store->refreshing);
+    Part *own = store->user_file ? store->now->parts[0] : NULL;
+    bool is_known = !own || own->is_settled || is_noted_settled(store, own);
+    bool done = is_known || settle_own(store, own_name(store), error);
+    if (own && done)
+        own->is_settled = is_known || (!store->options.is_unsynced && file_look(store->user_file, &state) == 0 && file_is_same(&own->state, &state));
+    pthread_mutex_unlock(&store->refreshing);
+    return done;
+}
+
 /* No file is to be made: only why a change is at fault has to be said, and which edit. */
 static bool change_nothing(DconfdbStore *store, const Asking *asking, DconfdbError *error)
 {
@@ -1575,9 +1739,10 @@ static bool change_nothing(DconfdbStore *store, const Asking *asking, DconfdbErr
     bool done = (!store->user_file || refresh(store, NO_FOLDER, error)) && is_as_expected(store->now, asking, error)
         && make_file(store, asking->changes, asking->count, &file, error);
     pthread_mutex_unlock(&store->refreshing);
-    if (done)
-        file_release(&file);
-    return done;
+    if (!done)
+        return false;
+    file_release(&file);
+    return settle_own(store, NULL, error);
 }
 
 /* `lock` is NULL where no file is to be made. */

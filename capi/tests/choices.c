@@ -1,9 +1,11 @@
-/* Tries what dconfdb_store_open_with takes: choices FOLDER, as calls.c has it. fsync is counted. */
+/* Tries what dconfdb_store_open_with takes: choices FOLDER, as calls.c has it. fsync is counted, and fails if it is to. */
 #include "try.h"
 
+#include <errno.h>
 #include <fcntl.h>
 #include <pthread.h>
 #include <sys/file.h>
+#include <sys/stat.h>
 #include <time.h>
 #include <unistd.h>
 
@@ -11,12 +13,13 @@ int __real_fsync(int file);
 int __wrap_fsync(int file);
 
 static DconfdbError error = DCONFDB_ERROR_INIT;
-static int syncs;
+static int syncs, fault;
 
 int __wrap_fsync(int file)
 {
     syncs++;
-    return __real_fsync(file);
+    errno = fault;
+    return fault != 0 ? -1 : __real_fsync(file);
 }
 
 static bool changes(DconfdbStore *store, const char *text)
@@ -54,6 +57,44 @@ static void tries_unsynced(void)
     TRY(changes(other, "synced") && syncs == 2);
     dconfdb_store_close(store);
     dconfdb_store_close(other);
+}
+
+/* What an unsynced store wrote gets to the disk by a synced one that sets it again: once, and for all who read its note. */
+static void tries_same(void)
+{
+    DconfdbOptions options = DCONFDB_OPTIONS_INIT;
+    options.is_unsynced = true;
+    DconfdbStore *fast = dconfdb_store_open_with(".", &options, &error), *store = dconfdb_store_open(".", &error);
+    syncs = 0;
+    TRY(fast && store && changes(fast, "same") && changes(fast, "same") && syncs == 0);
+    TRY(changes(store, "same") && syncs == 2 && changes(store, "same") && syncs == 2);
+    DconfdbStore *other = dconfdb_store_open(".", &error);
+    TRY(other && changes(other, "same") && syncs == 2);
+    TRY(changes(fast, "again") && syncs == 2);
+    fault = EIO;
+    TRY(!changes(store, "again") && error.code == DCONFDB_ERROR_FILE && error.outcome == DCONFDB_OUTCOME_UNSETTLED && error.errnum == EIO);
+    TRY(strstr(error.text, "/me.user: it is as it was to be, but perhaps not on the disk yet: "));
+    fault = 0;
+    syncs = 0;
+    TRY(changes(store, "again") && syncs == 2);
+    dconfdb_store_close(fast);
+    dconfdb_store_close(store);
+    dconfdb_store_close(other);
+}
+
+/* That there is no file is on the disk, too. */
+static void tries_none(void)
+{
+    DconfdbEdit reset = {"/k", NULL, NULL, 0};
+    TRY(mkdir("none", 0700) == 0);
+    DconfdbStore *store = dconfdb_store_open("none", &error);
+    syncs = 0;
+    TRY(store && dconfdb_store_change(store, NULL, &reset, 1, &error) && syncs == 1);
+    fault = EIO;
+    TRY(!dconfdb_store_change(store, NULL, &reset, 1, &error) && error.outcome == DCONFDB_OUTCOME_UNSETTLED && error.errnum == EIO);
+    fault = 0;
+    TRY(access("none/.lock", F_OK) != 0 && errno == ENOENT);
+    dconfdb_store_close(store);
 }
 
 static void tries_lenient(void)
@@ -114,6 +155,8 @@ int main(int argc, char **argv)
     TRY(argc == 2 && chdir(argv[1]) == 0);
     tries_usual();
     tries_unsynced();
+    tries_same();
+    tries_none();
     tries_lenient();
     tries_waits();
     return 0;

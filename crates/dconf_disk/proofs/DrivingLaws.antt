@@ -6,9 +6,9 @@ use Rattle.dconf_model.specs.Folders.Event.{create, append, sync, touch, rename,
 use Rattle.dconf_model.specs.Replacing.{new_name, MaybeReplaced, Replaced}
 use Rattle.dconf_turn.specs.declared.turn.Turn.{Turn}
 use Rattle.dconf_turn.specs.declared.step.Outcome.{Outcome}
-use Rattle.dconf_turn.specs.declared.step.Outcome.TheVariants.{Made, Kept, Either, Unsettled}
+use Rattle.dconf_turn.specs.declared.step.Outcome.TheVariants.{Made, Kept, Either, Unsettled, Same, Unsynced}
 use Rattle.dconf_turn.specs.declared.step.Step.{Step}
-use Rattle.dconf_turn.specs.declared.step.Step.TheVariants.{Lock, Read, Make, Create, Append, Sync, SetAside, Exchange, Rename, SyncFolder, Remove, Note, Unlock, Done}
+use Rattle.dconf_turn.specs.declared.step.Step.TheVariants.{Lock, Read, Make, Create, Append, Sync, SetAside, Exchange, Rename, SyncFolder, Remove, Settle, Note, Unlock, Done}
 use Rattle.dconf_turn.specs.declared.step.Answer.{Answer}
 use Rattle.dconf_turn.specs.declared.step.Answer.TheVariants.{Yes, No}
 use Rattle.dconf_turn.specs.Jobs.{IsFree, IsLockApart, IsOwn}
@@ -91,6 +91,7 @@ can (Sync b) (Yes n) name bytes es w = (sync (new_name name) ∷ es, refl)
 can (Sync b) (No f) name bytes es w = (touch (new_name name) ∷ es, refl)
 can SetAside (Yes n) name bytes es w = absurd w
 can Exchange (Yes n) name bytes es w = absurd w
+can Settle (Yes n) name bytes es w = absurd w
 can Rename (Yes n) name bytes es w = (rename (new_name name) name ∷ es, refl)
 can SyncFolder (Yes n) name bytes es w = (sync_folder ∷ es, refl)
 can SyncFolder (No f) name bytes es w = (es, refl)
@@ -126,12 +127,13 @@ module _ (es now : List Event) (name bytes : List ℕ) (o : Outcome) where
 
   late : (next : Step) → 10 ≤ place next → ¬ (o ≡ Made) → S next
   late Remove p n = n
+  late Settle p n = n
   late Note p n = λ h. absurd (n h)
   late Unlock p n = λ h. absurd (n h)
   late (Done x) p n = λ h. absurd (n h)
   late _ p n = absurd (omega arith)
 
-  last : (next : Step) → 10 < place next → (o ≡ Made → now ≡ settled_onto (staged_onto es (new_name name) bytes) (new_name name) name) → S next
+  last : (next : Step) → 11 < place next → (o ≡ Made → now ≡ settled_onto (staged_onto es (new_name name) bytes) (new_name name) name) → S next
   last Note p n = n
   last Unlock p n = n
   last (Done x) p n = n
@@ -157,12 +159,13 @@ module _ (before now : ℕ) (o : Outcome) where
 
   late_counts : (next : Step) → 10 ≤ place next → ¬ (o ≡ Made) → IsOneMore before now → C next
   late_counts Remove p n h = (n, h)
+  late_counts Settle p n h = (n, h)
   late_counts Note p n h = (λ m. absurd (n m), λ x. h)
   late_counts Unlock p n h = (λ m. absurd (n m), λ x. h)
   late_counts (Done x) p n h = (λ m. absurd (n m), λ y. h)
   late_counts _ p n h = absurd (omega arith)
 
-  last_counts : (next : Step) → 10 < place next → (o ≡ Made → now ≡ before) × (¬ (o ≡ Made) → IsOneMore before now) → C next
+  last_counts : (next : Step) → 11 < place next → (o ≡ Made → now ≡ before) × (¬ (o ≡ Made) → IsOneMore before now) → C next
   last_counts Note p h = h
   last_counts Unlock p h = h
   last_counts (Done x) p h = h
@@ -172,6 +175,7 @@ module _ (before now : ℕ) (o : Outcome) where
   early_counts SetAside p h = absurd (none_such (place SetAside) p (λ q. omega arith) (λ q. omega arith) (λ q. omega arith))
   early_counts Exchange p h = absurd (none_such (place Exchange) p (λ q. omega arith) (λ q. omega arith) (λ q. omega arith))
   early_counts Remove p h = absurd (none_such (place Remove) p (λ q. omega arith) (λ q. omega arith) (λ q. omega arith))
+  early_counts Settle p h = absurd (none_such (place Settle) p (λ q. omega arith) (λ q. omega arith) (λ q. omega arith))
   early_counts Note p h = absurd (none_such (place Note) p (λ q. omega arith) (λ q. omega arith) (λ q. omega arith))
   early_counts Unlock p h = absurd (none_such (place Unlock) p (λ q. omega arith) (λ q. omega arith) (λ q. omega arith))
   early_counts (Done x) p h = absurd (none_such (place (Done x)) p (λ q. omega arith) (λ q. omega arith) (λ q. omega arith))
@@ -182,6 +186,9 @@ made_kept o f e m = let bad : Kept f ≡ Made = sym e ∙ m in cc
 
 made_either : (o : Outcome) (f : ℕ) → o ≡ Either f → ¬ (o ≡ Made)
 made_either o f e m = let bad : Either f ≡ Made = sym e ∙ m in cc
+
+made_unsynced : (o : Outcome) (f : ℕ) → o ≡ Unsynced f → ¬ (o ≡ Made)
+made_unsynced o f e m = let bad : Unsynced f ≡ Made = sym e ∙ m in cc
 
 made_unsettled : (o : Outcome) (f : ℕ) → o ≡ Unsettled f → ¬ (o ≡ Made)
 made_unsettled o f e m = let bad : Unsettled f ≡ Made = sym e ∙ m in cc
@@ -215,6 +222,8 @@ module _ (t : Turn) (keeps : t.keeps ≡ false) (next : Step) (o p : Outcome) (o
   straight_on Rename (No k) l g f s w d h = late old now name bytes p next g (made_either p k s)
   straight_on SyncFolder (Yes n) l g f s w d h = is Note g (λ m. d ∙ ap (λ x. sync_folder ∷ x) h)
   straight_on SyncFolder (No k) l g f s w d h = is Note g (λ m. absurd (made_unsettled p k s m))
+  straight_on Settle (Yes n) l g f s w d h = absurd w
+  straight_on Settle (No k) l g f s w d h = is Note g (λ m. absurd (made_unsynced p k s m))
   straight_on Note (Yes n) l g f s w d h = last old now name bytes p next (omega (arith, f)) (λ m. not_noted es now d ∙ h (sym s ∙ m))
   straight_on Unlock (Yes n) l g f s w d h = last old now name bytes p next (omega (arith, f)) (λ m. d ∙ h (sym s ∙ m))
   straight_on (Done x) (Yes n) l g f s w d h = is (Done x) f (λ m. d ∙ h (sym s ∙ m))
@@ -254,6 +263,9 @@ module _ (t : Turn) (keeps : t.keeps ≡ false) (next : Step) (o p : Outcome) (b
   counts_on Rename (No k) l g f s w c h = late_now g (made_either p k s) (one_more h c)
   counts_on SyncFolder (Yes n) l g f s w c h = subst (λ x. CountsSo x p before now) (sym g) (λ m. c ∙ h, λ no_made. absurd (no_made s))
   counts_on SyncFolder (No k) l g f s w c h = subst (λ x. CountsSo x p before now) (sym g) (λ m. absurd (made_unsettled p k s m), λ n. one_more h c)
+  counts_on Settle (Yes n) l g f s w c h = absurd w
+  counts_on Settle (No k) l g f s w c h =
+      subst (λ x. CountsSo x p before now) (sym g) (λ m. absurd (made_unsynced p k s m), λ n. subst (λ x. IsOneMore before x) (sym c) h.1)
   counts_on Note (Yes n) l g f s w c h = last_counts before now p next (omega (arith, f)) (kept_count s c h)
   counts_on Unlock (Yes n) l g f s w c h = last_counts before now p next (omega (arith, f)) (kept_count s c h)
   counts_on (Done x) (Yes n) l g f s w c h = subst (λ y. CountsSo y p before now) (sym f) (kept_count s c h)
@@ -273,6 +285,7 @@ late_idle o Read p n = tt
 late_idle o Make p n = tt
 late_idle o (Create m) p n = tt
 late_idle o Remove p n = n
+late_idle o Settle p n = n
 late_idle o Note p n = n
 late_idle o Unlock p n = n
 late_idle o (Done x) p n = n
@@ -304,6 +317,8 @@ module _ (t : Turn) (next : Step) (o p : Outcome) (size : ℕ) where
   idle_on Exchange answer g f s w r h = absurd h
   idle_on Rename answer g f s w r h = absurd h
   idle_on SyncFolder answer g f s w r h = absurd h
+  idle_on Settle (Yes n) g f s w r h = absurd w
+  idle_on Settle (No k) g f s w r h = idle_is Note g (made_unsynced p k s)
   idle_on Note (Yes n) g f s w r h = late_idle p next (omega (arith, f)) (not_made p o s h)
   idle_on Unlock (Yes n) g f s w r h = late_idle p next (omega (arith, f)) (not_made p o s h)
   idle_on (Done x) (Yes n) g f s w r h = idle_is (Done x) f (not_made p o s h)

@@ -7,7 +7,7 @@ use Rattle.dconf_turn.specs.Jobs.{Job}
 use Rattle.dconf_turn.specs.declared.step.Outcome.{Outcome}
 use Rattle.dconf_turn.specs.declared.step.Outcome.TheVariants.{Made}
 use Rattle.dconf_turn.specs.declared.step.Step.{Step}
-use Rattle.dconf_turn.specs.declared.step.Step.TheVariants.{Lock, Read, Make, Create, Append, Sync, SetAside, Exchange, Rename, SyncFolder, Remove, Note, Unlock, Done}
+use Rattle.dconf_turn.specs.declared.step.Step.TheVariants.{Lock, Read, Make, Create, Append, Sync, SetAside, Exchange, Rename, SyncFolder, Remove, Settle, Note, Unlock, Done}
 use Rattle.dconf_turn.specs.declared.step.Answer.{Answer}
 use Rattle.dconf_turn.specs.declared.step.Answer.TheVariants.{Yes, No}
 use Rattle.dconf_folders.specs.declared.fault.FolderFault.{FolderFault}
@@ -33,7 +33,7 @@ abbrev pub IsWithin : Step → ℕ → Type 0
 IsWithin (Append at) size = at ≤ size
 IsWithin step size = Unit {0}
 
--- What asks nothing of the folder is done; the host chooses the permission bits, and nothing is set aside; the bytes are as many as said;
+-- What asks nothing of the folder is done; the host chooses the permission bits, nothing is set aside, and no file stays as it is; the bytes are as many as said;
 -- and all of them were written.
 abbrev pub IsWhole : Step → Answer → ℕ → Type 0
 IsWhole Lock (No fault) size = ⊥
@@ -45,15 +45,17 @@ IsWhole (Done said) (No fault) size = ⊥
 IsWhole Read (Yes n) size = 1023 < n
 IsWhole SetAside (Yes n) size = ⊥
 IsWhole Exchange (Yes n) size = ⊥
+IsWhole Settle (Yes n) size = ⊥
 IsWhole Make (Yes n) size = n ≡ size
 IsWhole (Append at) (Yes n) size = at + n ≡ size
 IsWhole step answer size = Unit {0}
 
--- a step that failed is a failure, but for the removal; nothing is set aside
+-- a step that failed is a failure, but for the removal; nothing is set aside, and there are always bytes to be written
 abbrev pub IsCounted : ℕ → ℕ → Step → Answer → Type 0
 IsCounted before now Remove answer = now ≡ before
 IsCounted before now SetAside answer = now ≡ before
 IsCounted before now Exchange answer = now ≡ before
+IsCounted before now Settle answer = now ≡ before
 IsCounted before now step (Yes n) = now ≡ before
 IsCounted before now step (No fault) = IsOneMore before now
 
@@ -79,6 +81,7 @@ IsStraight Exchange o es now name bytes = ⊥
 IsStraight Rename o es now name bytes = now ≡ staged_onto es (new_name name) bytes
 IsStraight SyncFolder o es now name bytes = now ≡ rename (new_name name) name ∷ staged_onto es (new_name name) bytes
 IsStraight Remove o es now name bytes = ¬ (o ≡ Made)
+IsStraight Settle o es now name bytes = ¬ (o ≡ Made)
 IsStraight Note o es now name bytes = o ≡ Made → now ≡ settled_onto (staged_onto es (new_name name) bytes) (new_name name) name
 IsStraight Unlock o es now name bytes = o ≡ Made → now ≡ settled_onto (staged_onto es (new_name name) bytes) (new_name name) name
 IsStraight (Done said) o es now name bytes = o ≡ Made → now ≡ settled_onto (staged_onto es (new_name name) bytes) (new_name name) name
@@ -89,6 +92,7 @@ abbrev pub CountsSo : Step → Outcome → ℕ → ℕ → Type 0
 CountsSo SetAside o before now = ⊥
 CountsSo Exchange o before now = ⊥
 CountsSo Remove o before now = (¬ (o ≡ Made)) × IsOneMore before now
+CountsSo Settle o before now = (¬ (o ≡ Made)) × IsOneMore before now
 CountsSo Note o before now = (o ≡ Made → now ≡ before) × (¬ (o ≡ Made) → IsOneMore before now)
 CountsSo Unlock o before now = (o ≡ Made → now ≡ before) × (¬ (o ≡ Made) → IsOneMore before now)
 CountsSo (Done said) o before now = (o ≡ Made → now ≡ before) × (¬ (o ≡ Made) → IsOneMore before now)
@@ -101,6 +105,7 @@ IsIdle Read o = Unit {0}
 IsIdle Make o = Unit {0}
 IsIdle (Create mode) o = Unit {0}
 IsIdle Remove o = ¬ (o ≡ Made)
+IsIdle Settle o = ¬ (o ≡ Made)
 IsIdle Note o = ¬ (o ≡ Made)
 IsIdle Unlock o = ¬ (o ≡ Made)
 IsIdle (Done said) o = ¬ (o ≡ Made)

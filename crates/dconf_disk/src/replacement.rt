@@ -48,6 +48,7 @@ fn carry_out<F: Folder>(folder: &mut F, new: &str, name: &str, bytes: &[u8], ste
                 Answer::No(DEVICE)
             }
         }
+        Step::Settle => Answer::No(DEVICE),
         Step::Note => Answer::Yes(0),
         Step::Unlock => Answer::Yes(0),
         Step::Done(_) => Answer::Yes(0),
@@ -72,6 +73,8 @@ fn result_of(outcome: Outcome) -> Result<(), FolderFault>
         Outcome::Kept(_) => Err(FolderFault::Device),
         Outcome::Either(_) => Err(FolderFault::Device),
         Outcome::Unsettled(_) => Err(FolderFault::Device),
+        Outcome::Same => Err(FolderFault::Device),
+        Outcome::Unsynced(_) => Err(FolderFault::Device),
     }
 }
 

@@ -4,12 +4,13 @@ ghost use Rattle.dconf_model.specs.Locks.{covers};
 ghost use Rattle.dconf_times.specs.Times.{is_overtaken, note_of, time_told};
 
 /// A path that was set, and when: the path of a key, or that of a directory of which all keys were
-/// reset, and nanoseconds since 1970.
+/// reset, nanoseconds since 1970, and a number of the caller's for what was set.
 #[repr(C)]
 #[derive(Clone, Copy)]
 pub struct DconfdbTime<'a> {
     pub path: &'a [u8],
     pub when: u64,
+    pub value: u64,
 }
 
 impl DconfdbTime<'_> {

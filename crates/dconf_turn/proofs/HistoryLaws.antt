@@ -4,19 +4,19 @@ use Rattle.std.specs.Bool.{IsTrue}
 use Rattle.dconf_model.specs.Folders.{Event}
 use Rattle.dconf_turn.specs.declared.turn.Turn.{Turn}
 use Rattle.dconf_turn.specs.declared.turn.State.{State}
-use Rattle.dconf_turn.specs.declared.turn.State.TheVariants.{Locking, Reading, Making, Creating, Writing, Syncing, SettingAside, Exchanging, Renaming, SyncingFolder, Removing, Noting, Unlocking, Over}
+use Rattle.dconf_turn.specs.declared.turn.State.TheVariants.{Locking, Reading, Making, Creating, Writing, Syncing, SettingAside, Exchanging, Renaming, SyncingFolder, Removing, Settling, Noting, Unlocking, Over}
 use Rattle.dconf_turn.specs.declared.step.Outcome.{Outcome}
-use Rattle.dconf_turn.specs.declared.step.Outcome.TheVariants.{Made, Kept, Either, Unsettled}
+use Rattle.dconf_turn.specs.declared.step.Outcome.TheVariants.{Made, Kept, Either, Unsettled, Same, Unsynced}
 use Rattle.dconf_turn.specs.declared.step.Step.{Step}
-use Rattle.dconf_turn.specs.declared.step.Step.TheVariants.{Lock, Read, Make, Create, Append, Sync, SetAside, Exchange, Rename, SyncFolder, Remove, Note, Unlock, Done}
+use Rattle.dconf_turn.specs.declared.step.Step.TheVariants.{Lock, Read, Make, Create, Append, Sync, SetAside, Exchange, Rename, SyncFolder, Remove, Settle, Note, Unlock, Done}
 use Rattle.dconf_turn.specs.declared.step.Answer.{Answer}
 use Rattle.dconf_turn.specs.declared.step.Answer.TheVariants.{Yes, No}
 use Rattle.dconf_turn.specs.Jobs.{Job, IsOwn, IsLockApart}
 use Rattle.dconf_turn.specs.Steps.{place, step_at, step_of, steps_left, Follows, GoesOn, GoesOnWriting, EndsWell, IsSaid, IsYes, IsFault, IsDone, IsRead, IsRefusal, IsAsked, KnowsAfter}
 use Rattle.dconf_turn.specs.Hosts.{DidStep}
-use Rattle.dconf_turn.specs.Sayings.{IsWhole, Says}
+use Rattle.dconf_turn.specs.Sayings.{IsKept, IsWhole, Says}
 use Rattle.dconf_turn.specs.Progress.{Apart, StandsAt, Stands, IsEarly, IsCleared, IsBegun, IsAnswered}
-use Rattle.dconf_turn.specs.Histories.{Taken, RanSteps, first_of, AreInOrder, HasDone, HasFault, HasRefusal, HasAsked, WhateverIsAnswered}
+use Rattle.dconf_turn.specs.Histories.{Taken, RanSteps, first_of, AreInOrder, HasDone, HasFault, HasRefusal, HasAsked, IsUnwritten, WhateverIsAnswered}
 use Rattle.dconf_turn.proofs.SayingLaws.{kept, early_apart, kept_whole, placed_whole, whole_of}
 
 -- ---- at any moment
@@ -40,6 +40,7 @@ module _ (t : Turn) (job : Job) (old es : List Event) (apart : IsLockApart job) 
   safe_at Renaming h = where_apart h.0.holds.apart
   safe_at SyncingFolder h = placed_whole t.keeps job old es h.0 h.2
   safe_at Removing h = whole_of t.keeps t.outcome job old es apart h
+  safe_at Settling h = where_early h
   safe_at Noting h = whole_of t.keeps t.outcome job old es apart h.0
   safe_at Unlocking h = whole_of t.keeps t.outcome job old es apart h.0
   safe_at Over h = whole_of t.keeps t.outcome job old es apart h.0
@@ -60,6 +61,7 @@ is_over t Exchanging outcome e = cc
 is_over t Renaming outcome e = cc
 is_over t SyncingFolder outcome e = cc
 is_over t Removing outcome e = cc
+is_over t Settling outcome e = cc
 is_over t Noting outcome e = cc
 is_over t Unlocking outcome e = cc
 
@@ -105,6 +107,7 @@ asked_by Exchange answer t u k h = inl (sym k.1 ∙ h)
 asked_by Rename answer t u k h = inl (sym k.1 ∙ h)
 asked_by SyncFolder answer t u k h = inl (sym k.1 ∙ h)
 asked_by Remove answer t u k h = inl (sym k.1 ∙ h)
+asked_by Settle answer t u k h = inl (sym k.1 ∙ h)
 asked_by Note answer t u k h = inl (sym k.1 ∙ h)
 asked_by Unlock answer t u k h = inl (sym k.1 ∙ h)
 asked_by (Done o) answer t u k h = inl (sym k.1 ∙ h)
@@ -163,6 +166,8 @@ made_by Rename (No f) before said s m = let bad : Either f ≡ Made = sym s ∙ 
 made_by SyncFolder (Yes n) before said s m = inr (refl, tt)
 made_by SyncFolder (No f) before said s m = let bad : Unsettled f ≡ Made = sym s ∙ m in cc
 made_by Remove answer before said s m = inl (sym s ∙ m)
+made_by Settle (Yes n) before said s m = let bad : Same ≡ Made = sym s ∙ m in cc
+made_by Settle (No f) before said s m = let bad : Unsynced f ≡ Made = sym s ∙ m in cc
 made_by Note answer before said s m = inl (sym s ∙ m)
 made_by Unlock answer before said s m = inl (sym s ∙ m)
 made_by (Done o) answer before said s m = inl (sym s ∙ m)
@@ -188,7 +193,7 @@ before_sync t Lock (No x) next g f lt = inr (inr (omega arith))
 before_sync t Read (Yes n) next g f lt = inl (let e : place next ≡ 2 = ap place g in omega arith)
 before_sync t Read (No x) next g f lt = inr (inr (omega arith))
 before_sync t Make (Yes n) next g f lt = inl (omega arith)
-before_sync t Make (No x) next g f lt = inr (inr (omega arith))
+before_sync t Make (No x) next g f lt = inr (inr (let e : 10 ≤ place next = g.0 in omega arith))
 before_sync t (Create m) (Yes n) next g f lt = inl (let e : place next ≡ 4 = ap place g in omega arith)
 before_sync t (Create m) (No x) next g f lt = inr (inr (omega arith))
 before_sync t (Append at) (Yes n) next g f lt = ⊎_elim (λ (e : place next ≡ 4). inl (omega arith)) (λ r. ⊎_elim (λ (e : place next ≡ 5). inl (omega arith)) (λ (e : 10 ≤ place next). inr (inr (omega arith))) r) g.any
@@ -211,15 +216,17 @@ before_sync t Rename (Yes n) next g f lt = inr (inl (inl (refl, tt)))
 before_sync t Rename (No x) next g f lt = inr (inr (omega arith))
 before_sync t SyncFolder answer next g f lt = absurd (omega arith)
 before_sync t Remove answer next g f lt = absurd (omega arith)
+before_sync t Settle answer next g f lt = absurd (omega arith)
 before_sync t Note answer next g f lt = absurd (omega arith)
 before_sync t Unlock answer next g f lt = absurd (omega arith)
 before_sync t (Done o) answer next g f lt = absurd (omega arith)
 
 rises : (step next : Step) → Follows step next → 9 < place step → 9 < place next
 rises Remove next f lt = omega arith
+rises Settle next f lt = omega arith
 rises Note next f lt = omega arith
 rises Unlock next f lt = omega arith
-rises (Done o) next f lt = (let e : place next ≡ 13 = ap place f in omega arith)
+rises (Done o) next f lt = (let e : place next ≡ 14 = ap place f in omega arith)
 rises Lock next f lt = absurd (omega arith)
 rises Read next f lt = absurd (omega arith)
 rises Make next f lt = absurd (omega arith)
@@ -266,7 +273,7 @@ made_asked taken t u job es now b h m =
 
 -- it is on its way, or has made the change
 IsOnCourse : Step → Outcome → Type 0
-IsOnCourse step outcome = (place step < 10) ⊎ (outcome ≡ Made)
+IsOnCourse step outcome = (place step < 10) ⊎ ((outcome ≡ Made) × (11 < place step))
 
 -- an append that was no fault
 writes_on : (t : Turn) (size at n : ℕ) (next : Step) (said : Outcome) → t.len ≡ size → at ≤ size → GoesOnWriting t.len at n next →
@@ -274,47 +281,48 @@ writes_on : (t : Turn) (size at n : ℕ) (next : Step) (said : Outcome) → t.le
 unfolding IsOnCourse
 writes_on t size at n next said len le g = by_order (size - (at + n)) (at + n - size) n refl refl refl
   where
-    by_order : (a b c : ℕ) → size - (at + n) ≡ a → at + n - size ≡ b → n ≡ c → (((n ≡ 0) × (at < size)) ⊎ (size < at + n)) ⊎ ((place next < 10) ⊎ (said ≡ Made))
+    by_order : (a b c : ℕ) → size - (at + n) ≡ a → at + n - size ≡ b → n ≡ c → (((n ≡ 0) × (at < size)) ⊎ (size < at + n)) ⊎ ((place next < 10) ⊎ ((said ≡ Made) × (11 < place next)))
     by_order zero zero c x y z = inr (inl (let e : place next ≡ 5 = g.whole (omega (arith, len, x, y)) in omega arith))
     by_order zero (suc b) c x y z = inl (inr (omega (arith, y)))
     by_order (suc a) b zero x y z = inl (inl (z, omega (arith, x, z)))
     by_order (suc a) b (suc c) x y z = inr (inl (let e : place next ≡ 4 = g.part (omega (arith, z)) (omega (arith, len, x)) in omega arith))
 
-stays_on : (t : Turn) (size : ℕ) (step : Step) (answer : Answer) (next : Step) (before said : Outcome) → ((at : ℕ) → step ≡ Append at → (t.len ≡ size) × (at ≤ size)) → GoesOn t step answer next → IsSaid step answer before said
+stays_on : (t : Turn) (size : ℕ) (step : Step) (answer : Answer) (next : Step) (before said : Outcome) → ((at : ℕ) → step ≡ Append at → (t.len ≡ size) × (at ≤ size)) → GoesOn t step answer next → Follows step next → IsSaid step answer before said
     → IsOnCourse step before → IsFault size step answer ⊎ IsOnCourse next said
 unfolding IsOnCourse
-stays_on t size Lock (Yes n) next before said l g s c = inr (inl (let e : place next ≡ 1 = ap place g in omega arith))
-stays_on t size Lock (No f) next before said l g s c = inl tt
-stays_on t size Read (Yes n) next before said l g s c = inr (inl (let e : place next ≡ 2 = ap place g in omega arith))
-stays_on t size Read (No f) next before said l g s c = inl tt
-stays_on t size Make (Yes n) next before said l g s c = inr (inl (omega arith))
-stays_on t size Make (No f) next before said l g s c = inl tt
-stays_on t size (Create m) (Yes n) next before said l g s c = inr (inl (let e : place next ≡ 4 = ap place g in omega arith))
-stays_on t size (Create m) (No f) next before said l g s c = inl tt
-stays_on t size (Append at) (Yes n) next before said l g s c = writes_on t size at n next said (l at refl).0 (l at refl).1 g
-stays_on t size (Append at) (No f) next before said l g s c = inl tt
-stays_on t size (Sync b) (Yes n) next before said l g s c = inr (inl (by_keeps t.keeps refl))
+stays_on t size Lock (Yes n) next before said l g f s c = inr (inl (let e : place next ≡ 1 = ap place g in omega arith))
+stays_on t size Lock (No x) next before said l g f s c = inl tt
+stays_on t size Read (Yes n) next before said l g f s c = inr (inl (let e : place next ≡ 2 = ap place g in omega arith))
+stays_on t size Read (No x) next before said l g f s c = inl tt
+stays_on t size Make (Yes n) next before said l g f s c = inr (inl (omega arith))
+stays_on t size Make (No x) next before said l g f s c = inl tt
+stays_on t size (Create m) (Yes n) next before said l g f s c = inr (inl (let e : place next ≡ 4 = ap place g in omega arith))
+stays_on t size (Create m) (No x) next before said l g f s c = inl tt
+stays_on t size (Append at) (Yes n) next before said l g f s c = writes_on t size at n next said (l at refl).0 (l at refl).1 g
+stays_on t size (Append at) (No x) next before said l g f s c = inl tt
+stays_on t size (Sync b) (Yes n) next before said l g f s c = inr (inl (by_keeps t.keeps refl))
   where
     by_keeps : (k : Bool) → t.keeps ≡ k → place next < 10
     by_keeps false k = let e : place next ≡ 8 = ap place (g.0 k) in omega arith
     by_keeps true k = let e : place next ≡ 6 = ap place (g.1 k) in omega arith
-stays_on t size (Sync b) (No f) next before said l g s c = inl tt
-stays_on t size SetAside (Yes n) next before said l g s c = inr (inl (by_number n refl))
+stays_on t size (Sync b) (No x) next before said l g f s c = inl tt
+stays_on t size SetAside (Yes n) next before said l g f s c = inr (inl (by_number n refl))
   where
     by_number : (k : ℕ) → n ≡ k → place next < 10
     by_number zero k = let e : place next ≡ 8 = ap place (g.0 k) in omega arith
     by_number (suc m) k = let e : place next ≡ 7 = ap place (g.1 (omega (arith, k))) in omega arith
-stays_on t size SetAside (No f) next before said l g s c = inl tt
-stays_on t size Exchange (Yes n) next before said l g s c = inr (inl (let e : place next ≡ 9 = ap place g in omega arith))
-stays_on t size Exchange (No f) next before said l g s c = inl tt
-stays_on t size Rename (Yes n) next before said l g s c = inr (inl (let e : place next ≡ 9 = ap place g in omega arith))
-stays_on t size Rename (No f) next before said l g s c = inl tt
-stays_on t size SyncFolder (Yes n) next before said l g s c = inr (inr s)
-stays_on t size SyncFolder (No f) next before said l g s c = inl tt
-stays_on t size Remove answer next before said l g s c = inr (inr (⊎_elim (λ (lt : place Remove < 10). absurd (omega arith)) (λ (m : before ≡ Made). s ∙ m) c))
-stays_on t size Note answer next before said l g s c = inr (inr (⊎_elim (λ (lt : place Note < 10). absurd (omega arith)) (λ (m : before ≡ Made). s ∙ m) c))
-stays_on t size Unlock answer next before said l g s c = inr (inr (⊎_elim (λ (lt : place Unlock < 10). absurd (omega arith)) (λ (m : before ≡ Made). s ∙ m) c))
-stays_on t size (Done o) answer next before said l g s c = inr (inr (⊎_elim (λ (lt : place (Done o) < 10). absurd (omega arith)) (λ (m : before ≡ Made). s ∙ m) c))
+stays_on t size SetAside (No x) next before said l g f s c = inl tt
+stays_on t size Exchange (Yes n) next before said l g f s c = inr (inl (let e : place next ≡ 9 = ap place g in omega arith))
+stays_on t size Exchange (No x) next before said l g f s c = inl tt
+stays_on t size Rename (Yes n) next before said l g f s c = inr (inl (let e : place next ≡ 9 = ap place g in omega arith))
+stays_on t size Rename (No x) next before said l g f s c = inl tt
+stays_on t size SyncFolder (Yes n) next before said l g f s c = inr (inr (s, let e : place next ≡ 12 = ap place g in omega arith))
+stays_on t size SyncFolder (No x) next before said l g f s c = inl tt
+stays_on t size Remove answer next before said l g f s c = absurd (⊎_elim (λ (lt : place Remove < 10). omega arith) (λ (m : (before ≡ Made) × (11 < place Remove)). (let lt : 11 < place Remove = m.1 in omega arith)) c)
+stays_on t size Settle answer next before said l g f s c = absurd (⊎_elim (λ (lt : place Settle < 10). omega arith) (λ (m : (before ≡ Made) × (11 < place Settle)). (let lt : 11 < place Settle = m.1 in omega arith)) c)
+stays_on t size Note answer next before said l g f s c = inr (inr (⊎_elim (λ (lt : place Note < 10). absurd (omega arith)) (λ (m : (before ≡ Made) × (11 < place Note)). (s ∙ m.0, omega (arith, f))) c))
+stays_on t size Unlock answer next before said l g f s c = inr (inr (⊎_elim (λ (lt : place Unlock < 10). absurd (omega arith)) (λ (m : (before ≡ Made) × (11 < place Unlock)). (s ∙ m.0, omega (arith, f))) c))
+stays_on t size (Done o) answer next before said l g f s c = inr (inr (⊎_elim (λ (lt : place (Done o) < 10). absurd (omega arith)) (λ (m : (before ≡ Made) × (11 < place (Done o))). (s ∙ m.0, let e : place next ≡ 14 = ap place f in omega arith)) c))
 
 -- a byte that is to be written is one of the bytes
 pub len_at : (t : Turn) (job : Job) (old es : List Event) (s : State) → StandsAt s t job old es → (at : ℕ) → step_at s t ≡ Append at
@@ -330,6 +338,7 @@ len_at t job old es Exchanging h at e = cc
 len_at t job old es Renaming h at e = cc
 len_at t job old es SyncingFolder h at e = cc
 len_at t job old es Removing h at e = cc
+len_at t job old es Settling h at e = cc
 len_at t job old es Noting h at e = cc
 len_at t job old es Unlocking h at e = cc
 len_at t job old es Over h at e = cc
@@ -344,17 +353,84 @@ persists (s ∷ more) t u job old es now apart k h c =
     ⊎_elim (λ (f : IsFault (length job.bytes) (step_of t) s.answer). inl (inl (subst (λ x. IsFault (length job.bytes) x s.answer) (sym h.0) f)))
     (λ on. ⊎_elim (λ (f : HasFault (length job.bytes) more). inl (inr f)) (λ later. inr later)
     (persists more next u job old s.now now apart (a.stands job old es s.now apart k did) h.3.2 on))
-    (stays_on t (length job.bytes) (step_of t) s.answer (step_of next) t.outcome next.outcome (len_at t job old es t.state k) a.on a.said c)
+    (stays_on t (length job.bytes) (step_of t) s.answer (step_of next) t.outcome next.outcome (len_at t job old es t.state k) a.on a.order a.said c)
 
 made_or_fault : (taken : List Taken) (t u : Turn) (job : Job) (old now : List Event) (outcome : Outcome) → IsLockApart job → IsBegun t → RanSteps taken t u job old now → step_of u ≡ Done outcome
     → (outcome ≡ Made) ⊎ HasFault (length job.bytes) taken
 unfolding IsOnCourse
 made_or_fault taken t u job old now outcome apart b h e =
     let first : place (step_of t) ≡ 0 = ap place b.first in
-    let last : place (step_of u) ≡ 13 = ap place e in
+    let last : place (step_of u) ≡ 14 = ap place e in
     ⊎_elim (λ (f : HasFault (length job.bytes) taken). inr f)
-    (λ c. ⊎_elim (λ (lt : place (step_of u) < 10). absurd (omega arith)) (λ (m : u.outcome ≡ Made). inl (sym (done_is u u.state outcome e) ∙ m)) c)
+    (λ c. ⊎_elim (λ (lt : place (step_of u) < 10). absurd (omega arith)) (λ (m : (u.outcome ≡ Made) × (11 < place (step_of u))). inl (sym (done_is u u.state outcome e) ∙ m.0)) c)
     (persists taken t u job old old now apart (b.stands job old) h (inl (omega arith)))
+
+-- ---- what writes nothing
+
+unwritten_of : (keeps : Bool) (o : Outcome) (job : Job) (old es : List Event) → IsUnwritten o → Says keeps o job old es → IsKept keeps job old es
+unwritten_of keeps Made job old es w s = absurd w
+unwritten_of keeps (Kept fault) job old es w s = s
+unwritten_of keeps (Either fault) job old es w s = absurd w
+unwritten_of keeps (Unsettled fault) job old es w s = absurd w
+unwritten_of keeps Same job old es w s = s.kept
+unwritten_of keeps (Unsynced fault) job old es w s = s
+
+unwritten_at : (t : Turn) (job : Job) (old es : List Event) (s : State) → StandsAt s t job old es → 10 < place (step_at s t) → IsUnwritten t.outcome → IsKept t.keeps job old es
+unwritten_at t job old es Settling h lt w = kept t.keeps job old es (early_apart t.keeps job old es h)
+unwritten_at t job old es Noting h lt w = unwritten_of t.keeps t.outcome job old es w h.0
+unwritten_at t job old es Unlocking h lt w = unwritten_of t.keeps t.outcome job old es w h.0
+unwritten_at t job old es Over h lt w = unwritten_of t.keeps t.outcome job old es w h.0
+unwritten_at t job old es Locking h lt w = absurd (omega arith)
+unwritten_at t job old es Reading h lt w = absurd (omega arith)
+unwritten_at t job old es Making h lt w = absurd (omega arith)
+unwritten_at t job old es Creating h lt w = absurd (omega arith)
+unwritten_at t job old es Writing h lt w = absurd (omega arith)
+unwritten_at t job old es Syncing h lt w = absurd (omega arith)
+unwritten_at t job old es SettingAside h lt w = absurd (omega arith)
+unwritten_at t job old es Exchanging h lt w = absurd (omega arith)
+unwritten_at t job old es Renaming h lt w = absurd (omega arith)
+unwritten_at t job old es SyncingFolder h lt w = absurd (omega arith)
+unwritten_at t job old es Removing h lt w = absurd (omega arith)
+
+-- same is said from that step on
+same_by : (step : Step) (answer : Answer) (before said : Outcome) → IsSaid step answer before said → said ≡ Same → (before ≡ Same) ⊎ ((place step ≡ 11) × IsYes answer)
+same_by Lock (Yes n) before said s m = inl (sym s ∙ m)
+same_by Lock (No f) before said s m = let bad : Kept f ≡ Same = sym s ∙ m in cc
+same_by Read (Yes n) before said s m = inl (sym s ∙ m)
+same_by Read (No f) before said s m = let bad : Kept f ≡ Same = sym s ∙ m in cc
+same_by Make (Yes n) before said s m = inl (sym s ∙ m)
+same_by Make (No f) before said s m = let bad : Kept f ≡ Same = sym s ∙ m in cc
+same_by (Create x) (Yes n) before said s m = inl (sym s ∙ m)
+same_by (Create x) (No f) before said s m = let bad : Kept f ≡ Same = sym s ∙ m in cc
+same_by (Append at) (Yes n) before said s m = ⊎_elim (λ (same : said ≡ before). inl (sym same ∙ m)) (λ (k : said ≡ Kept 0). (let bad : Kept 0 ≡ Same = sym k ∙ m in cc)) s
+same_by (Append at) (No f) before said s m = let bad : Kept f ≡ Same = sym s ∙ m in cc
+same_by (Sync b) (Yes n) before said s m = inl (sym s ∙ m)
+same_by (Sync b) (No f) before said s m = let bad : Kept f ≡ Same = sym s ∙ m in cc
+same_by SetAside (Yes n) before said s m = inl (sym s ∙ m)
+same_by SetAside (No f) before said s m = let bad : Kept f ≡ Same = sym s ∙ m in cc
+same_by Exchange (Yes n) before said s m = inl (sym s ∙ m)
+same_by Exchange (No f) before said s m = let bad : Either f ≡ Same = sym s ∙ m in cc
+same_by Rename (Yes n) before said s m = inl (sym s ∙ m)
+same_by Rename (No f) before said s m = let bad : Either f ≡ Same = sym s ∙ m in cc
+same_by SyncFolder (Yes n) before said s m = let bad : Made ≡ Same = sym s ∙ m in cc
+same_by SyncFolder (No f) before said s m = let bad : Unsettled f ≡ Same = sym s ∙ m in cc
+same_by Settle (Yes n) before said s m = inr (refl, tt)
+same_by Settle (No f) before said s m = let bad : Unsynced f ≡ Same = sym s ∙ m in cc
+same_by Remove answer before said s m = inl (sym s ∙ m)
+same_by Note answer before said s m = inl (sym s ∙ m)
+same_by Unlock answer before said s m = inl (sym s ∙ m)
+same_by (Done o) answer before said s m = inl (sym s ∙ m)
+
+settle_asked : (taken : List Taken) (t u : Turn) (job : Job) (es now : List Event) → RanSteps taken t u job es now → u.outcome ≡ Same → (t.outcome ≡ Same) ⊎ HasDone 11 taken
+settle_asked [] t u job es now h m = inl (ap (λ x. x.outcome) (sym h.0) ∙ m)
+settle_asked (s ∷ more) t u job es now h m =
+    ⊎_elim (λ (before : h.3.0.outcome ≡ Same). ⊎_elim (λ was. inl was) (λ here. inr (inl (ap place h.0 ∙ here.0, here.1)))
+    (same_by (step_of t) s.answer t.outcome h.3.0.outcome h.3.1.said before)) (λ later. inr (inr later))
+    (settle_asked more h.3.0 u job s.now now h.3.2 m)
+
+same_asked : (taken : List Taken) (t u : Turn) (job : Job) (es now : List Event) → IsBegun t → RanSteps taken t u job es now → u.outcome ≡ Same → HasDone 11 taken
+same_asked taken t u job es now b h m =
+    ⊎_elim (λ (was : t.outcome ≡ Same). (let bad : Kept 0 ≡ Same = sym b.said ∙ was in cc)) (λ d. d) (settle_asked taken t u job es now h m)
 
 -- ---- the law
 
@@ -363,6 +439,8 @@ whatever_is_answered taken t u job old now apart begun ran =
     let c = came taken t u job old old now apart (begun.stands job old) ran in
     record {
       safe = safe_at u job old now apart u.state c.stands;
+      unwritten = λ lt w. unwritten_at u job old now u.state c.stands lt w;
+      settles = λ e. same_asked taken t u job old now begun ran (done_is u u.state Same e);
       said = λ outcome e. (end_at u job old now u.state outcome c.stands e).0;
       asked = λ e. made_asked taken t u job old now begun ran (done_is u u.state Made e);
       persists = λ outcome e. made_or_fault taken t u job old now outcome apart begun ran e;

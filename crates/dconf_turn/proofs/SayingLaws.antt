@@ -1,17 +1,17 @@
 -- What may be said of a folder after each step.
-use Rattle.std.proofs.Common.{ℕ, ◌<◌, ◌≡◌, ◌≢◌, Bool, false, cond, List, ◌∷◌, ◌++◌, length, Option, Some, None, refl, sym, ◌∙◌, ap, subst, arith, ⊎_elim, inl, inr, ◌⊎◌}
+use Rattle.std.proofs.Common.{ℕ, ◌<◌, ◌≡◌, ◌≢◌, Bool, true, false, cond, List, ◌∷◌, ◌++◌, length, Option, Some, None, refl, sym, ◌∙◌, ap, subst, arith, ⊎_elim, inl, inr, ◌⊎◌}
 use Rattle.std.specs.Bool.{IsTrue}
-use Rattle.dconf_model.specs.Folders.{Event, files_made, file_of, content, is_file, is_synced, StoodFor, MayLeaveOf, MayLeave, MayHaveLeft, Grows, read_content, content_of}
-use Rattle.dconf_model.specs.Folders.Event.{create, append, remove, sync_folder}
+use Rattle.dconf_model.specs.Folders.{Event, files_made, file_of, content, is_file, is_synced, StoodFor, MayLeaveOf, MayLeave, MayHaveLeft, Grows, IsSettled, read_content, content_of}
+use Rattle.dconf_model.specs.Folders.Event.{create, append, remove, sync, sync_folder}
 use Rattle.dconf_model.specs.Replacing.{new_name}
 use Rattle.dconf_model.proofs.SameBytes.{itself, other_path}
 use Rattle.dconf_model.proofs.FolderLaws.{current, counts_now, longer}
 use Rattle.dconf_turn.specs.declared.step.Outcome.{Outcome}
-use Rattle.dconf_turn.specs.declared.step.Outcome.TheVariants.{Made, Kept, Either, Unsettled}
+use Rattle.dconf_turn.specs.declared.step.Outcome.TheVariants.{Made, Kept, Either, Unsettled, Same, Unsynced}
 use Rattle.dconf_turn.specs.Jobs.{Job, IsAside, IsOwn, IsLockApart}
 use Rattle.dconf_turn.specs.Progress.{Apart, Placed, IsAsideAt, IsEarly}
-use Rattle.dconf_turn.specs.Sayings.{IsKept, IsWhole, HasAside, IsMade, IsUnsettled, Says}
-use Rattle.dconf_turn.proofs.Fresh.{bounded, stood_bounded, not_file, goes_on}
+use Rattle.dconf_turn.specs.Sayings.{IsKept, IsSame, IsWhole, HasAside, IsMade, IsUnsettled, Says}
+use Rattle.dconf_turn.proofs.Fresh.{bounded, stood_bounded, not_file, same_file, goes_on}
 use Rattle.dconf_turn.proofs.ApartLaws.{nothing_yet, created_apart, leaves_of, other_name}
 use Rattle.dconf_turn.proofs.OwnNames.{name_not_own, lock_own, aside_is_not_new}
 use Rattle.dconf_turn.proofs.PlacedLaws.{leaves_bytes, leaves_same}
@@ -113,12 +113,81 @@ module _ (keeps : Bool) (job : Job) (old es : List Event) where
       );
     }
 
+-- ---- what stands is brought to the disk
+
+module _ (es : List Event) (name : List ℕ) where
+  abbrev in_file : List Event
+  in_file = sync name ∷ es
+
+  abbrev on_disk : List Event
+  on_disk = sync_folder ∷ in_file
+
+  still_so : (b x : Bool) → x ≡ true → cond b true x ≡ true
+  still_so true x e = refl
+  still_so false x e = e
+
+  leaves_synced : (file : Option ℕ) (c : Option (List ℕ)) → MayLeaveOf in_file file c → MayLeaveOf es file c
+  leaves_synced None c l = l
+  leaves_synced (Some k) c l = (l.0, λ e. l.1 (still_so (is_file (file_of es name) k) (is_synced es k) e))
+
+  still_synced : (other : List ℕ) (c : Option (List ℕ)) → MayLeave in_file other c → MayLeave es other c
+  still_synced other c m = (m.0, m.1, leaves_synced m.0 c m.2)
+
+  still_settled : (other : List ℕ) (c : Option (List ℕ)) → MayLeave on_disk other c → MayLeave in_file other c
+  still_settled other c m =
+      (m.0, subst (λ o. StoodFor in_file other o) (sym m.1) (current in_file other), leaves_same in_file on_disk (λ k. refl) (λ k. refl) m.0 c m.2)
+
+  same_read : (ds : List Event) → ((k : ℕ) → content ds k ≡ content es k) → (o : Option ℕ) → content_of ds o ≡ content_of es o
+  same_read ds same None = refl
+  same_read ds same (Some k) = ap (λ (x : List ℕ). Some x) (same k)
+
+  leaves_it : (o : Option ℕ) → file_of es name ≡ o → (c : Option (List ℕ)) → MayLeaveOf on_disk o c → c ≡ content_of es o
+  leaves_it None e c l = l
+  leaves_it (Some k) e c l = l.1 (ap (λ o. cond (is_file o k) true (is_synced es k)) e ∙ ap (λ b. cond b true (is_synced es k)) (same_file k))
+
+  settles : IsSettled on_disk name (read_content es name)
+  settles c m =
+      leaves_it (file_of es name) refl c (subst (λ o. MayLeaveOf on_disk o c) m.1 m.2)
+
+  module _ (keeps : Bool) (job : Job) (old : List Event) (k : IsKept keeps job old es) where
+    kept_more : (e : Event) (ds : List Event) → IsKept keeps job old ds → ((other : List ℕ) (c : Option (List ℕ)) → MayLeave (e ∷ ds) other c → MayLeave ds other c)
+        → ((other : List ℕ) → read_content (e ∷ ds) other ≡ read_content ds other) → IsKept keeps job old (e ∷ ds)
+    kept_more e ds k still reads = record {
+      grown = (e ∷ k.grown.0, ap (λ l. e ∷ l) k.grown.1);
+      crash = λ other c n h. goes_on e ds (length old) other (λ d. MayLeave old other d) (λ d l. k.crash other d n l)
+          (λ d m. k.crash other d n (counts_now ds (length old) other d (longer old ds k.grown) (still other d m))) c h;
+      read = λ other n. reads other ∙ k.read other n;
+    }
+
+    pub kept_synced : IsKept keeps job old in_file
+    kept_synced = kept_more (sync name) es k still_synced (λ other. same_read in_file (λ x. refl) (file_of es other))
+
+    pub kept_settled : IsKept keeps job old on_disk
+    kept_settled = kept_more sync_folder in_file kept_synced still_settled (λ other. same_on (file_of es other))
+      where
+        same_on : (o : Option ℕ) → content_of on_disk o ≡ content_of in_file o
+        same_on None = refl
+        same_on (Some j) = refl
+
+module _ (keeps : Bool) (job : Job) (old es : List Event) (apart : IsLockApart job) (k : IsKept keeps job old es) where
+  -- what was settled before is so still
+  pub same_before : IsSettled es job.name (read_content es job.name) → IsSame keeps job old es
+  same_before s = record { kept = k; settled = λ c m. s c m ∙ k.read job.name (name_not_own keeps job old apart) }
+
+  pub same_now : IsSame keeps job old (sync_folder ∷ sync job.name ∷ es)
+  same_now = record {
+    kept = kept_settled es job.name keeps job old k;
+    settled = λ c m. settles es job.name c m ∙ k.read job.name (name_not_own keeps job old apart);
+  }
+
 -- whatever is said, the file is the old one or the new one, whole
 pub whole_of : (keeps : Bool) (o : Outcome) (job : Job) (old es : List Event) → IsLockApart job → Says keeps o job old es → IsWhole keeps job old es
 whole_of keeps Made job old es apart r = r.whole
 whole_of keeps (Kept fault) job old es apart k = kept_whole keeps job old es apart k
 whole_of keeps (Either fault) job old es apart m = m
 whole_of keeps (Unsettled fault) job old es apart u = u.whole
+whole_of keeps Same job old es apart s = kept_whole keeps job old es apart s.kept
+whole_of keeps (Unsynced fault) job old es apart k = kept_whole keeps job old es apart k
 
 -- ---- one event more at a name of its own, and not at what was set aside
 
@@ -174,6 +243,8 @@ module _ (e : Event) (es : List Event) (name : List ℕ)
   }
   says_after (Kept fault) k = kept_after k
   says_after (Either fault) m = whole_after m
+  says_after Same s = record { kept = kept_after s.kept; settled = λ c m. s.settled c (still job.name c differ_name m) }
+  says_after (Unsynced fault) k = kept_after k
   says_after (Unsettled fault) u = record { whole = whole_after u.whole; read = reads job.name differ_name ∙ u.read; aside = λ k. aside_after (u.aside k) }
 
 -- ---- a name is removed

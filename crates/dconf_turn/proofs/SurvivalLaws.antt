@@ -8,12 +8,12 @@ use Rattle.dconf_model.proofs.HistoryLaws.{never_lost}
 use Rattle.dconf_model.proofs.FolderLaws.{counts_now, longer, only_now}
 use Rattle.dconf_turn.specs.declared.turn.Turn.{Turn}
 use Rattle.dconf_turn.specs.declared.step.Outcome.{Outcome}
-use Rattle.dconf_turn.specs.declared.step.Outcome.TheVariants.{Made, Kept, Either, Unsettled}
+use Rattle.dconf_turn.specs.declared.step.Outcome.TheVariants.{Made, Kept, Either, Unsettled, Same, Unsynced}
 use Rattle.dconf_turn.specs.Jobs.{Job, IsLockApart}
 use Rattle.dconf_turn.specs.Sayings.{IsKept, IsWhole}
 use Rattle.dconf_turn.specs.Progress.{IsEarly}
 use Rattle.dconf_turn.specs.Histories.{IsGoodTurn}
-use Rattle.dconf_turn.specs.Survivals.{TurnEnd, Happening, Drove, job_of, DroveFor, SaidSo, WasCut, CameTo, CameInTurn, IsKeptBy, AreTurnsKept, NoTurnIsLost}
+use Rattle.dconf_turn.specs.Survivals.{TurnEnd, Happening, Drove, job_of, DroveFor, SaidSo, WasUnwritten, WasCut, CameTo, CameInTurn, IsKeptBy, AreTurnsKept, NoTurnIsLost}
 use Rattle.dconf_turn.specs.Survivals.TurnEnd.{said, killed, crashed}
 use Rattle.dconf_turn.specs.Survivals.Happening.{turn, crash}
 use Rattle.dconf_turn.proofs.OwnNames.{name_not_own}
@@ -28,6 +28,8 @@ ending_of (said Made) = done
 ending_of (said (Kept fault)) = refused
 ending_of (said (Either fault)) = faulted
 ending_of (said (Unsettled fault)) = faulted
+ending_of (said Same) = done
+ending_of (said (Unsynced fault)) = refused
 ending_of killed = faulted
 ending_of crashed = stopped
 
@@ -75,6 +77,10 @@ module _ {Command : Type 0} (may : MaybeBytes → Command → MaybeBytes → Typ
   step_of_outcome command (Kept fault) old new s = not_done s.0.keeps s.1 command old new ((good s.0 (job_of may name lock s.1) old new apart s.2).said (Kept fault) s.3)
   step_of_outcome command (Either fault) old new s = at_fault command old new s.0 s.1
   step_of_outcome command (Unsettled fault) old new s = at_fault command old new s.0 s.1
+  step_of_outcome command Same old new s =
+      let r = (good s.0 (job_of may name lock s.1) old new apart s.2).said Same s.3 in
+      (read_content old name, s.4, r.settled, r.kept.read name (name_not_own s.0.keeps (job_of may name lock s.1) old apart))
+  step_of_outcome command (Unsynced fault) old new s = not_done s.0.keeps s.1 command old new ((good s.0 (job_of may name lock s.1) old new apart s.2).said (Unsynced fault) s.3)
 
   early_kept : (old cut : List Event) → IsEarly (job_of may name lock []) old cut → IsKept false (job_of may name lock []) old cut
   early_kept old cut e = kept false (job_of may name lock []) old cut (early_apart false (job_of may name lock []) old cut e)
@@ -86,7 +92,12 @@ module _ {Command : Type 0} (may : MaybeBytes → Command → MaybeBytes → Typ
 
   killed_step : (command : Command) (old cut : List Event) → WasCut may name lock command old cut → StepOf old (Some command) faulted cut
   killed_step command old cut (inl e) = (early_whole command old cut e, inl ((early_kept old cut e).read name (name_not_own false (job_of may name lock []) old apart)))
-  killed_step command old cut (inr d) = at_fault command old cut d.0 d.1
+  killed_step command old cut (inr (inl w)) =
+      let job = job_of may name lock w.1 in
+      let k = (good w.0 job old cut apart w.2).unwritten w.3 w.4 in
+      let other = name_not_own w.0.keeps job old apart in
+      (record { grown = k.grown; any_moment = λ c h. inl (k.crash name c other h) }, inl (k.read name other))
+  killed_step command old cut (inr (inr d)) = at_fault command old cut d.0 d.1
 
   step_of_end : (command : Command) (end : TurnEnd) (old new : List Event) → CameTo may name lock command end old new → StepOf old (Some command) (ending_of end) new
   step_of_end command (said outcome) old new s = step_of_outcome command outcome old new s
@@ -125,6 +136,8 @@ module _ {Command : Type 0} (may : MaybeBytes → Command → MaybeBytes → Typ
   by_end (said Made) command more later all h = first_kept command more later all h
   by_end (said (Kept fault)) command more later all h = later all h
   by_end (said (Either fault)) command more later all h = ⊎_elim (λ out. inl (later all out)) (λ k. inr (first_kept command more later all k)) h
+  by_end (said Same) command more later all h = first_kept command more later all h
+  by_end (said (Unsynced fault)) command more later all h = later all h
   by_end (said (Unsettled fault)) command more later all h = ⊎_elim (λ out. inl (later all out)) (λ k. inr (first_kept command more later all k)) h
   by_end killed command more later all h = ⊎_elim (λ out. inl (later all out)) (λ k. inr (first_kept command more later all k)) h
   by_end crashed command more later all h = ⊎_elim (λ out. inl (later all out)) (λ k. inr (first_kept command more later all k)) h

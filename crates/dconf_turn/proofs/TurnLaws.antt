@@ -3,25 +3,25 @@ use Rattle.std.proofs.Common.{ℕ, ◌+◌, ◌-◌, ◌<◌, ◌≤◌, ◌≡�
 use Rattle.std.specs.Bool.{IsTrue}
 use Rattle.std.proofs.Math.Seq.{take-add}
 use Rattle.std.proofs.lemmas.List.{take_all}
-use Rattle.dconf_model.specs.Folders.{Event, files_made, file_of}
-use Rattle.dconf_model.specs.Folders.Event.{create, append, touch, rename, remove, link, exchange}
+use Rattle.dconf_model.specs.Folders.{Event, IsSettled, files_made, file_of, read_content}
+use Rattle.dconf_model.specs.Folders.Event.{create, append, sync, touch, rename, remove, link, exchange, sync_folder}
 use Rattle.dconf_model.specs.Replacing.{new_name}
 use Rattle.dconf_model.proofs.SameBytes.{itself, other_path}
 use Rattle.dconf_turn.specs.declared.turn.Turn.{Turn}
 use Rattle.dconf_turn.specs.declared.turn.State.{State}
-use Rattle.dconf_turn.specs.declared.turn.State.TheVariants.{Locking, Reading, Making, Creating, Writing, Syncing, SettingAside, Exchanging, Renaming, SyncingFolder, Removing, Noting, Unlocking, Over}
-use Rattle.dconf_turn.specs.declared.step.Outcome.TheVariants.{Made, Kept, Either, Unsettled}
+use Rattle.dconf_turn.specs.declared.turn.State.TheVariants.{Locking, Reading, Making, Creating, Writing, Syncing, SettingAside, Exchanging, Renaming, SyncingFolder, Removing, Settling, Noting, Unlocking, Over}
+use Rattle.dconf_turn.specs.declared.step.Outcome.TheVariants.{Made, Kept, Either, Unsettled, Same, Unsynced}
 use Rattle.dconf_turn.specs.declared.step.Answer.{Answer}
 use Rattle.dconf_turn.specs.declared.step.Answer.TheVariants.{Yes, No}
 use Rattle.dconf_turn.specs.Jobs.{Job, IsFree, IsOwn, IsLockApart}
 use Rattle.dconf_turn.specs.Hosts.{DidStep, IsLockMade, IsLinked, IsNoted}
-use Rattle.dconf_turn.specs.Steps.{step_of, steps_left, KnowsAfter, IsSaid, GoesOn, Follows, EndsWell, IsRead}
-use Rattle.dconf_turn.specs.Sayings.{IsKept, IsWhole, Says}
+use Rattle.dconf_turn.specs.Steps.{step_of, steps_left, nothing_to_make, KnowsAfter, IsSaid, GoesOn, Follows, EndsWell, IsRead}
+use Rattle.dconf_turn.specs.Sayings.{IsKept, IsSame, IsWhole, Says}
 use Rattle.dconf_turn.specs.Progress.{Apart, Holds, Staged, Placed, IsAsideAt, IsEarly, IsCleared, Stands, IsAnswered}
 use Rattle.dconf_turn.proofs.ApartLaws.{created_apart, removed_apart, linked_apart, made, appended, appended_apart, touched_apart, synced, linked, moved}
 use Rattle.dconf_turn.proofs.OwnNames.{differs, aside_is_not_name, aside_is_not_new, new_own, aside_own, name_not_own, was_free}
 use Rattle.dconf_turn.proofs.PlacedLaws.{by_rename, by_exchange, changed, gone, beside_rename, beside_exchange}
-use Rattle.dconf_turn.proofs.SayingLaws.{kept, early_apart, kept_whole, placed_whole, unsettled, settled_made, says_removed, says_noted, is_gone, named_noted}
+use Rattle.dconf_turn.proofs.SayingLaws.{kept, early_apart, kept_whole, placed_whole, unsettled, settled_made, kept_synced, kept_settled, same_before, same_now, says_removed, says_noted, is_gone, named_noted}
 
 abbrev at_state : Turn → State → Turn
 at_state t s = record t { state = s }
@@ -73,9 +73,12 @@ module _ (keeps : Bool) (job : Job) (old es now : List Event) (apart : IsLockApa
   still_early : IsEarly job old es → now ≡ es → IsEarly job old now
   still_early s d = subst (λ x. IsEarly job old x) (sym d) s
 
+  early_file : (l : List Event) → IsEarly job old l → file_of l new ≡ file_of old new
+  early_file l (inl same) = ap (λ x. file_of x new) same
+  early_file l (inr m) = ap (λ x. file_of x new) m.2 ∙ ap (λ b. cond b (Some (files_made old)) (file_of old new)) (other_path new m.0 (λ e. (apart m.0 m.1).1 (sym e)))
+
   early_same : IsEarly job old now → file_of now new ≡ file_of old new
-  early_same (inl same) = ap (λ l. file_of l new) same
-  early_same (inr m) = ap (λ l. file_of l new) m.2 ∙ ap (λ b. cond b (Some (files_made old)) (file_of old new)) (other_path new m.0 (λ e. (apart m.0 m.1).1 (sym e)))
+  early_same e = early_file now e
 
   kept_early : IsEarly job old now → IsKept keeps job old now
   kept_early e = kept keeps job old now (early_apart keeps job old now e)
@@ -92,6 +95,37 @@ module _ (keeps : Bool) (job : Job) (old es now : List Event) (apart : IsLockApa
       ⊎_elim (λ (is : now ≡ es). kept_at es is a)
       (λ r. ⊎_elim (λ (is : now ≡ create new ∷ es). kept_at (create new ∷ es) is (created_apart old es own a new n_own))
       (λ (is : now ≡ remove new ∷ es). kept_at (remove new ∷ es) is (removed_apart old es own a new n_own)) r) d
+
+  module _ (s : IsEarly job old es) where
+    k_early : IsKept keeps job old es
+    k_early = kept keeps job old es (early_apart keeps job old es s)
+
+    new_early : file_of es new ≡ file_of old new
+    new_early = early_file es s
+
+    abbrev IsOnDisk : Type 0
+    IsOnDisk = (now ≡ sync_folder ∷ sync job.name ∷ es) ⊎ ((now ≡ es) × IsSettled es job.name (read_content es job.name))
+
+    abbrev IsTried : Type 0
+    IsTried = (now ≡ es) ⊎ ((now ≡ sync job.name ∷ es) ⊎ (now ≡ sync_folder ∷ sync job.name ∷ es))
+
+    same_at : IsOnDisk → IsSame keeps job old now
+    same_at (inl is) = subst (λ l. IsSame keeps job old l) (sym is) (same_now keeps job old es apart k_early)
+    same_at (inr d) = subst (λ l. IsSame keeps job old l) (sym d.0) (same_before keeps job old es apart k_early d.1)
+
+    new_at : IsOnDisk → file_of now new ≡ file_of old new
+    new_at (inl is) = ap (λ l. file_of l new) is ∙ new_early
+    new_at (inr d) = ap (λ l. file_of l new) d.0 ∙ new_early
+
+    kept_settling : IsTried → IsKept keeps job old now
+    kept_settling (inl is) = subst (λ l. IsKept keeps job old l) (sym is) k_early
+    kept_settling (inr (inl is)) = subst (λ l. IsKept keeps job old l) (sym is) (kept_synced es job.name keeps job old k_early)
+    kept_settling (inr (inr is)) = subst (λ l. IsKept keeps job old l) (sym is) (kept_settled es job.name keeps job old k_early)
+
+    new_settling : IsTried → file_of now new ≡ file_of old new
+    new_settling (inl is) = ap (λ l. file_of l new) is ∙ new_early
+    new_settling (inr (inl is)) = ap (λ l. file_of l new) is ∙ new_early
+    new_settling (inr (inr is)) = ap (λ l. file_of l new) is ∙ new_early
 
   module _ (bytes : List ℕ) (h : Holds old es own new bytes) where
     kept_writing : (now ≡ touch new ∷ es) ⊎ ((some : List ℕ) × (now ≡ append new some ∷ es)) → IsKept keeps job old now
@@ -281,6 +315,11 @@ module _ (t : Turn) where
       ))
       (λ z. omega arith) (omega arith) (omega arith) refl (λ x. x) (refl, refl) refl
 
+  pub done_settling : (n : ℕ) → (e : t.state ≡ Settling) → IsAnswered t (Yes n) (record t { state = Noting; outcome = Same })
+  done_settling n e =
+      became t _ (Yes n) Settling e (λ job old es now apart s d. (same_at t.keeps job old es now apart s d, inl (new_at t.keeps job old es now apart s d)))
+      (λ z. omega arith) (omega arith) refl refl (λ x. x) (refl, refl) refl
+
   -- ---- bytes that were written
 
   rest_of : (at n size : ℕ) → n ≡ size - at → at ≤ size → at + n ≡ size
@@ -332,10 +371,15 @@ module _ (t : Turn) where
       became t _ (No fault) Reading e (λ job old es now apart s d. (let k = still_early t.keeps job old es now apart s d in (kept_early t.keeps job old es now apart k, inl (early_same t.keeps job old es now apart k))))
       (λ z. omega arith) (omega arith) (omega arith) refl (λ x. x) (refl, refl) refl
 
-  pub failed_making : (fault : ℕ) → (e : t.state ≡ Making) → IsAnswered t (No fault) (record t { state = Noting; outcome = Kept fault })
-  failed_making fault e =
+  pub failed_making : (fault : ℕ) → (e : t.state ≡ Making) → (other : fault ≢ nothing_to_make) → IsAnswered t (No fault) (record t { state = Noting; outcome = Kept fault })
+  failed_making fault e other =
       became t _ (No fault) Making e (λ job old es now apart s d. (let k = still_early t.keeps job old es now apart s d in (kept_early t.keeps job old es now apart k, inl (early_same t.keeps job old es now apart k))))
-      (λ z. omega arith) (omega arith) (omega arith) refl (λ x. x) (refl, refl) refl
+      (λ z. omega arith) (omega arith) (omega arith, λ x. absurd (other x)) refl (λ x. x) (refl, refl) refl
+
+  pub nothing_made : (fault : ℕ) → (e : t.state ≡ Making) → IsAnswered t (No fault) (record t { state = Settling; outcome = Kept fault })
+  nothing_made fault e =
+      became t _ (No fault) Making e (λ job old es now apart s d. still_early t.keeps job old es now apart s d)
+      (λ z. omega arith) (omega arith) (omega arith, λ x. refl) refl (λ x. x) (refl, refl) refl
 
   pub failed_creating : (fault : ℕ) → (e : t.state ≡ Creating) → IsAnswered t (No fault) (record t { state = Removing; outcome = Kept fault })
   failed_creating fault e =
@@ -391,6 +435,11 @@ module _ (t : Turn) where
     knows = (refl, refl);
     leaves = λ l. inr tt;
   })
+
+  pub failed_settling : (fault : ℕ) → (e : t.state ≡ Settling) → IsAnswered t (No fault) (record t { state = Noting; outcome = Unsynced fault })
+  failed_settling fault e =
+      became t _ (No fault) Settling e (λ job old es now apart s d. (kept_settling t.keeps job old es now apart s d, inl (new_settling t.keeps job old es now apart s d)))
+      (λ z. omega arith) (omega arith) refl refl (λ x. x) (refl, refl) refl
 
   -- ---- steps whose answer is no matter
 

@@ -1,17 +1,17 @@
 -- Turns that are driven by a host, whatever it answers.
-use Rattle.std.specs.Prelude.{ℕ, ◌≡◌, ◌⊎◌, ◌+◌, ◌≤◌, List, [], ◌∷◌, length, None, IsTrue}
+use Rattle.std.specs.Prelude.{ℕ, ◌≡◌, ◌⊎◌, ◌+◌, ◌≤◌, ◌<◌, List, [], ◌∷◌, length, None, IsTrue}
 use Rattle.dconf_model.specs.Folders.{Event, file_of}
 use Rattle.dconf_model.specs.Replacing.{new_name}
 use Rattle.dconf_turn.specs.declared.turn.Turn.{Turn}
 use Rattle.dconf_turn.specs.declared.step.Outcome.{Outcome}
-use Rattle.dconf_turn.specs.declared.step.Outcome.TheVariants.{Made}
+use Rattle.dconf_turn.specs.declared.step.Outcome.TheVariants.{Made, Kept, Same, Unsynced}
 use Rattle.dconf_turn.specs.declared.step.Step.{Step}
 use Rattle.dconf_turn.specs.declared.step.Step.TheVariants.{Lock, Done}
 use Rattle.dconf_turn.specs.declared.step.Answer.{Answer}
 use Rattle.dconf_turn.specs.Jobs.{Job, IsLockApart}
 use Rattle.dconf_turn.specs.Steps.{place, step_of, IsYes, IsFault, Follows, EndsWell, IsDone, IsRefusal, IsAsked}
 use Rattle.dconf_turn.specs.Hosts.{DidStep}
-use Rattle.dconf_turn.specs.Sayings.{IsWhole, Says}
+use Rattle.dconf_turn.specs.Sayings.{IsKept, IsWhole, Says}
 use Rattle.dconf_turn.specs.Progress.{IsBegun, IsAnswered}
 
 -- a step that was carried out, its answer, and the folder after it
@@ -56,13 +56,24 @@ abbrev pub HasDone : ℕ → List Taken → Type 0
 HasDone k [] = ⊥
 HasDone k (s ∷ more) = ((place s.step ≡ k) × IsYes s.answer) ⊎ HasDone k more
 
+-- nothing was to be written, or nothing could be
+abbrev pub IsUnwritten : Outcome → Type 0
+IsUnwritten (Kept fault) = Unit {0}
+IsUnwritten Same = Unit {0}
+IsUnwritten (Unsynced fault) = Unit {0}
+IsUnwritten outcome = ⊥
+
 pub record IsGoodTurn (taken : List Taken) (u : Turn) (job : Job) (old now : List Event) : Type 0 where
   -- a crash at any moment leaves the old bytes or the new ones, and so does a read; each name but the turn's own is as it was
   pub safe : IsWhole u.keeps job old now
   -- what is said at the end is so
   pub said : (outcome : Outcome) → step_of u ≡ Done outcome → Says u.keeps outcome job old now
+  -- and so it is before the end, once no new file is written: nothing but the turn's own names is touched
+  pub unwritten : 10 < place (step_of u) → IsUnwritten u.outcome → IsKept u.keeps job old now
   -- made is said only where the rename, or the exchange, and the sync of the folder were answered by yes
   pub asked : step_of u ≡ Done Made → (HasDone 8 taken ⊎ HasDone 7 taken) × HasDone 9 taken
+  -- same is said only where what stands was brought to the disk
+  pub settles : step_of u ≡ Done Same → HasDone 11 taken
   -- and anything else only where a step failed
   pub persists : (outcome : Outcome) → step_of u ≡ Done outcome → (outcome ≡ Made) ⊎ HasFault (length job.bytes) taken
   -- the new name stands for what it stood for, or for no file, unless the host could not remove it

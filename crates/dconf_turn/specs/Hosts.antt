@@ -1,11 +1,11 @@
 -- What a host may have done to a folder, by the step that it was told and the answer that it gave. A no says little: the call
 -- may have had its effect. It is also what a call may have done that was cut off.
 use Rattle.std.specs.Prelude.{ℕ, ◌≡◌, ◌⊎◌, ◌<◌, List, ◌∷◌, Option, Some, length, take, drop}
-use Rattle.dconf_model.specs.Folders.{Event}
+use Rattle.dconf_model.specs.Folders.{Event, IsSettled, read_content}
 use Rattle.dconf_model.specs.Folders.Event.{create, append, sync, touch, rename, remove, link, exchange, sync_folder}
 use Rattle.dconf_model.specs.Replacing.{new_name}
 use Rattle.dconf_turn.specs.declared.step.Step.{Step}
-use Rattle.dconf_turn.specs.declared.step.Step.TheVariants.{Lock, Make, Create, Append, Sync, SetAside, Exchange, Rename, SyncFolder, Remove, Note}
+use Rattle.dconf_turn.specs.declared.step.Step.TheVariants.{Lock, Make, Create, Append, Sync, SetAside, Exchange, Rename, SyncFolder, Remove, Settle, Note}
 use Rattle.dconf_turn.specs.declared.step.Answer.{Answer}
 use Rattle.dconf_turn.specs.declared.step.Answer.TheVariants.{Yes, No}
 use Rattle.dconf_turn.specs.Jobs.{Job, IsFree}
@@ -47,5 +47,8 @@ DidStep Rename (No fault) job es now = (now ≡ es) ⊎ (now ≡ rename (new_nam
 DidStep SyncFolder (Yes n) job es now = now ≡ sync_folder ∷ es
 DidStep Remove (Yes n) job es now = now ≡ remove (new_name job.name) ∷ es
 DidStep Remove (No fault) job es now = (now ≡ es) ⊎ (now ≡ remove (new_name job.name) ∷ es)
+-- Nothing need be done to what is on the disk already. Where a sync failed, no byte is lost that was on the disk before.
+DidStep Settle (Yes n) job es now = (now ≡ sync_folder ∷ sync job.name ∷ es) ⊎ ((now ≡ es) × IsSettled es job.name (read_content es job.name))
+DidStep Settle (No fault) job es now = (now ≡ es) ⊎ ((now ≡ sync job.name ∷ es) ⊎ (now ≡ sync_folder ∷ sync job.name ∷ es))
 DidStep Note answer job es now = (now ≡ es) ⊎ IsNoted job.lock es now
 DidStep _ _ job es now = now ≡ es

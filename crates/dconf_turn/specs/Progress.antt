@@ -4,7 +4,7 @@ use Rattle.dconf_model.specs.Folders.{Event, files_made, file_of, content, is_sy
 use Rattle.dconf_model.specs.Replacing.{new_name}
 use Rattle.dconf_turn.specs.declared.turn.Turn.{Turn}
 use Rattle.dconf_turn.specs.declared.turn.State.{State}
-use Rattle.dconf_turn.specs.declared.turn.State.TheVariants.{Locking, Reading, Making, Creating, Writing, Syncing, SettingAside, Exchanging, Renaming, SyncingFolder, Removing, Noting, Unlocking, Over}
+use Rattle.dconf_turn.specs.declared.turn.State.TheVariants.{Locking, Reading, Making, Creating, Writing, Syncing, SettingAside, Exchanging, Renaming, SyncingFolder, Removing, Settling, Noting, Unlocking, Over}
 use Rattle.dconf_turn.specs.declared.step.Step.TheVariants.{Lock}
 use Rattle.dconf_turn.specs.declared.step.Outcome.TheVariants.{Kept}
 use Rattle.dconf_turn.specs.declared.step.Answer.{Answer}
@@ -74,6 +74,7 @@ StandsAt Renaming t job old now = Staged old now (IsOwn t.keeps job old) (new_na
 StandsAt SyncingFolder t job old now =
     Placed old now (IsOwn t.keeps job old) job.name job.bytes × (file_of now (new_name job.name) ≡ None) × (IsTrue t.keeps → IsAsideAt job old now)
 StandsAt Removing t job old now = Says t.keeps t.outcome job old now
+StandsAt Settling t job old now = IsEarly job old now
 StandsAt Noting t job old now = Says t.keeps t.outcome job old now × IsCleared t job old now
 StandsAt Unlocking t job old now = Says t.keeps t.outcome job old now × IsCleared t job old now
 StandsAt Over t job old now = Says t.keeps t.outcome job old now × IsCleared t job old now

@@ -2,7 +2,7 @@
 use Rattle.std.specs.Prelude.{ℕ, ◌≡◌, ◌≢◌, ◌⊎◌, Bool, List, length, Option, Some, IsTrue}
 use Rattle.dconf_model.specs.Folders.{Event, MayLeave, MayHaveLeft, IsSettled, Grows, read_content}
 use Rattle.dconf_turn.specs.declared.step.Outcome.{Outcome}
-use Rattle.dconf_turn.specs.declared.step.Outcome.TheVariants.{Made, Kept, Either, Unsettled}
+use Rattle.dconf_turn.specs.declared.step.Outcome.TheVariants.{Made, Kept, Either, Unsettled, Same, Unsynced}
 use Rattle.dconf_turn.specs.Jobs.{Job, IsFree, IsOwn}
 
 -- Each name but the turn's own is as it was, whatever a crash at any moment does.
@@ -40,8 +40,15 @@ pub record IsUnsettled (keeps : Bool) (job : Job) (old now : List Event) : Type 
   pub read : read_content now job.name ≡ Some job.bytes
   pub aside : IsTrue keeps → HasAside job old now
 
+-- It is as it was, and no crash leaves anything else.
+pub record IsSame (keeps : Bool) (job : Job) (old now : List Event) : Type 0 where
+  pub kept : IsKept keeps job old now
+  pub settled : IsSettled now job.name (read_content old job.name)
+
 abbrev pub Says : Bool → Outcome → Job → List Event → List Event → Type 0
 Says keeps Made job old now = IsMade keeps job old now
 Says keeps (Kept fault) job old now = IsKept keeps job old now
 Says keeps (Either fault) job old now = IsWhole keeps job old now
 Says keeps (Unsettled fault) job old now = IsUnsettled keeps job old now
+Says keeps Same job old now = IsSame keeps job old now
+Says keeps (Unsynced fault) job old now = IsKept keeps job old now

@@ -2,11 +2,11 @@
 use Rattle.std.specs.Prelude.{ℕ, ◌≡◌, ◌⊎◌, ◌+◌, ◌-◌, ◌<◌, ◌≤◌, Bool, true, false, Option, Some, None, bit_or}
 use Rattle.dconf_turn.specs.declared.turn.Turn.{Turn}
 use Rattle.dconf_turn.specs.declared.turn.State.{State}
-use Rattle.dconf_turn.specs.declared.turn.State.TheVariants.{Locking, Reading, Making, Creating, Writing, Syncing, SettingAside, Exchanging, Renaming, SyncingFolder, Removing, Noting, Unlocking, Over}
+use Rattle.dconf_turn.specs.declared.turn.State.TheVariants.{Locking, Reading, Making, Creating, Writing, Syncing, SettingAside, Exchanging, Renaming, SyncingFolder, Removing, Settling, Noting, Unlocking, Over}
 use Rattle.dconf_turn.specs.declared.step.Step.{Step}
-use Rattle.dconf_turn.specs.declared.step.Step.TheVariants.{Lock, Read, Make, Create, Append, Sync, SetAside, Exchange, Rename, SyncFolder, Remove, Note, Unlock, Done}
+use Rattle.dconf_turn.specs.declared.step.Step.TheVariants.{Lock, Read, Make, Create, Append, Sync, SetAside, Exchange, Rename, SyncFolder, Remove, Settle, Note, Unlock, Done}
 use Rattle.dconf_turn.specs.declared.step.Outcome.{Outcome}
-use Rattle.dconf_turn.specs.declared.step.Outcome.TheVariants.{Made, Kept, Either, Unsettled}
+use Rattle.dconf_turn.specs.declared.step.Outcome.TheVariants.{Made, Kept, Either, Unsettled, Same, Unsynced}
 use Rattle.dconf_turn.specs.declared.step.Answer.{Answer}
 use Rattle.dconf_turn.specs.declared.step.Answer.TheVariants.{Yes, No}
 
@@ -45,6 +45,8 @@ IsSaid SyncFolder (No fault) before said = said ≡ Unsettled fault
 IsSaid Exchange (No fault) before said = said ≡ Either fault
 IsSaid Rename (No fault) before said = said ≡ Either fault
 IsSaid Remove answer before said = said ≡ before
+IsSaid Settle (Yes n) before said = said ≡ Same
+IsSaid Settle (No fault) before said = said ≡ Unsynced fault
 IsSaid Note answer before said = said ≡ before
 IsSaid Unlock answer before said = said ≡ before
 IsSaid (Done outcome) answer before said = said ≡ before
@@ -63,6 +65,7 @@ step_at Exchanging t = Exchange
 step_at Renaming t = Rename
 step_at SyncingFolder t = SyncFolder
 step_at Removing t = Remove
+step_at Settling t = Settle
 step_at Noting t = Note
 step_at Unlocking t = Unlock
 step_at Over t = Done t.outcome
@@ -84,9 +87,10 @@ place Exchange = 7
 place Rename = 8
 place SyncFolder = 9
 place Remove = 10
-place Note = 11
-place Unlock = 12
-place (Done outcome) = 13
+place Settle = 11
+place Note = 12
+place Unlock = 13
+place (Done outcome) = 14
 
 -- A later step follows, or an append of a later byte; the end stays.
 abbrev pub Follows : Step → Step → Type 0
@@ -101,11 +105,17 @@ pub record GoesOnWriting (len at n : ℕ) (next : Step) : Type 0 where
   pub part : 0 < n → at + n < len → place next ≡ 4
   pub any : (place next ≡ 4) ⊎ ((place next ≡ 5) ⊎ (10 ≤ place next))
 
--- Where a step was done, its own next one follows. Where it failed, only what ends the turn follows.
+-- the number of the fault that says that the file is to stay as it is
+abbrev pub nothing_to_make : ℕ
+nothing_to_make = 4294967295
+
+-- Where a step was done, its own next one follows. Where it failed, only what ends the turn follows; and where the file is to stay as
+-- it is, that is brought to the disk.
 abbrev pub GoesOn : Turn → Step → Answer → Step → Type 0
 GoesOn t Lock (Yes n) next = next ≡ Read
 GoesOn t Read (Yes n) next = next ≡ Make
 GoesOn t Make (Yes n) next = place next ≡ 3
+GoesOn t Make (No fault) next = (10 ≤ place next) × (fault ≡ nothing_to_make → next ≡ Settle)
 GoesOn t (Create mode) (Yes n) next = next ≡ Append 0
 GoesOn t (Append at) (Yes n) next = GoesOnWriting t.len at n next
 GoesOn t (Sync bits) (Yes n) next = (t.keeps ≡ false → next ≡ Rename) × (t.keeps ≡ true → next ≡ SetAside)
@@ -113,6 +123,7 @@ GoesOn t SetAside (Yes n) next = (n ≡ 0 → next ≡ Rename) × (0 < n → nex
 GoesOn t Exchange (Yes n) next = next ≡ SyncFolder
 GoesOn t Rename (Yes n) next = next ≡ SyncFolder
 GoesOn t SyncFolder answer next = next ≡ Note
+GoesOn t Settle answer next = next ≡ Note
 GoesOn t step answer next = 10 ≤ place next
 
 abbrev pub IsYes : Answer → Type 0
@@ -156,6 +167,7 @@ left_at Exchanging t size = 4
 left_at Renaming t size = 4
 left_at SyncingFolder t size = 3
 left_at Removing t size = 2
+left_at Settling t size = 3
 left_at Noting t size = 2
 left_at Unlocking t size = 1
 left_at Over t size = 0

@@ -22,16 +22,16 @@ pub struct TurnRecord {
     leaves_new: bool,
 }
 
-/// What comes next: the step's place in the order, 0 to 13, and its number.
+/// What comes next: the step's place in the order, 0 to 14, and its number.
 #[repr(C)]
 #[derive(Clone, Copy)]
 pub struct StepRecord {
-    /// 0 lock, 1 read, 2 make, 3 create, 4 append, 5 sync, 6 set aside, 7 exchange, 8 rename, 9 sync the folder, 10 remove, 11 note, 12 unlock,
-    /// 13 done.
+    /// 0 lock, 1 read, 2 make, 3 create, 4 append, 5 sync, 6 set aside, 7 exchange, 8 rename, 9 sync the folder, 10 remove, 11 settle, 12 note,
+    /// 13 unlock, 14 done.
     pub kind: u32,
     /// Of `Done`, the fault.
     pub fault: u32,
-    /// Of `Create` and `Sync` permission bits, of `Append` the byte, of `Done` the outcome: 0 made, 1 kept, 2 either, 3 unsettled.
+    /// Of `Create` and `Sync` permission bits, of `Append` the byte, of `Done` the outcome: 0 made, 1 kept, 2 either, 3 unsettled, 4 same, 5 unsynced.
     pub number: usize,
     /// Of `Sync`, that there are bits to be given.
     pub has_number: bool,
@@ -115,12 +115,13 @@ impl StepRecord {
             Step::Rename => StepRecord::plain(8, 0),
             Step::SyncFolder => StepRecord::plain(9, 0),
             Step::Remove => StepRecord::plain(10, 0),
-            Step::Note => StepRecord::plain(11, 0),
-            Step::Unlock => StepRecord::plain(12, 0),
+            Step::Settle => StepRecord::plain(11, 0),
+            Step::Note => StepRecord::plain(12, 0),
+            Step::Unlock => StepRecord::plain(13, 0),
             Step::Done(outcome) => {
                 let (number, fault) = numbers_of(outcome);
                 StepRecord {
-                    kind: 13,
+                    kind: 14,
                     fault,
                     number: number as usize,
                     has_number: false,
@@ -166,9 +167,10 @@ fn number_of(state: State) -> u32
         State::Renaming => 8,
         State::SyncingFolder => 9,
         State::Removing => 10,
-        State::Noting => 11,
-        State::Unlocking => 12,
-        State::Over => 13,
+        State::Settling => 11,
+        State::Noting => 12,
+        State::Unlocking => 13,
+        State::Over => 14,
     }
 }
 
@@ -187,8 +189,9 @@ fn state_of(number: u32) -> State
         8 => State::Renaming,
         9 => State::SyncingFolder,
         10 => State::Removing,
-        11 => State::Noting,
-        12 => State::Unlocking,
+        11 => State::Settling,
+        12 => State::Noting,
+        13 => State::Unlocking,
         _ => State::Over,
     }
 }
@@ -203,6 +206,8 @@ fn numbers_of(outcome: Outcome) -> (u32, u32)
         Outcome::Kept(fault) => (1, fault),
         Outcome::Either(fault) => (2, fault),
         Outcome::Unsettled(fault) => (3, fault),
+        Outcome::Same => (4, 0),
+        Outcome::Unsynced(fault) => (5, fault),
     }
 }
 
@@ -213,6 +218,8 @@ fn outcome_of(number: u32, fault: u32) -> Outcome
         0 => Outcome::Made,
         1 => Outcome::Kept(fault),
         2 => Outcome::Either(fault),
-        _ => Outcome::Unsettled(fault),
+        3 => Outcome::Unsettled(fault),
+        4 => Outcome::Same,
+        _ => Outcome::Unsynced(fault),
     }
 }

@@ -8,7 +8,7 @@ pub enum Step {
     /// Reads the file. The answer is the permission bits of the new one: those of the old one, or others if there is none. It is 512 more if
     /// the old one is to be set aside, and 1024 or more if the host is to choose the bits.
     Read,
-    /// Makes the new bytes. The answer is how many there are. A fault may also be that nothing is to be changed.
+    /// Makes the new bytes. The answer is how many there are. The fault [`NOTHING`](crate::NOTHING) says that the file is to stay as it is.
     Make,
     /// Makes an empty file NAME.new with these permission bits, in the place of any other.
     Create(u32),
@@ -26,6 +26,8 @@ pub enum Step {
     SyncFolder,
     /// Removes NAME.new.
     Remove,
+    /// Has what NAME is on the disk, if there is such a file, and the folder's names.
+    Settle,
     /// Writes to the lock's own file what others are to know of the change, or that there is none.
     Note,
     /// Gives the turn back.
@@ -54,4 +56,8 @@ pub enum Outcome {
     Either(u32),
     /// It holds the new bytes, but a crash may leave it as it was.
     Unsettled(u32),
+    /// It is as it was, as it was to stay, also after a crash.
+    Same,
+    /// It is as it was, as it was to stay, but a crash may leave what was there before.
+    Unsynced(u32),
 }

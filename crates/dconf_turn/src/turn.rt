@@ -18,6 +18,9 @@ const READ_AND_WRITE: u32 = 0o600;
 /// The fault of a write that wrote nothing, or more than there was.
 const BAD_WRITE: u32 = 0;
 
+/// The fault of a caller that makes no new bytes, since the file is to stay as it is: it has what stands there on the disk.
+pub const NOTHING: u32 = u32::MAX;
+
 #[derive(Clone, Copy, Debug, PartialEq, Eq)]
 pub(crate) enum State {
     Locking,
@@ -31,6 +34,7 @@ pub(crate) enum State {
     Renaming,
     SyncingFolder,
     Removing,
+    Settling,
     Noting,
     Unlocking,
     Over,
@@ -84,6 +88,7 @@ impl Turn {
             State::Renaming => Step::Rename,
             State::SyncingFolder => Step::SyncFolder,
             State::Removing => Step::Remove,
+            State::Settling => Step::Settle,
             State::Noting => Step::Note,
             State::Unlocking => Step::Unlock,
             State::Over => Step::Done(self.outcome),
@@ -124,6 +129,7 @@ impl Turn {
             State::Renaming => self.to(State::SyncingFolder),
             State::SyncingFolder => self.says(State::Noting, Outcome::Made),
             State::Removing => self.to(State::Unlocking),
+            State::Settling => self.says(State::Noting, Outcome::Same),
             State::Noting => self.to(State::Unlocking),
             State::Unlocking => self.to(State::Over),
             State::Over => self,
@@ -195,7 +201,7 @@ impl Turn {
         match self.state {
             State::Locking => self.says(State::Over, Outcome::Kept(fault)),
             State::Reading => self.says(State::Unlocking, Outcome::Kept(fault)),
-            State::Making => self.says(State::Noting, Outcome::Kept(fault)),
+            State::Making => self.unmade(fault),
             State::Creating => self.says(State::Removing, Outcome::Kept(fault)),
             State::Writing => self.says(State::Removing, Outcome::Kept(fault)),
             State::Syncing => self.says(State::Removing, Outcome::Kept(fault)),
@@ -208,10 +214,22 @@ impl Turn {
                 leaves_new: true,
                 ..self
             },
+            State::Settling => self.says(State::Noting, Outcome::Unsynced(fault)),
             State::Noting => self.to(State::Unlocking),
             State::Unlocking => self.to(State::Over),
             State::Over => self,
         }
+    }
+
+    /// What comes of there being no new bytes.
+    fn unmade(self, fault: u32) -> Turn
+        requires { self.state ≡ State.Making }
+        ensures { IsAnswered self (No fault) result }
+    {
+        if fault == NOTHING {
+            return self.says(State::Settling, Outcome::Kept(fault));
+        }
+        self.says(State::Noting, Outcome::Kept(fault))
     }
 
     fn to(self, state: State) -> Turn

@@ -3,6 +3,7 @@ use dconf_compile::{Source, compile};
 use dconf_disk::{Folder, MemoryFolder, replace};
 use dconf_engine::Engine;
 use dconf_layers::Layer;
+use dconf_notes::{notes_read, notes_written};
 use dconf_path::{KeyPath, LockPath, read_profile};
 use dconf_store::{Change, value_after};
 use dconf_times::{DconfdbTime as Time, is_overtaken, note_times};
@@ -95,12 +96,36 @@ fn of_times(alloc: Global) -> Result<bool, Fail> {
     let noted = Time {
         path: b"/desk/",
         when: 5,
+        value: 0,
     };
     let set = Time {
         path: b"/desk/size",
         when: 8,
+        value: 0,
     };
     of_dconf_times(alloc, &[noted], &[set])
+}
+
+fn of_dconf_notes(alloc: Global, head: Time<'_>, set: Time<'_>) -> Result<bool, Fail> {
+    let bytes = notes_written(alloc, &[head, set], 100, 1000)?;
+    let read = notes_read(alloc, bytes.as_slice())?;
+    let len = read.map(|notes| notes.len());
+    Ok(len == Some(2) && notes_read(alloc, b"dconfdb times 1")?.is_none())
+}
+
+/// Whether that is so of a turn, and of one key that was set.
+fn of_notes(alloc: Global) -> Result<bool, Fail> {
+    let head = Time {
+        path: b"",
+        when: 7,
+        value: 0,
+    };
+    let set = Time {
+        path: b"/user/desk/size",
+        when: 5,
+        value: 3,
+    };
+    of_dconf_notes(alloc, head, set)
 }
 
 fn of_dconf_turn() -> bool {
@@ -126,6 +151,7 @@ fn each_example_is_so(rt: HostRuntime) -> Result<(), Fail> {
     let alloc = rt.alloc();
     let others = of_dconf_path()?
         && of_times(alloc)?
+        && of_notes(alloc)?
         && of_keyfile_core(alloc)?
         && of_dconf_disk(alloc)?
         && of_dconf_turn();

@@ -1,6 +1,6 @@
 //! The machines that C drives, as it drives them: which steps come after which answers.
 use crate::questions::TableOf;
-use crate::times::{NOTED, OVERTAKEN};
+use crate::times::{KEPT, NOTED, OVERTAKEN};
 use crate::turns::TURNS;
 use dconf_steps::{
     NextStep, QueueRecord, QueuedEdit, RefreshRecord, WaitRecord, exit_goes_on, is_to_write,
@@ -154,6 +154,7 @@ fn machines_go_by_their_answers(rt: HostRuntime) -> Result<(), Fail> {
         (TableOf::Steps, TURNS),
         (TableOf::Overtaken, OVERTAKEN),
         (TableOf::Noted, NOTED),
+        (TableOf::Kept, KEPT),
     ] {
         table(rt.alloc(), &mut of, rows)?;
     }

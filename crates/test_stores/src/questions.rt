@@ -6,7 +6,7 @@ use crate::folders::failures::replaced;
 use crate::machines::{looked, queued, waited};
 use crate::tables::{alike, item_shown, searched};
 use crate::texts::paths::path_read;
-use crate::times::{noted, overtaken};
+use crate::times::{kept, noted, overtaken};
 use crate::turns::steps_shown;
 use std::alloc::Global;
 use std::test::Fail;
@@ -16,6 +16,7 @@ use test_rows::{Question, bytes_of};
 #[derive(Clone, Copy)]
 pub(crate) enum TableOf {
     Crash,
+    Kept,
     Looked,
     Noted,
     Overtaken,
@@ -30,6 +31,7 @@ impl Question for TableOf {
     fn answer(&mut self, alloc: Global, asked: &str, found: &mut String) -> Result<(), Fail> {
         let shown = match *self {
             TableOf::Crash => crashed(alloc, asked, found),
+            TableOf::Kept => kept(alloc, asked, found),
             TableOf::Looked => looked(asked, found),
             TableOf::Noted => noted(alloc, asked, found),
             TableOf::Overtaken => overtaken(asked, found),

@@ -1,4 +1,5 @@
-//! Which edits are overtaken, and what is noted of the times of sets.
+//! Which edits are overtaken, what is noted of the times of sets, and what is kept of it in a file.
+use dconf_notes::{notes_read, notes_written};
 use dconf_times::{DconfdbTime, is_overtaken, note_times};
 use std::alloc::{AllocError, Global};
 use std::fmt::Write;
@@ -10,6 +11,7 @@ fn time_of(text: &str) -> DconfdbTime<'_> {
     DconfdbTime {
         path: path.as_bytes(),
         when: u64::from(number(when)),
+        value: 0,
     }
 }
 
@@ -81,4 +83,48 @@ pub(crate) const NOTED: &str = "
 0 4; /a=1 /b=2; /c=3 /a=4 |
 9 0; /a=1 /b=2; /c=3 /a=4 |
 9 4; /a=5; /a=4 | /a=5
+";
+
+/// How many bytes a file has of a turn with these notes, at most so many and so many bytes, and what is read of it; and whether any
+/// part of its bytes is read as notes.
+fn show_kept(
+    alloc: Global,
+    notes: &[DconfdbTime<'_>],
+    limits: &str,
+    found: &mut String,
+) -> Result<(), AllocError> {
+    let (most, most_bytes) = limits.split_once(' ').unwrap_or((limits, ""));
+    let (most, most_bytes) = (number(most) as usize, number(most_bytes) as usize);
+    let bytes = notes_written(alloc, notes, most, most_bytes)?;
+    write!(found, "{}", bytes.len())?;
+    if let Some(read) = notes_read(alloc, &bytes)? {
+        show_times(&read, found)?;
+    }
+    for len in 0..bytes.len() {
+        if notes_read(alloc, &bytes[..len])?.is_some() {
+            write!(found, " {len} of them too")?;
+        }
+    }
+    Ok(())
+}
+
+/// What is kept of notes, of which the first is of the turn and says that the second is of a file that was left.
+pub(crate) fn kept(alloc: Global, asked: &str, found: &mut String) -> Result<(), AllocError> {
+    let (limits, notes) = asked.split_once("; ").unwrap_or((asked, ""));
+    let mut notes = times_of(alloc, notes)?;
+    if let Some(head) = notes.first_mut() {
+        head.value = 1;
+    }
+    show_kept(alloc, &notes, limits, found)
+}
+
+pub(crate) const KEPT: &str = "
+9 999; =5 left=1 /a=4 /b=6 | 128 =5 left=1 /a=4 /b=6
+-- more notes or bytes than may be: one for all
+3 999; =5 left=1 /a=4 /b=6 | 101 =5 left=1 /=6
+9 127; =5 left=1 /a=4 /b=6 | 101 =5 left=1 /=6
+-- without the file that was left, or the turn's note, it is no file
+9 999; =5 | 48
+9 999; x=5 left=1 | 77
+9 999; | 0
 ";

@@ -1,4 +1,4 @@
-use Rattle.dconf_turn.proofs.TurnLaws.{by_equal, unlocked, noted, done_locking, done_making, done_creating, done_exchanging, done_renaming, done_syncing_folder, done_removing}
+use Rattle.dconf_turn.proofs.TurnLaws.{by_equal, unlocked, noted, done_locking, done_making, done_creating, done_exchanging, done_renaming, done_syncing_folder, done_removing, done_settling}
 use Rattle.dconf_turn.specs.declared.step.Answer.TheVariants.{Yes}
 use Rattle.dconf_turn.proofs.turn.Turn.done.Goals as goal
 
@@ -22,6 +22,9 @@ returns-in-SyncingFolder c = by_equal c.args.self _ _ (Yes c.args.n) c.says.ensu
 
 pub returns-in-Removing : goal.returns-in-Removing
 returns-in-Removing c = by_equal c.args.self _ _ (Yes c.args.n) c.to-in-Removing.ensures (done_removing c.args.self c.args.n c.in-Removing.is)
+
+pub returns-in-Settling : goal.returns-in-Settling
+returns-in-Settling c = by_equal c.args.self _ _ (Yes c.args.n) c.says-in-Settling.ensures (done_settling c.args.self c.args.n c.in-Settling.is)
 
 pub returns-in-Noting : goal.returns-in-Noting
 returns-in-Noting c = by_equal c.args.self _ _ (Yes c.args.n) c.to-in-Noting.ensures (noted c.args.self (Yes c.args.n) c.in-Noting.is)

@@ -1,4 +1,4 @@
-use Rattle.dconf_turn.proofs.TurnLaws.{by_equal, unlocked, noted, failed_locking, failed_reading, failed_making, failed_creating, failed_writing, failed_syncing, failed_setting_aside, failed_exchanging, failed_renaming, failed_syncing_folder, failed_removing}
+use Rattle.dconf_turn.proofs.TurnLaws.{by_equal, unlocked, noted, failed_locking, failed_reading, failed_creating, failed_writing, failed_syncing, failed_setting_aside, failed_exchanging, failed_renaming, failed_syncing_folder, failed_removing, failed_settling}
 use Rattle.dconf_turn.specs.declared.step.Answer.TheVariants.{No}
 use Rattle.dconf_turn.proofs.turn.Turn.failed.Goals as goal
 
@@ -7,9 +7,6 @@ returns-in-Locking c = by_equal c.args.self _ _ (No c.args.fault) c.says.ensures
 
 pub returns-in-Reading : goal.returns-in-Reading
 returns-in-Reading c = by_equal c.args.self _ _ (No c.args.fault) c.says-in-Reading.ensures (failed_reading c.args.self c.args.fault c.in-Reading.is)
-
-pub returns-in-Making : goal.returns-in-Making
-returns-in-Making c = by_equal c.args.self _ _ (No c.args.fault) c.says-in-Making.ensures (failed_making c.args.self c.args.fault c.in-Making.is)
 
 pub returns-in-Creating : goal.returns-in-Creating
 returns-in-Creating c = by_equal c.args.self _ _ (No c.args.fault) c.says-in-Creating.ensures (failed_creating c.args.self c.args.fault c.in-Creating.is)
@@ -34,6 +31,9 @@ returns-in-SyncingFolder c = by_equal c.args.self _ _ (No c.args.fault) c.says-i
 
 pub returns-in-Removing : goal.returns-in-Removing
 returns-in-Removing c = failed_removing c.args.self c.args.fault c.in-Removing.is
+
+pub returns-in-Settling : goal.returns-in-Settling
+returns-in-Settling c = by_equal c.args.self _ _ (No c.args.fault) c.says-in-Settling.ensures (failed_settling c.args.self c.args.fault c.in-Settling.is)
 
 pub returns-in-Noting : goal.returns-in-Noting
 returns-in-Noting c = by_equal c.args.self _ _ (No c.args.fault) c.to.ensures (noted c.args.self (No c.args.fault) c.in-Noting.is)

@@ -1,0 +1,27 @@
+//! Notes of what was set, as they stand in a file that programs share: read from anybody's bytes, and
+//! written.
+//!
+//! What is read is whole, or nothing; and no bytes say two things. Nothing is opened here.
+//!
+//! Where `head` is of a turn at 7 that left no file, and `set` a note of `/user/desk/size`:
+//!
+//! ```
+//! let bytes = notes_written(alloc, &[head, set], 100, 1000)?;
+//! let read = notes_read(alloc, bytes.as_slice())?;
+//! let len = read.map(|notes| notes.len());
+//! Ok(len == Some(2) && notes_read(alloc, b"dconfdb times 1")?.is_none())
+//! ```
+#![tactic(auto)]
+
+ghost use Rattle.dconf_notes.specs.Records.{SaysOneThing};
+
+mod reading;
+mod writing;
+
+pub use reading::notes_read;
+pub use writing::notes_written;
+
+/// No bytes are those of two lists of notes: what was written is what is read.
+pub fn what_is_written_is_read()
+    ensures { SaysOneThing }
+{}
