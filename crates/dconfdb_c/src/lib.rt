@@ -9,6 +9,7 @@ mod due;
 mod get;
 mod list;
 mod look;
+mod notice;
 mod open;
 mod order;
 mod parsing;
