@@ -190,7 +190,8 @@ void store_begin(DconfdbBackend *self)
     DconfdbError error = DCONFDB_ERROR_INIT;
     /* The environment is read now, and not again: the program may change it. The first file is the
      * profile that is named or the folder's, the second that of all users. */
-    char *files = place_find(NULL, &self->place, &error) ? place_files(&self->place, &error) : NULL;
+    bool are_all;
+    char *files = place_find(NULL, &self->place, &error) ? place_files(&self->place, &are_all, &error) : NULL;
     if (!files)
         place_release(&self->place);
     self->profiles[0] = g_strdup(files);
@@ -211,14 +212,14 @@ void store_open(DconfdbBackend *self)
     notice_tell(self, &notice);
 }
 
-void store_look(DconfdbBackend *self)
+bool store_look(DconfdbBackend *self)
 {
     Notice notice = {.faults = NULL};
     g_mutex_lock(&self->turn);
-    if (self->place.folder)
-        look(self, &notice);
+    bool done = !self->place.folder || look(self, &notice);
     g_mutex_unlock(&self->turn);
     notice_tell(self, &notice);
+    return done;
 }
 
 /* The monotonic clock to some milliseconds, for a quarter of what the exact time costs. */

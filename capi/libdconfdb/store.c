@@ -922,13 +922,13 @@ char *files_of(const DconfdbStore *store)
     return with_files(store, NULL, NULL, NULL);
 }
 
-static char *files_at(const StorePlace *place, size_t *size, DconfdbError *error)
+static char *files_at(const StorePlace *place, size_t *size, bool *are_all, DconfdbError *error)
 {
     DconfdbError fault = DCONFDB_ERROR_INIT;
     DconfdbStore *store = store_at(place, &lenient, error);
     if (!store)
         return NULL;
-    find_files(store, &fault);
+    *are_all = find_files(store, &fault);
     char *names = fault.code == DCONFDB_ERROR_MEMORY ? NULL : file_names(store, size);
     if (!names)
         refuse_memory(error);
@@ -936,17 +936,18 @@ static char *files_at(const StorePlace *place, size_t *size, DconfdbError *error
     return names;
 }
 
-char *place_files(const StorePlace *place, DconfdbError *error)
+char *place_files(const StorePlace *place, bool *are_all, DconfdbError *error)
 {
-    return files_at(place, NULL, error);
+    return files_at(place, NULL, are_all, error);
 }
 
 char *dconfdb_store_files(const char *folder, size_t *size, DconfdbError *error)
 {
     StorePlace place;
+    bool are_all = true;
     if (!find_place(folder, &place, error))
         return NULL;
-    char *files = files_at(&place, size, error);
+    char *files = files_at(&place, size, &are_all, error);
     place_release(&place);
     return files;
 }

@@ -1,8 +1,11 @@
 /* A program that knows nothing of whose libdconf it has: takes a command from each line of stdin, and prints what it answers and which signals come. */
 #include <dconf.h>
+#include <fcntl.h>
 #include <stdio.h>
 #include <stdlib.h>
 #include <string.h>
+#include <sys/resource.h>
+#include <unistd.h>
 
 static DConfClient *client;
 static gchar *last_tag;
@@ -192,11 +195,34 @@ static void anew(gchar **words)
     g_signal_connect(client, "writability-changed", G_CALLBACK(on_writability_changed), NULL);
 }
 
+enum { MOST_FILES = 64 };
+
+static int taken[MOST_FILES], count;
+
+/* Takes all file descriptors that there are; and gives them back. */
+static void starve(gchar **words)
+{
+    struct rlimit few = {MOST_FILES, MOST_FILES};
+    (void)words;
+    if (setrlimit(RLIMIT_NOFILE, &few) != 0)
+        printf("  no limit\n");
+    while (count < MOST_FILES && (taken[count] = open("/dev/null", O_RDONLY | O_CLOEXEC)) >= 0)
+        count++;
+}
+
+static void feed(gchar **words)
+{
+    (void)words;
+    while (count > 0)
+        close(taken[--count]);
+}
+
 static const struct {
     const char *name;
     void (*call)(gchar **words);
 } COMMANDS[] = {{"change", change}, {"write", write_one}, {"read", read_one}, {"watch", watch}, {"unwatch", unwatch}, {"list", list}, {"locks", locks},
-                {"writable", writable}, {"settle", settle_for}, {"await", await}, {"sync", sync_all}, {"anew", anew}};
+                {"writable", writable}, {"settle", settle_for}, {"await", await}, {"sync", sync_all}, {"anew", anew}, {"starve", starve},
+                {"feed", feed}};
 
 int main(void)
 {

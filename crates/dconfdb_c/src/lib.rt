@@ -10,6 +10,7 @@ mod fates;
 mod get;
 mod list;
 mod look;
+mod notice;
 mod open;
 mod order;
 mod parsing;

@@ -3,7 +3,7 @@ use crate::calls::opened;
 use crate::calls_rows::{keyless, names, saved, stored, value_shown};
 use crate::folders::crashes::crashed;
 use crate::folders::failures::replaced;
-use crate::machines::{looked, queued, waited};
+use crate::machines::{looked, noticed, queued, waited};
 use crate::tables::{alike, item_shown, searched};
 use crate::texts::paths::path_read;
 use crate::times::{kept, noted, overtaken};
@@ -19,6 +19,7 @@ pub(crate) enum TableOf {
     Kept,
     Looked,
     Noted,
+    Noticed,
     Overtaken,
     Path,
     Queued,
@@ -34,6 +35,7 @@ impl Question for TableOf {
             TableOf::Kept => kept(alloc, asked, found),
             TableOf::Looked => looked(asked, found),
             TableOf::Noted => noted(alloc, asked, found),
+            TableOf::Noticed => noticed(asked, found),
             TableOf::Overtaken => overtaken(asked, found),
             TableOf::Path => path_read(asked, found),
             TableOf::Queued => queued(asked, found),
