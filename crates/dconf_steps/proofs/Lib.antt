@@ -3,3 +3,4 @@ pub mod LookProofs
 pub mod EditLaws
 pub mod QueueProofs
 pub mod WrongMachines
+pub mod EntryLaws

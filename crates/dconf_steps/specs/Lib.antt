@@ -8,3 +8,5 @@ pub mod LookRecords
 pub mod WaitRecords
 pub mod QueueRecords
 pub mod Dues
+pub mod Faults
+pub mod Entries

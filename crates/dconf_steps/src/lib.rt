@@ -3,14 +3,19 @@
 //!
 //! Each says its next step; its caller carries that out and gives the answer, until the step is `Done`. They are a few numbers: they
 //! hold no bytes, no name and no file, take no memory, and can be copied. A [`LockWait`] takes a lock that others may have, a
-//! [`Refresh`] looks at the files of a store, and a [`Queue`] writes the changes that wait.
+//! [`Refresh`] looks at the files of a store, and a [`Queue`] writes the changes that wait. [`entry_of`] says what becomes of a change
+//! that is asked for, and [`class_of`] what a fault means.
 #![tactic(auto)]
 
 ghost use Rattle.dconf_steps.specs.WaitLaws.{HoweverLongItWaits};
 ghost use Rattle.dconf_steps.specs.RefreshLaws.{WhateverIsSeen};
 ghost use Rattle.dconf_steps.specs.QueueLaws.{WhateverIsWritten};
+ghost use Rattle.dconf_steps.specs.Entries.{NewestIsKept};
+ghost use Rattle.dconf_steps.specs.Faults.{EachIsOne};
 
 mod due;
+mod entry;
+mod faults;
 mod next_step;
 mod queue;
 mod queue_record;
@@ -20,6 +25,8 @@ mod wait;
 mod wait_record;
 
 pub use due::{exit_goes_on, is_to_write, pause_after, sleep_until, sync_goes_on};
+pub use entry::{Entry, NewEdit, entry_number, entry_of};
+pub use faults::{FaultClass, FaultKind, class_number, class_of};
 pub use next_step::NextStep;
 pub use queue::{Queue, QueueAnswer, QueueEnd, QueueStep, QueuedEdit};
 pub use queue_record::QueueRecord;
@@ -44,4 +51,15 @@ pub fn whatever_is_seen()
 /// others are written by one call, in their order, or none, and there is an end.
 pub fn whatever_is_written()
     ensures { WhateverIsWritten }
+{}
+
+/// A change is refused only where it sets what may not be written. Else it waits, if anything of it may be written: also where it says
+/// what waits, or is there, already.
+pub fn the_newest_is_kept()
+    ensures { NewestIsKept }
+{}
+
+/// A fault is the file's own, or passes; and none is both.
+pub fn each_fault_is_one()
+    ensures { EachIsOne }
 {}

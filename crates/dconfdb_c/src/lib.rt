@@ -6,6 +6,7 @@
 
 mod change;
 mod due;
+mod entry;
 mod get;
 mod list;
 mod look;
