@@ -44,6 +44,12 @@ DconfdbStore *engine_store(Engine *self);
  * client replaces the user's file, it is what was seen before. */
 DconfdbSnapshot *engine_look(Engine *self);
 
+/* The same without a look, where the files are watched. */
+DconfdbSnapshot *engine_newest(Engine *self);
+
+/* Logs a warning, unless it was logged before. */
+void engine_warn_once(Engine *self, const gchar *text);
+
 /* The user's file is about to be replaced; and it has been, or not. */
 void engine_begin_write(Engine *self);
 void engine_end_write(Engine *self);

@@ -2,16 +2,15 @@
 #define _GNU_SOURCE
 #include "libdconf.h"
 
+#include "faults.h"
 #include "locked.h"
+#include "threads.h"
 
-#include <pthread.h>
-#include <signal.h>
 #include <string.h>
 #include <unistd.h>
 
-/* How long a change waits for others, in milliseconds; and before what they kept from being written is tried again, in
- * microseconds. */
-enum { LONGEST_WAIT = 10000, PAUSE = 50000 };
+/* How long a change waits for others, in milliseconds. */
+enum { LONGEST_WAIT = 10000 };
 
 /* ---- edits */
 
@@ -218,7 +217,16 @@ static void put_back(Engine *self, DConfChangeset *taken)
     dconf_changeset_unref(taken);
 }
 
-/* False: others kept it from being written, and it goes on waiting. What is refused is taken back. */
+/* Of what goes on waiting, once, unless it passes in a moment, or others write. */
+static void warn_of_waiting(Engine *self, const DconfdbError *fault)
+{
+    if (fault->code == DCONFDB_ERROR_BUSY || is_momentary(fault))
+        return;
+    g_autofree gchar *text = g_strdup_printf("%s; what was changed is not on the disk yet, and goes on waiting", fault->text);
+    engine_warn_once(self, text);
+}
+
+/* False: it could not be written, by no fault of its own, and goes on waiting. What is refused is taken back. */
 static gboolean write_waiting(Engine *self, DconfdbError *fault)
 {
     DConfChangeset *taken = take_waiting(self);
@@ -226,8 +234,9 @@ static gboolean write_waiting(Engine *self, DconfdbError *fault)
         return TRUE;
     g_autoptr(DConfChangeset) refused = dconf_changeset_new();
     gboolean is_done = put_unlocked(self, taken, refused, fault);
-    if (!is_done && fault->code == DCONFDB_ERROR_BUSY) {
+    if (!is_done && answer_of_fault(fault) == DCONFDB_QUEUE_LATER) {
         put_back(self, taken);
+        warn_of_waiting(self, fault);
         return FALSE;
     }
     g_mutex_lock(&self->lock);
@@ -261,24 +270,16 @@ static gboolean ends(Engine *self)
     return is_idle;
 }
 
-/* The program's signals are its other threads'. */
-static GThread *new_thread(GThreadFunc call, Engine *self)
-{
-    sigset_t all, before;
-    sigfillset(&all);
-    pthread_sigmask(SIG_SETMASK, &all, &before);
-    GThread *thread = g_thread_try_new("dconf", call, self, NULL);
-    pthread_sigmask(SIG_SETMASK, &before, NULL);
-    return thread;
-}
-
-static gpointer write_behind(gpointer data)
+static void *write_behind(void *data)
 {
     Engine *self = data;
     DconfdbError fault = DCONFDB_ERROR_INIT;
+    guint64 pause = 0;
+    pthread_setname_np(pthread_self(), "dconf");
     do {
-        if (!flush(self, &fault))
-            g_usleep(PAUSE);
+        pause = flush(self, &fault) ? 0 : dconfdb_pause_after(pause);
+        if (pause > 0)
+            g_usleep(pause);
     } while (!ends(self));
     engine_unref(self);
     return NULL;
@@ -287,6 +288,7 @@ static gpointer write_behind(gpointer data)
 /* A thread writes what waits, or this one, where none can be had. */
 static void begin_thread(Engine *self)
 {
+    pthread_t thread;
     DconfdbError fault = DCONFDB_ERROR_INIT;
     g_mutex_lock(&self->lock);
     gboolean is_new = !self->has_thread;
@@ -294,9 +296,8 @@ static void begin_thread(Engine *self)
     g_mutex_unlock(&self->lock);
     if (!is_new)
         return;
-    GThread *thread = new_thread(write_behind, engine_ref(self));
-    if (thread) {
-        g_thread_unref(thread);
+    if (thread_begin(&thread, write_behind, engine_ref(self))) {
+        pthread_detach(thread);
         return;
     }
     flush(self, &fault);
@@ -350,7 +351,7 @@ gboolean engine_change_fast(Engine *self, DConfChangeset *changes, GError **erro
 {
     if (dconf_changeset_is_empty(changes))
         return TRUE;
-    DconfdbSnapshot *now = engine_look(self);
+    DconfdbSnapshot *now = engine_newest(self);
     Edits edits = edits_of(changes);
     gboolean may = may_change(self, now, &edits, error);
     if (may && now && engine_has_user(self)) {

@@ -6,6 +6,7 @@
 #include "dconfdb.h"
 #include "dconfdb_calls.h"
 #include "errors.h"
+#include "faults.h"
 #include "files.h"
 #include "locked.h"
 #include "notices.h"
@@ -72,6 +73,7 @@ struct DconfdbStore {
     uint64_t noted;             /* the time of what this store noted last; under `refreshing` */
     Order order;                /* of the turn that it has; under `refreshing` */
     bool is_unsettled;          /* its last change is perhaps not on the disk; under `refreshing` */
+    atomic_bool is_amid;        /* in a turn, and the files were read in it: nobody else changes the user's */
     DconfdbSnapshot *now;
     Notices notices;
     StorePlace place;
@@ -232,12 +234,7 @@ static bool has_bytes(const Part *part, const FileBytes *bytes)
  * process's, the disk's or a server's fault, and then a sound file must not be replaced. */
 static bool is_files_own(int fault)
 {
-    static const int faults[] = {EACCES, EPERM, EISDIR, EINVAL, ENXIO, ENODEV, EOVERFLOW, ELOOP, ENOTDIR, ENAMETOOLONG, EUCLEAN, EBADMSG};
-    for (size_t i = 0; i < sizeof faults / sizeof *faults; i++) {
-        if (fault == faults[i])
-            return true;
-    }
-    return false;
+    return fault_class_of(fault, false) == DCONFDB_CLASS_OWN;
 }
 
 /* A file that is bad is also another one where its permissions are. */
@@ -1250,12 +1247,14 @@ static bool note_others(const DconfdbStore *store, Order *order)
     return done;
 }
 
-/* Changes that are made together: when each was asked for, and which of the edits it is. */
+/* Changes that are made together: when each was asked for, which of the edits it is, with which others it is made or left out, and
+ * whether it is overtaken. */
 typedef struct {
     size_t count;
-    DconfdbChange *changes; /* all three are in one block */
+    DconfdbChange *changes; /* all five are in one block */
     DconfdbTime *times;
-    size_t *edits;
+    size_t *edits, *of;
+    bool *is_late;
     const DconfdbSnapshot *expected; /* NULL: whatever is seen */
 } Asking;
 
@@ -1264,21 +1263,24 @@ static void asking_free(Asking *asking)
     free(asking->changes);
 }
 
-/* `moments` are NULL where all is asked for now. */
-static bool asking_begin(Asking *asking, const DconfdbEdit *edits, const uint64_t *moments, size_t count)
+/* `made` is NULL where all is asked for now. */
+static bool asking_begin(Asking *asking, const DconfdbEdit *edits, const Made *made, size_t count)
 {
     asking->count = count;
     asking->expected = NULL;
-    size_t size = sizeof *asking->changes + sizeof *asking->times + sizeof *asking->edits;
+    size_t size = sizeof *asking->changes + sizeof *asking->times + sizeof *asking->edits + sizeof *asking->of + sizeof *asking->is_late;
     asking->changes = count <= SIZE_MAX / size ? malloc(count * size) : NULL;
     if (!asking->changes)
         return false;
     asking->times = (DconfdbTime *)(asking->changes + count);
     asking->edits = (size_t *)(asking->times + count);
+    asking->of = asking->edits + count;
+    asking->is_late = (bool *)(asking->of + count);
     for (size_t i = 0; i < count; i++) {
         asking->changes[i] = change_of(&edits[i]);
-        asking->times[i] = (DconfdbTime){asking->changes[i].path, moments ? moments[i] : UINT64_MAX};
+        asking->times[i] = (DconfdbTime){asking->changes[i].path, made ? made[i].moment : UINT64_MAX};
         asking->edits[i] = i;
+        asking->of[i] = made ? made[i].change : i;
     }
     return true;
 }
@@ -1322,18 +1324,45 @@ static bool is_overtaken(const Order *order, const DconfdbTime *time)
     return dconfdb_is_overtaken(order->times, order->count, time->path.at, time->path.len, time->when, order->now);
 }
 
-/* Leaves out what others have set since. What this store's last write may have left looks like that, too: it is in the file. */
+/* Whether others have set it since. What this store's last write may have left looks like that, too: it is in the file. */
+static bool is_late(const DconfdbStore *store, Order *order, const DconfdbSnapshot *before, const DconfdbChange *change, const DconfdbTime *time)
+{
+    bool is_own = store->is_unsettled && is_made(store->now, change);
+    return !is_own && is_overtaken(order, time) && !(forgets_guess(store, order, before, time) && !is_overtaken(order, time));
+}
+
+/* How many edits there are of the change that begins there. */
+static size_t count_of(const Asking *asking, size_t first)
+{
+    size_t count = 1;
+    while (first + count < asking->count && asking->of[first + count] == asking->of[first])
+        count++;
+    return count;
+}
+
+/* Moves so many, which lie behind what is left. */
+static void keep(Asking *asking, size_t *left, size_t first, size_t count)
+{
+    for (size_t i = first; i < first + count; i++, ++*left) {
+        asking->changes[*left] = asking->changes[i];
+        asking->times[*left] = asking->times[i];
+        asking->edits[*left] = asking->edits[i];
+        asking->of[*left] = asking->of[i];
+    }
+}
+
+/* Leaves out the changes of which others have set something since. */
 static void leave_out(Asking *asking, const DconfdbStore *store, Order *order, const DconfdbSnapshot *before)
 {
     size_t left = 0;
-    for (size_t i = 0; i < asking->count; i++) {
-        DconfdbTime time = {asking->times[i].path, time_of(store, order, asking->times[i].when)};
-        bool is_own = store->is_unsettled && is_made(store->now, &asking->changes[i]);
-        if (!is_own && is_overtaken(order, &time) && !(forgets_guess(store, order, before, &time) && !is_overtaken(order, &time)))
-            continue;
-        asking->changes[left] = asking->changes[i];
-        asking->times[left] = time;
-        asking->edits[left++] = asking->edits[i];
+    for (size_t first = 0, count; first < asking->count; first += count) {
+        count = count_of(asking, first);
+        for (size_t i = first; i < first + count; i++) {
+            asking->times[i].when = time_of(store, order, asking->times[i].when);
+            asking->is_late[i] = is_late(store, order, before, &asking->changes[i], &asking->times[i]);
+        }
+        if (!dconfdb_is_left_out(asking->is_late + first, count))
+            keep(asking, &left, first, count);
     }
     asking->count = left;
 }
@@ -1384,6 +1413,7 @@ static bool read_old(Changing *it, size_t *bits)
     it->order = order_of(it->store, it->before, it->lock, it->error);
     if (!it->order)
         return false;
+    atomic_store(&it->store->is_amid, true);
     const Fault *bad = it->store->now->parts[0]->fault;
     int fault = replacing_look(it->replacing, bad && !bad->aside, bits);
     return fault == 0 || refuse_file(it->error, fault, it->store->user_file, nowhere);
@@ -1536,6 +1566,7 @@ static bool change_in_turn(DconfdbStore *store, const FolderLock *lock, Asking *
         dconfdb_turn_answered(&turn, done ? 0 : 1, n);
     }
     bool done = end(&it, (uint32_t)step.number, step.fault);
+    atomic_store(&store->is_amid, false);
     dconfdb_snapshot_unref(it.before);
     pthread_mutex_unlock(&store->refreshing);
     replacing_end(&replacing);
@@ -1584,12 +1615,12 @@ static bool change_nothing(DconfdbStore *store, const Asking *asking, DconfdbErr
 
 /* `lock` is NULL where no file is to be made. */
 static bool change_if(DconfdbStore *store, const FolderLock *lock, const DconfdbSnapshot *expected, const DconfdbEdit *edits,
-                      const uint64_t *moments, size_t count, DconfdbError *error)
+                      const Made *made, size_t count, DconfdbError *error)
 {
     Asking asking;
     if (count == 0)
         return true;
-    if (!asking_begin(&asking, edits, moments, count))
+    if (!asking_begin(&asking, edits, made, count))
         return refuse_memory(error);
     asking.expected = expected;
     bool done = store->user_file && lock ? change_in_turn(store, lock, &asking, error) : change_nothing(store, &asking, error);
@@ -1597,10 +1628,15 @@ static bool change_if(DconfdbStore *store, const FolderLock *lock, const Dconfdb
     return done;
 }
 
-bool locked_change(DconfdbStore *store, const FolderLock *lock, const DconfdbEdit *edits, const uint64_t *moments, size_t count,
+bool is_amid_change(const DconfdbStore *store)
+{
+    return atomic_load(&store->is_amid);
+}
+
+bool locked_change(DconfdbStore *store, const FolderLock *lock, const DconfdbEdit *edits, const Made *made, size_t count,
                    DconfdbError *error)
 {
-    return change_if(store, lock, NULL, edits, moments, count, error);
+    return change_if(store, lock, NULL, edits, made, count, error);
 }
 
 /* Whether there is nothing that could be changed: no user's database, or no file of it, and nothing is set. So no
