@@ -1,8 +1,13 @@
 /* A program that knows nothing of whose libdconf it has: takes a command from each line of stdin, and prints what it answers and which signals come. */
 #include <dconf.h>
+#include <fcntl.h>
 #include <stdio.h>
 #include <stdlib.h>
 #include <string.h>
+#include <sys/resource.h>
+#include <unistd.h>
+
+enum { FILES = 64 };
 
 static DConfClient *client;
 static gchar *last_tag;
@@ -192,11 +197,25 @@ static void anew(gchar **words)
     g_signal_connect(client, "writability-changed", G_CALLBACK(on_writability_changed), NULL);
 }
 
+/* Leaves no descriptor, or gives them back. */
+static void files(gchar **words)
+{
+    static int taken[FILES], count;
+    struct rlimit few = {FILES, FILES};
+    setrlimit(RLIMIT_NOFILE, &few);
+    if (strcmp(words[0], "none") == 0) {
+        while (count < FILES && (taken[count] = open("/dev/null", O_RDONLY)) >= 0)
+            count++;
+    }
+    while (strcmp(words[0], "none") != 0 && count > 0)
+        close(taken[--count]);
+}
+
 static const struct {
     const char *name;
     void (*call)(gchar **words);
 } COMMANDS[] = {{"change", change}, {"write", write_one}, {"read", read_one}, {"watch", watch}, {"unwatch", unwatch}, {"list", list}, {"locks", locks},
-                {"writable", writable}, {"settle", settle_for}, {"await", await}, {"sync", sync_all}, {"anew", anew}};
+                {"writable", writable}, {"settle", settle_for}, {"await", await}, {"sync", sync_all}, {"anew", anew}, {"files", files}};
 
 int main(void)
 {
