@@ -8,7 +8,7 @@
 
 /* ---- the store */
 
-void engine_warn_once(Engine *self, const gchar *text)
+static void warn_once(Engine *self, const char *text)
 {
     g_mutex_lock(&self->lock);
     gboolean is_new = g_hash_table_add(self->warned, g_strdup(text));
@@ -21,10 +21,10 @@ static void warn_of_faults(Engine *self, const DconfdbStore *store, const Dconfd
 {
     DconfdbError error = DCONFDB_ERROR_INIT;
     if (dconfdb_store_profile_fault(store, &error))
-        engine_warn_once(self, error.text);
+        warn_once(self, error.text);
     for (size_t i = 0; i < dconfdb_snapshot_databases(now); i++) {
         if (dconfdb_snapshot_fault(now, i, &error))
-            engine_warn_once(self, error.text);
+            warn_once(self, error.text);
     }
 }
 
@@ -34,7 +34,7 @@ static DconfdbStore *open_store(Engine *self)
     DconfdbError error = DCONFDB_ERROR_INIT;
     DconfdbStore *store = dconfdb_store_open_lenient(NULL, &error), *unused = store;
     if (!store)
-        engine_warn_once(self, error.text);
+        warn_once(self, error.text);
     g_mutex_lock(&self->lock);
     if (!self->store)
         self->store = g_steal_pointer(&unused);
@@ -80,7 +80,7 @@ static bool refresh(Engine *self, DconfdbStore *store)
     bool is_done = dconfdb_store_refresh(store, &has_changed, &error);
     end_look(self);
     if (!is_done)
-        engine_warn_once(self, error.text);
+        warn_once(self, error.text);
     return has_changed;
 }
 
@@ -96,10 +96,15 @@ DconfdbSnapshot *engine_look(Engine *self)
     return now;
 }
 
+void engine_warn_once(Engine *self, const gchar *text)
+{
+    warn_once(self, text);
+}
+
 DconfdbSnapshot *engine_newest(Engine *self)
 {
     g_mutex_lock(&self->lock);
-    DconfdbSnapshot *now = self->source ? dconfdb_store_snapshot(self->store) : NULL;
+    DconfdbSnapshot *now = self->source && self->store ? dconfdb_store_snapshot(self->store) : NULL;
     g_mutex_unlock(&self->lock);
     return now ? now : engine_look(self);
 }
