@@ -451,6 +451,39 @@ void dconfdb_wait_next(const DconfdbWait *wait, DconfdbNext *step);
 /* `passed`: the milliseconds since it began, of TAKEN and MOVED. `fault`: of FAILED. Of a pause any answer will do. */
 void dconfdb_wait_answered(DconfdbWait *wait, uint32_t answer, uint64_t passed, uint32_t fault);
 
+/* When whoever is told of changes looks at the files. All moments are of one clock, in microseconds; 0 is none. */
+typedef struct {
+    uint32_t stage, owed;
+    uint64_t pause, until;
+    bool is_whole;
+} DconfdbNotice;
+
+/* Its steps. */
+enum {
+    DCONFDB_NOTICE_WATCH, /* the files that are the store's now */
+    DCONFDB_NOTICE_LOOK,  /* at the files */
+    DCONFDB_NOTICE_REST   /* until something happens, or that moment */
+};
+
+/* What happens. */
+enum {
+    DCONFDB_NOTICE_FILE,   /* one may have changed, or somebody asks */
+    DCONFDB_NOTICE_FOLDER, /* other files may be the store's */
+    DCONFDB_NOTICE_TIME    /* passed */
+};
+
+/* The files are watched first, and then looked at. */
+void dconfdb_notice_begin(DconfdbNotice *notice);
+
+/* Gives the step; `until` is the moment of a rest, or 0. */
+uint32_t dconfdb_notice_next(const DconfdbNotice *notice, uint64_t *until);
+
+/* What happened, at any time, also amid a step. */
+void dconfdb_notice_told(DconfdbNotice *notice, uint32_t event, uint64_t now);
+
+/* Whether all files are watched, or whether the look succeeded. */
+void dconfdb_notice_answered(DconfdbNotice *notice, bool yes, uint64_t now);
+
 /* ---- when what waits is written. All moments are of one clock, in microseconds; 0 is none. */
 
 /* Whether a write begins now. */

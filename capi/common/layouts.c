@@ -29,6 +29,9 @@ void dconfdb_queue_begin(void *queue);
 void dconfdb_queue_answered(void *queue, void *edits, size_t count, uint32_t answer, size_t at);
 void dconfdb_wait_begin(void *wait, uint32_t longest);
 void dconfdb_wait_answered(void *wait, uint32_t answer, uint64_t passed, uint32_t fault);
+void dconfdb_notice_begin(void *notice);
+void dconfdb_notice_told(void *notice, uint32_t event, uint64_t now);
+void dconfdb_notice_answered(void *notice, bool yes, uint64_t now);
 
 bool dconfdb_is_overtaken(const void *times, size_t n, const uint8_t *path, size_t path_len, uint64_t when, uint64_t now);
 
@@ -488,6 +491,29 @@ static void finds_new_edit(void)
     printf("TAKES(DconfdbNewEdit, %d);\n", NEW_EDIT);
 }
 
+/* A look is to come after one that failed, and other files may be the store's meanwhile. */
+static void makes_notice(Written *notice, bool is_whole)
+{
+    dconfdb_notice_begin(notice->bytes);
+    dconfdb_notice_answered(notice->bytes, is_whole, 5);
+    dconfdb_notice_answered(notice->bytes, false, 5);
+    dconfdb_notice_told(notice->bytes, 0, 6);
+    dconfdb_notice_told(notice->bytes, 1, 6);
+}
+
+static void finds_notice(void)
+{
+    Written notice = room_of("DconfdbNotice"), partly = notice;
+    makes_notice(&notice, true);
+    makes_notice(&partly, false);
+    finds_number(&notice, "stage", 1);
+    finds_number(&notice, "owed", 2);
+    finds_word(&notice, "pause", 20000);
+    finds_word(&notice, "until", 20005);
+    takes(&notice, "is_whole", bit_of(&notice, &partly, notice.end, notice.end + 1, 1, 0), FLAG);
+    ends(&notice);
+}
+
 /* Edits are read and written: a set, and a reset that is of the same change. */
 enum { OF_CHANGE = 0, EDIT_SETS = 8, IS_LEFT_OUT = 9, IS_REFUSED = 10, EDIT = 16, EDITS = 6 };
 
@@ -584,6 +610,7 @@ int main(void)
     finds_refresh();
     finds_wait();
     finds_new_edit();
+    finds_notice();
     finds_queue();
     tries_times();
     return 0;

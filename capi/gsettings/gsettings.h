@@ -185,8 +185,8 @@ gint64 store_write(DconfdbBackend *self, gint64 end, bool tries_again);
 
 bool store_has_waiting(DconfdbBackend *self);
 
-/* Looks at the files, and notifies of every difference; of a first opening, of nothing. */
-void store_look(DconfdbBackend *self);
+/* Looks at the files, and notifies of every difference; of a first opening, of nothing. False: they can't be read now. */
+bool store_look(DconfdbBackend *self);
 
 /* The same for who reads where nothing is watched, if nobody else looks: the worker tells. */
 void store_peek(DconfdbBackend *self);

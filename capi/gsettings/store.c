@@ -198,7 +198,8 @@ void store_begin(DconfdbBackend *self)
     DconfdbError error = DCONFDB_ERROR_INIT;
     /* The environment is read now, and not again: the program may change it. The first file is the
      * profile that is named or the folder's, the second that of all users. */
-    char *files = place_find(NULL, &self->place, &error) ? place_files(&self->place, &error) : NULL;
+    bool are_all;
+    char *files = place_find(NULL, &self->place, &error) ? place_files(&self->place, &are_all, &error) : NULL;
     if (!files)
         place_release(&self->place);
     self->profiles[0] = g_strdup(files);
@@ -219,14 +220,14 @@ void store_open(DconfdbBackend *self)
     notice_tell(self, &notice);
 }
 
-void store_look(DconfdbBackend *self)
+bool store_look(DconfdbBackend *self)
 {
     Notice notice = {.faults = NULL};
     g_mutex_lock(&self->turn);
-    if (self->place.folder)
-        look(self, &notice);
+    bool done = !self->place.folder || look(self, &notice);
     g_mutex_unlock(&self->turn);
     notice_tell(self, &notice);
+    return done;
 }
 
 /* The monotonic clock to some milliseconds, for a quarter of what the exact time costs. */
@@ -398,13 +399,14 @@ static void write_here(DconfdbBackend *self, Notice *notice, gint64 end)
     g_mutex_unlock(&self->turn);
 }
 
-/* What is there already by the newest files is settled without a turn. */
+/* Looks at the files, where nobody told of them since a set was made: what is older than the set is seen before its turn. What is
+ * there already by the newest files is settled without a turn. */
 static void settle_what_is_there(DconfdbBackend *self, Notice *notice)
 {
     g_mutex_lock(&self->lock);
-    bool asks = waiting_asks(&self->waiting);
+    bool asks = waiting_asks(&self->waiting), waits = self->waiting.changes.length > 0;
     g_mutex_unlock(&self->lock);
-    if (!asks)
+    if (!asks && (!waits || g_atomic_int_get(&self->is_watching)))
         return;
     g_mutex_lock(&self->turn);
     bool done = look(self, notice);

@@ -3,16 +3,32 @@
 
 static void begin(DconfdbBackend *self)
 {
-    g_atomic_int_set(&self->is_watching, watch_begin(self->watch, &self->place));
+    bool is_whole = watch_begin(self->watch, &self->place);
+    g_atomic_int_set(&self->is_watching, is_whole);
+    watch_answer(self->watch, is_whole);
+}
+
+/* Until there is nothing to do but to rest. A look by another thread may have opened the store anew, also meanwhile. */
+static void carry_out(DconfdbBackend *self)
+{
+    gint64 until;
+    for (;;) {
+        if (g_atomic_int_compare_and_exchange(&self->is_reopened, TRUE, FALSE))
+            watch_tell(self->watch, WATCHED_FOLDER);
+        WatchStep step = watch_step(self->watch, &until);
+        if (step == WATCH_REST)
+            return;
+        if (step == WATCH_FILES)
+            begin(self);
+        else
+            watch_answer(self->watch, store_look(self));
+    }
 }
 
 void watch_take(DconfdbBackend *self)
 {
-    WatchedKind kind = watch_read(self->watch);
-    if (kind == WATCHED_FOLDER)
-        begin(self);
-    if (kind != WATCHED_NOTHING)
-        store_look(self);
+    watch_hear(self->watch);
+    carry_out(self);
 }
 
 static bool has_listeners(DconfdbBackend *self)
@@ -23,25 +39,20 @@ static bool has_listeners(DconfdbBackend *self)
     return has;
 }
 
-/* Whether not all could be watched, and it is time for a look. */
-static bool is_to_look(DconfdbBackend *self)
+/* Where not all is watched each read looks by itself: without listeners nobody else is to. */
+static bool minds_time(DconfdbBackend *self)
 {
-    gint64 next = watch_next_look(self->watch);
-    return next != 0 && next <= g_get_monotonic_time() && has_listeners(self);
+    return watch_is_whole(self->watch) || has_listeners(self);
 }
 
 void watch_turn(DconfdbBackend *self)
 {
-    bool is_anew = g_atomic_int_compare_and_exchange(&self->is_reopened, TRUE, FALSE);
-    if (self->watch && !is_anew && !is_to_look(self))
-        return;
     if (!self->watch)
         self->watch = watch_new(false);
-    if (!self->watch)
-        return; /* no memory is left: the next turn tries it again */
-    begin(self);
-    /* What changed before it was watched. */
-    store_look(self);
+    else if (minds_time(self))
+        watch_pass_time(self->watch);
+    if (self->watch) /* else no memory is left: the next turn tries it again */
+        carry_out(self);
 }
 
 int watch_file(const DconfdbBackend *self)
@@ -51,7 +62,9 @@ int watch_file(const DconfdbBackend *self)
 
 gint64 watch_next(DconfdbBackend *self)
 {
-    return self->watch && has_listeners(self) ? watch_next_look(self->watch) : 0;
+    gint64 until = 0;
+    bool rests = self->watch && watch_step(self->watch, &until) == WATCH_REST;
+    return rests && minds_time(self) ? until : 0;
 }
 
 void watch_end(DconfdbBackend *self)

@@ -32,8 +32,8 @@ static void warn_of_faults(Engine *self, const DconfdbStore *store, const Dconfd
 static DconfdbStore *open_store(Engine *self)
 {
     DconfdbError error = DCONFDB_ERROR_INIT;
-    DconfdbStore *store = dconfdb_store_open_lenient(NULL, &error), *unused = store;
-    if (!store)
+    DconfdbStore *store = self->place.folder ? place_open(&self->place, &error) : NULL, *unused = store;
+    if (!store && self->place.folder)
         warn_once(self, error.text);
     g_mutex_lock(&self->lock);
     if (!self->store)
@@ -70,7 +70,7 @@ static void end_look(Engine *self)
     g_mutex_unlock(&self->lock);
 }
 
-/* Whether others changed anything. */
+/* False: it failed, or is not the moment. */
 static bool refresh(Engine *self, DconfdbStore *store)
 {
     DconfdbError error = DCONFDB_ERROR_INIT;
@@ -81,7 +81,18 @@ static bool refresh(Engine *self, DconfdbStore *store)
     end_look(self);
     if (!is_done)
         warn_once(self, error.text);
-    return has_changed;
+    if (!is_done || !has_changed)
+        return is_done;
+    DconfdbSnapshot *now = dconfdb_store_snapshot(store);
+    warn_of_faults(self, store, now);
+    dconfdb_snapshot_unref(now);
+    return true;
+}
+
+bool engine_refresh(Engine *self)
+{
+    DconfdbStore *store = engine_store(self);
+    return store && refresh(self, store);
 }
 
 DconfdbSnapshot *engine_look(Engine *self)
@@ -89,11 +100,8 @@ DconfdbSnapshot *engine_look(Engine *self)
     DconfdbStore *store = engine_store(self);
     if (!store)
         return NULL;
-    bool has_changed = refresh(self, store);
-    DconfdbSnapshot *now = dconfdb_store_snapshot(store);
-    if (has_changed)
-        warn_of_faults(self, store, now);
-    return now;
+    refresh(self, store);
+    return dconfdb_store_snapshot(store);
 }
 
 void engine_warn_once(Engine *self, const gchar *text)
@@ -136,6 +144,19 @@ gboolean engine_has_user(Engine *self)
 
 /* ---- its life */
 
+const StorePlace *engine_place(const Engine *self)
+{
+    return &self->place;
+}
+
+/* The environment is read now, and not again: the program may change it. */
+static void find_place(Engine *self)
+{
+    DconfdbError error = DCONFDB_ERROR_INIT;
+    if (!place_find(NULL, &self->place, &error))
+        warn_once(self, error.text);
+}
+
 Engine *engine_new(DConfClient *client)
 {
     Engine *self = g_atomic_rc_box_new0(Engine);
@@ -146,6 +167,7 @@ Engine *engine_new(DConfClient *client)
     g_cond_init(&self->looked);
     self->warned = g_hash_table_new_full(g_str_hash, g_str_equal, g_free, NULL);
     self->watched = g_hash_table_new_full(g_str_hash, g_str_equal, g_free, NULL);
+    find_place(self);
     DconfdbSnapshot *now = engine_look(self);
     if (now)
         warn_of_faults(self, self->store, now);
@@ -171,6 +193,7 @@ static void clear(gpointer data)
     g_clear_pointer(&self->waiting, dconf_changeset_unref);
     dconfdb_snapshot_unref(self->told);
     dconfdb_store_close(self->store);
+    place_release(&self->place);
 }
 
 void engine_unref(Engine *self)

@@ -3,6 +3,7 @@
 #define LIBDCONF_H
 
 #include "dconfdb.h"
+#include "place.h"
 
 #include <dconf.h>
 
@@ -13,6 +14,7 @@
 typedef struct {
     GWeakRef client;
     GMainContext *context; /* signals come in it */
+    StorePlace place;      /* no folder: the environment names none */
 
     GMutex turn; /* held while the store is changed, which may take long */
 
@@ -29,7 +31,7 @@ typedef struct {
     gboolean has_thread;     /* one writes what waits */
     GHashTable *watched;     /* paths, and how often each is watched */
     GSource *source;         /* NULL: nothing is watched */
-    DconfdbSnapshot *told;   /* what listeners know of; NULL: nothing is watched */
+    DconfdbSnapshot *told;   /* what listeners know of; NULL: nothing is watched, or no store could be opened yet */
 } Engine;
 
 /* Signals come in the context that is the thread's now. */
@@ -49,6 +51,13 @@ DconfdbSnapshot *engine_newest(Engine *self);
 
 /* Logs a warning, unless it was logged before. */
 void engine_warn_once(Engine *self, const gchar *text);
+
+/* Looks at the files. False: the store can't be opened, or the files can't be read now, or this client replaces the user's: a look
+ * is still to be made. */
+bool engine_refresh(Engine *self);
+
+/* Where the store is; there may be no folder. */
+const StorePlace *engine_place(const Engine *self);
 
 /* The user's file is about to be replaced; and it has been, or not. */
 void engine_begin_write(Engine *self);

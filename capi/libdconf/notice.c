@@ -94,27 +94,37 @@ static void send_writable(Engine *self, GHashTable *paths)
     }
 }
 
+/* Before a first store is open nobody knows of any. */
+static bool is_as_writable(const DconfdbSnapshot *snapshots[2], const char *path)
+{
+    return !snapshots[0] || dconfdb_snapshot_is_writable(snapshots[0], path) == dconfdb_snapshot_is_writable(snapshots[1], path);
+}
+
 /* Sorts the keys that differ into those that others changed, and those that became locked or unlocked. */
 static void sort(const char *differences, const DconfdbSnapshot *snapshots[2], DConfChangeset *own, DConfChangeset *changed,
                  GHashTable *writable)
 {
     for (const char *at = differences; at && *at; at += strlen(at) + 1) {
-        if (dconfdb_snapshot_is_writable(snapshots[0], at) != dconfdb_snapshot_is_writable(snapshots[1], at))
+        if (!is_as_writable(snapshots, at))
             g_hash_table_add(writable, g_strdup(at));
         else if (!own || !dconf_changeset_get(own, at, NULL))
             dconf_changeset_set(changed, at, NULL);
     }
 }
 
+/* Without a snapshot before, all that is there is told, and that it may be written. */
 static void tell_differences(Engine *self, const DconfdbSnapshot *before, const DconfdbSnapshot *now, DConfChangeset *own)
 {
     const gchar *prefix;
     DConfChangeset *changed = dconf_changeset_new();
     GHashTable *writable = g_hash_table_new_full(g_str_hash, g_str_equal, g_free, NULL);
     char *differences = dconfdb_snapshot_differences(now, before, NULL, NULL);
-    char *locks = dconfdb_snapshot_locks(now, "/", NULL, NULL), *locks_before = dconfdb_snapshot_locks(before, "/", NULL, NULL);
+    char *locks = before ? dconfdb_snapshot_locks(now, "/", NULL, NULL) : NULL;
+    char *locks_before = before ? dconfdb_snapshot_locks(before, "/", NULL, NULL) : NULL;
     add_locks(writable, locks);
     add_locks(writable, locks_before);
+    if (!before)
+        g_hash_table_add(writable, g_strdup("/"));
     sort(differences, (const DconfdbSnapshot *[]){before, now}, own, changed, writable);
     send_writable(self, writable);
     if (dconf_changeset_describe(changed, &prefix, NULL, NULL) > 0 && engine_is_watched(self, prefix))
@@ -129,11 +139,11 @@ static void tell_differences(Engine *self, const DconfdbSnapshot *before, const 
 void notice_others(Engine *self)
 {
     g_mutex_lock(&self->lock);
-    DconfdbSnapshot *before = self->told, *now = before ? dconfdb_store_snapshot(self->store) : NULL;
+    DconfdbSnapshot *before = self->told, *now = self->source && self->store ? dconfdb_store_snapshot(self->store) : NULL;
     self->told = now ? dconfdb_snapshot_ref(now) : NULL;
     DConfChangeset *own = self->writing ? dconf_changeset_ref(self->writing) : NULL;
     g_mutex_unlock(&self->lock);
-    if (before && before != now)
+    if (now && before != now)
         tell_differences(self, before, now, own);
     g_clear_pointer(&own, dconf_changeset_unref);
     dconfdb_snapshot_unref(before);

@@ -12,30 +12,36 @@ typedef struct {
 
 /* ---- the source */
 
-static void begin(FileSource *self, const StorePlace *place)
+static void begin(FileSource *self)
 {
-    watch_begin(self->watch, place);
-    gint64 next = watch_next_look(self->watch);
+    bool is_whole = watch_begin(self->watch, engine_place(self->engine));
     int descriptor = watch_descriptor(self->watch);
     if (descriptor >= 0 && !self->descriptor)
         self->descriptor = g_source_add_unix_fd(&self->source, descriptor, G_IO_IN);
-    g_source_set_ready_time(&self->source, next == 0 ? -1 : next);
+    watch_answer(self->watch, is_whole);
+}
+
+/* Until there is nothing to do but to wait. */
+static void carry_out(FileSource *self)
+{
+    gint64 until;
+    for (WatchStep step; (step = watch_step(self->watch, &until)) != WATCH_REST;) {
+        if (step == WATCH_FILES) {
+            begin(self);
+        } else {
+            watch_answer(self->watch, engine_refresh(self->engine));
+            notice_others(self->engine);
+        }
+    }
+    g_source_set_ready_time(&self->source, until == 0 ? -1 : until);
 }
 
 static gboolean dispatch(GSource *source, GSourceFunc callback, gpointer data)
 {
     FileSource *self = (FileSource *)source;
     (void)callback, (void)data;
-    WatchedKind kind = watch_read(self->watch);
-    gint64 next = watch_next_look(self->watch);
-    gboolean is_late = next != 0 && next <= g_get_monotonic_time();
-    DconfdbStore *store = engine_store(self->engine);
-    if (store && (kind == WATCHED_FOLDER || is_late))
-        begin(self, place_of(store));
-    if (store && (kind != WATCHED_NOTHING || is_late)) {
-        dconfdb_snapshot_unref(engine_look(self->engine));
-        notice_others(self->engine);
-    }
+    watch_hear(self->watch);
+    carry_out(self);
     return G_SOURCE_CONTINUE;
 }
 
@@ -46,7 +52,7 @@ static void finalize(GSource *source)
     engine_unref(self->engine);
 }
 
-static GSource *source_new(Engine *engine, const StorePlace *place)
+static GSource *source_new(Engine *engine)
 {
     static GSourceFuncs functions = {.dispatch = dispatch, .finalize = finalize};
     GSource *source = g_source_new(&functions, sizeof(FileSource));
@@ -56,17 +62,17 @@ static GSource *source_new(Engine *engine, const StorePlace *place)
     self->watch = watch_new(false);
     if (!self->watch)
         g_error("no memory is left"); /* as GLib ends a program then */
-    begin(self, place);
     return source;
 }
 
 /* ---- the paths */
 
-/* Watches the files, and looks at them before and after: what changes in between is told. */
-static void begin_watching(Engine *self, DconfdbStore *store)
+/* Looks at the files, watches them, and looks again: what changes in between is told. Where the store can't be opened now, all that
+ * is in it will be. */
+static void begin_watching(Engine *self)
 {
     DconfdbSnapshot *now = engine_look(self);
-    GSource *source = source_new(self, place_of(store));
+    GSource *source = source_new(self);
     g_mutex_lock(&self->lock);
     gboolean is_first = !self->source;
     if (is_first) {
@@ -75,9 +81,8 @@ static void begin_watching(Engine *self, DconfdbStore *store)
     }
     g_mutex_unlock(&self->lock);
     if (is_first) {
+        carry_out((FileSource *)source);
         g_source_attach(source, self->context);
-        dconfdb_snapshot_unref(engine_look(self));
-        notice_others(self);
     }
     g_source_unref(source);
     dconfdb_snapshot_unref(now);
@@ -85,14 +90,13 @@ static void begin_watching(Engine *self, DconfdbStore *store)
 
 void engine_watch(Engine *self, const gchar *path)
 {
-    DconfdbStore *store = engine_store(self);
     g_mutex_lock(&self->lock);
     guint count = GPOINTER_TO_UINT(g_hash_table_lookup(self->watched, path));
     g_hash_table_replace(self->watched, g_strdup(path), GUINT_TO_POINTER(count + 1));
     gboolean is_new = !self->source;
     g_mutex_unlock(&self->lock);
-    if (is_new && store)
-        begin_watching(self, store);
+    if (is_new && engine_place(self)->folder)
+        begin_watching(self);
 }
 
 static void end_watching(Engine *self)

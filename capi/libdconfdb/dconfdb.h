@@ -488,11 +488,12 @@ DCONFDB_API bool dconfdb_snapshot_has_edit(const DconfdbSnapshot *snapshot, cons
  * as dconfdb_store_refresh does, and gives the paths of the keys that differ between the newest snapshot and
  * that of the last dispatch, at first that of the first call of either: as dconfdb_snapshot_differences
  * gives them, and empty if none does. This program's own changes are among them. Each change is told once:
- * of two threads that call it, to one. It waits for no change: without anything to tell it returns at once.
+ * of two threads that call it, to one. It waits for no change: without anything to tell it returns at once. While
+ * another thread changes the store it doesn't look at the files, so as not to wait for the disk.
  *
- * Nothing is lost: if `dispatch` fails (NULL), or if not all files can be watched, the file is readable again
- * after a second. If `dispatch` fails since no time can be set for that (DCONFDB_ERROR_FILE), a file that was
- * readable stays so. Watched are, by inotify, the databases' names, and the folders and links on the way to
+ * Nothing is lost: if `dispatch` fails (NULL), or doesn't look, or if not all files can be watched, the file is
+ * readable again, after a second at most. If `dispatch` fails since no time can be set for that
+ * (DCONFDB_ERROR_FILE), a file that was readable stays so. Watched are, by inotify, the databases' names, and the folders and links on the way to
  * them. A folder that is missing is waited for, but not in /etc; and what another machine changes on a file
  * server is not seen so. The store owns the file: it is not to be read, and is closed with the store. -1: it
  * can't be had. */

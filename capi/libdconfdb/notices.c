@@ -2,6 +2,7 @@
 #define _GNU_SOURCE
 #include "notices.h"
 #include "errors.h"
+#include "locked.h"
 
 #include <errno.h>
 #include <stdlib.h>
@@ -9,8 +10,9 @@
 #include <sys/timerfd.h>
 #include <unistd.h>
 
-/* Until the files are looked at again where not all can be watched, or a look has failed. */
-static const struct timespec later = {1, 0}, at_once = {0, 1}, never = {0, 0};
+enum { SECOND = 1000000, NANOSECONDS = 1000 };
+
+static const struct timespec a_second = {1, 0}, at_once = {0, 1};
 
 void notices_begin(Notices *it)
 {
@@ -46,26 +48,30 @@ static bool add(const Notices *it, int file)
 }
 
 /* When the clock is readable next. If it can't be set, it stays as it is. */
-static bool set_clock(const Notices *it, struct timespec when)
+static bool set_clock(const Notices *it, int flags, struct timespec when)
 {
     const struct itimerspec time = {{0, 0}, when};
-    return timerfd_settime(it->clock, 0, &time, NULL) == 0;
+    return timerfd_settime(it->clock, flags, &time, NULL) == 0;
+}
+
+/* For the next step: a look comes with the next dispatch, which is at once. */
+static bool set_clock_for_next(const Notices *it)
+{
+    int64_t until = 0;
+    if (watch_step(it->watch, &until) != WATCH_REST)
+        return set_clock(it, 0, at_once);
+    return set_clock(it, TFD_TIMER_ABSTIME, (struct timespec){until / SECOND, until % SECOND * NANOSECONDS});
 }
 
 /* Watches the store's files. Where there was no inotify there may be by now. */
 static void watch_anew(Notices *it, const DconfdbStore *store)
 {
     char *files = files_of(store);
-    watch_files(it->watch, files, 0);
+    bool is_whole = watch_files(it->watch, files, 0);
     free(files);
     if (it->inotify < 0 && watch_descriptor(it->watch) >= 0 && add(it, watch_descriptor(it->watch)))
         it->inotify = watch_descriptor(it->watch);
-}
-
-/* Whether it is told by inotify when anything happens. */
-static bool is_whole(const Notices *it)
-{
-    return it->inotify >= 0 && watch_next_look(it->watch) == 0;
+    watch_answer(it->watch, is_whole && it->inotify >= 0);
 }
 
 /* The first dispatch is at once: what happened before the files were watched is not told by inotify. */
@@ -77,7 +83,7 @@ static bool begin(Notices *it, const DconfdbStore *store)
         it->polled = epoll_create1(EPOLL_CLOEXEC);
     if (it->polled >= 0)
         it->clock = timerfd_create(CLOCK_MONOTONIC, TFD_CLOEXEC | TFD_NONBLOCK);
-    if (it->clock < 0 || !add(it, it->clock) || !set_clock(it, at_once))
+    if (it->clock < 0 || !add(it, it->clock) || !set_clock(it, 0, at_once))
         return false;
     watch_anew(it, store);
     return true;
@@ -100,29 +106,10 @@ int dconfdb_store_fd(DconfdbStore *store, DconfdbError *error)
 
 /* ---- what is told */
 
-/* Whether a second has passed since the last look, where not all can be watched. */
-static bool is_late(const Notices *it)
+/* What differs from what was told last. Amid a change of another thread nobody looks. */
+static char *differences(Notices *it, DconfdbStore *store, bool *has_looked, size_t *size, DconfdbError *error)
 {
-    struct itimerspec left = {{0, 0}, {0, 0}};
-    return !is_whole(it) && (timerfd_gettime(it->clock, &left) != 0 || (left.it_value.tv_sec == 0 && left.it_value.tv_nsec == 0));
-}
-
-/* Takes what happened, and watches anew where folders have changed. The clock comes first: if it can't be set nothing is
- * taken, so that the file stays readable. */
-static bool take(Notices *it, const DconfdbStore *store, DconfdbError *error)
-{
-    bool was_late = is_late(it);
-    if (!set_clock(it, later))
-        return refuse_file(error, errno, dconfdb_store_folder(store), nowhere);
-    if (watch_read(it->watch) == WATCHED_FOLDER || was_late)
-        watch_anew(it, store);
-    return true;
-}
-
-/* What differs from what was told last. */
-static char *differences(Notices *it, DconfdbStore *store, size_t *size, DconfdbError *error)
-{
-    if (!dconfdb_store_refresh(store, NULL, error))
+    if (!store_look(store, has_looked, error))
         return NULL;
     DconfdbSnapshot *now = dconfdb_store_snapshot(store);
     char *paths = dconfdb_snapshot_differences(now, it->told, size, error);
@@ -132,16 +119,35 @@ static char *differences(Notices *it, DconfdbStore *store, size_t *size, Dconfdb
     return paths;
 }
 
+/* Takes what happened, as who dispatches asks for a look, and looks. The clock comes first: if it can't be set nothing is taken, so
+ * that the file stays readable. */
+static char *look(Notices *it, DconfdbStore *store, size_t *size, DconfdbError *error)
+{
+    int64_t until = 0;
+    if (!set_clock(it, 0, a_second)) {
+        refuse_file(error, errno, dconfdb_store_folder(store), nowhere);
+        return NULL;
+    }
+    watch_hear(it->watch);
+    watch_tell(it->watch, WATCHED_DATABASE);
+    if (watch_step(it->watch, &until) == WATCH_FILES)
+        watch_anew(it, store);
+    bool has_looked = false;
+    char *paths = differences(it, store, &has_looked, size, error);
+    watch_answer(it->watch, paths && has_looked);
+    /* If it can't be set for that it is readable after the second. */
+    (void)set_clock_for_next(it);
+    return paths;
+}
+
 char *dconfdb_store_dispatch(DconfdbStore *store, size_t *size, DconfdbError *error)
 {
     Notices *it = notices_of(store);
     pthread_mutex_lock(&it->lock);
     if (!it->told)
         it->told = dconfdb_store_snapshot(store);
-    char *paths = !it->watch || take(it, store, error) ? differences(it, store, size, error) : NULL;
-    /* A clock that can't be stopped is readable once more, for nothing. */
-    if (it->watch && paths && is_whole(it))
-        (void)set_clock(it, never);
+    bool has_looked;
+    char *paths = it->watch ? look(it, store, size, error) : differences(it, store, &has_looked, size, error);
     pthread_mutex_unlock(&it->lock);
     return paths;
 }

@@ -23,6 +23,7 @@
 #include <stdlib.h>
 #include <string.h>
 #include <sys/auxv.h>
+#include <time.h>
 #include <unistd.h>
 
 /* What was wrong with a file, and what is read of it. */
@@ -918,13 +919,13 @@ char *files_of(const DconfdbStore *store)
     return with_files(store, NULL, NULL, NULL);
 }
 
-static char *files_at(const StorePlace *place, size_t *size, DconfdbError *error)
+static char *files_at(const StorePlace *place, size_t *size, bool *are_all, DconfdbError *error)
 {
     DconfdbError fault = DCONFDB_ERROR_INIT;
     DconfdbStore *store = store_at(place, &lenient, error);
     if (!store)
         return NULL;
-    find_files(store, &fault);
+    *are_all = find_files(store, &fault);
     char *names = fault.code == DCONFDB_ERROR_MEMORY ? NULL : file_names(store, size);
     if (!names)
         refuse_memory(error);
@@ -932,17 +933,18 @@ static char *files_at(const StorePlace *place, size_t *size, DconfdbError *error
     return names;
 }
 
-char *place_files(const StorePlace *place, DconfdbError *error)
+char *place_files(const StorePlace *place, bool *are_all, DconfdbError *error)
 {
-    return files_at(place, NULL, error);
+    return files_at(place, NULL, are_all, error);
 }
 
 char *dconfdb_store_files(const char *folder, size_t *size, DconfdbError *error)
 {
     StorePlace place;
+    bool are_all = true;
     if (!find_place(folder, &place, error))
         return NULL;
-    char *files = files_at(&place, size, error);
+    char *files = files_at(&place, size, &are_all, error);
     place_release(&place);
     return files;
 }
@@ -1025,6 +1027,11 @@ static bool refresh(DconfdbStore *store, int turn, DconfdbError *error)
     return end != DCONFDB_LOOK_FAILED;
 }
 
+bool is_amid_change(const DconfdbStore *store)
+{
+    return atomic_load(&store->is_amid);
+}
+
 bool dconfdb_store_refresh(DconfdbStore *store, bool *changed, DconfdbError *error)
 {
     pthread_mutex_lock(&store->refreshing);
@@ -1034,6 +1041,22 @@ bool dconfdb_store_refresh(DconfdbStore *store, bool *changed, DconfdbError *err
         store->has_news = false;
     }
     pthread_mutex_unlock(&store->refreshing);
+    return done;
+}
+
+/* Who looks too is waited for, and who reads the files before a change. */
+bool store_look(DconfdbStore *store, bool *has_looked, DconfdbError *error)
+{
+    static const struct timespec moment = {0, 1000000};
+    while (pthread_mutex_trylock(&store->refreshing) != 0) {
+        *has_looked = !is_amid_change(store);
+        if (!*has_looked)
+            return true;
+        nanosleep(&moment, NULL);
+    }
+    bool done = refresh(store, NO_FOLDER, error);
+    pthread_mutex_unlock(&store->refreshing);
+    *has_looked = done;
     return done;
 }
 
@@ -1626,11 +1649,6 @@ static bool change_if(DconfdbStore *store, const FolderLock *lock, const Dconfdb
     bool done = store->user_file && lock ? change_in_turn(store, lock, &asking, error) : change_nothing(store, &asking, error);
     asking_free(&asking);
     return done;
-}
-
-bool is_amid_change(const DconfdbStore *store)
-{
-    return atomic_load(&store->is_amid);
 }
 
 bool locked_change(DconfdbStore *store, const FolderLock *lock, const DconfdbEdit *edits, const Made *made, size_t count,

@@ -1,6 +1,7 @@
-/* The names of a store's files, watched by inotify. */
+/* The names of a store's files, watched by inotify; when they are looked at, a proved machine decides. */
 #define _GNU_SOURCE
 #include "watch.h"
+#include "dconfdb_calls.h"
 
 #include <limits.h>
 #include <stdio.h>
@@ -15,9 +16,9 @@ enum { SECOND = 1000000, NANOSECONDS = 1000, MOST_LINKS = 40, PROFILES = 2 };
 
 static const char busy[] = "/etc";
 
-/* What happens to a name: a file is replaced, or has been written; a link or a folder is made. What is written
- * beside it, as NAME.new, wakes nobody before it is whole. And what happens to a folder itself. */
-#define OF_FILES (IN_CLOSE_WRITE | IN_MOVED_FROM | IN_MOVED_TO | IN_DELETE)
+/* What happens to a name: a file is replaced, or has been written, closed to others or opened; a link or a folder is made. What is
+ * written beside it, as NAME.new, wakes nobody before it is whole. And what happens to a folder itself. */
+#define OF_FILES (IN_CLOSE_WRITE | IN_ATTRIB | IN_MOVED_FROM | IN_MOVED_TO | IN_DELETE)
 #define OF_NAMES (IN_CREATE | IN_MOVED_FROM | IN_MOVED_TO | IN_DELETE)
 #define OF_ITSELF (IN_MOVE_SELF | IN_DELETE_SELF)
 
@@ -33,14 +34,16 @@ struct Watch {
     bool minds_etc, is_whole;
     size_t count, room;
     Watched *all;
-    int64_t next; /* when the files are to be looked at; 0: inotify tells */
+    DconfdbNotice notice;
 };
 
 Watch *watch_new(bool minds_etc)
 {
     Watch *watch = calloc(1, sizeof *watch);
-    if (watch)
-        *watch = (Watch){.inotify = -1, .minds_etc = minds_etc};
+    if (!watch)
+        return NULL;
+    *watch = (Watch){.inotify = -1, .minds_etc = minds_etc};
+    dconfdb_notice_begin(&watch->notice);
     return watch;
 }
 
@@ -135,7 +138,7 @@ static bool watch_name(Watch *watch, Way *way, const char *name, size_t len, con
     bool is_link = is_there && S_ISLNK(found.st_mode), is_folder = is_there && S_ISDIR(found.st_mode) && !is_last;
     bool is_missing = !is_there && (watch->minds_etc || strcmp(folder, busy) != 0);
     if (is_last)
-        watch_one(watch, folder, path, OF_FILES | (is_there && !is_link ? 0U : (uint32_t)IN_CREATE), way->kind);
+        watch_one(watch, folder, path, OF_FILES | (is_there && !is_link ? 0U : (uint32_t)IN_CREATE), is_link ? WATCHED_FOLDER : way->kind);
     else if (is_link || is_missing)
         watch_one(watch, folder, path, OF_NAMES, WATCHED_FOLDER);
     else if (is_folder && (watch->minds_etc || strcmp(path, busy) != 0))
@@ -191,14 +194,6 @@ static void watch_all(Watch *watch, const char *files, int profiles)
     }
 }
 
-/* Microseconds of the monotonic clock. */
-static int64_t time_now(void)
-{
-    struct timespec now = {0, 0};
-    clock_gettime(CLOCK_MONOTONIC, &now);
-    return (int64_t)now.tv_sec * SECOND + now.tv_nsec / NANOSECONDS;
-}
-
 static bool has_inotify(Watch *watch)
 {
     if (watch->inotify < 0)
@@ -213,16 +208,21 @@ bool watch_files(Watch *watch, const char *files, int profiles)
         forget_all(watch);
         watch_all(watch, files, profiles);
     }
-    watch->next = watch->is_whole ? 0 : time_now() + SECOND;
     return watch->is_whole;
 }
 
 bool watch_begin(Watch *watch, const StorePlace *place)
 {
-    char *files = has_inotify(watch) ? place_files(place, NULL) : NULL;
-    bool is_whole = watch_files(watch, files, PROFILES);
+    bool are_all = false;
+    char *files = has_inotify(watch) ? place_files(place, &are_all, NULL) : NULL;
+    watch->is_whole = watch_files(watch, files, PROFILES) && are_all;
     free(files);
-    return is_whole;
+    return watch->is_whole;
+}
+
+bool watch_is_whole(const Watch *watch)
+{
+    return watch->is_whole;
 }
 
 /* ---- what happened */
@@ -240,9 +240,25 @@ static bool is_of(const Watched *one, const struct inotify_event *event)
         return false;
     if (!one->path)
         return (event->mask & OF_ITSELF) != 0;
-    if (event->len == 0 || strcmp(strrchr(one->path, '/') + 1, event->name) != 0)
+    if (event->len == 0)
+        return (event->mask & IN_ATTRIB) != 0;
+    if (strcmp(strrchr(one->path, '/') + 1, event->name) != 0)
         return false;
     return (event->mask & IN_CREATE) == 0 || is_whole_file(one->path);
+}
+
+static bool has_link(const char *path)
+{
+    struct stat found;
+    return lstat(path, &found) == 0 && S_ISLNK(found.st_mode);
+}
+
+/* Where a name goes, or a link comes, another name is on the way to the file; or it is waited for otherwise. */
+static WatchedKind kind_by(const Watched *one, const struct inotify_event *event)
+{
+    if ((event->mask & (IN_MOVED_FROM | IN_DELETE)) != 0 || event->len == 0)
+        return WATCHED_FOLDER;
+    return (event->mask & (IN_CREATE | IN_MOVED_TO)) != 0 && has_link(one->path) ? WATCHED_FOLDER : one->kind;
 }
 
 static WatchedKind kind_of(const Watch *watch, const struct inotify_event *event)
@@ -250,8 +266,8 @@ static WatchedKind kind_of(const Watch *watch, const struct inotify_event *event
     WatchedKind kind = (event->mask & (IN_Q_OVERFLOW | IN_UNMOUNT)) != 0 ? WATCHED_FOLDER : WATCHED_NOTHING;
     for (size_t i = 0; i < watch->count; i++) {
         const Watched *one = &watch->all[i];
-        if (one->kind > kind && is_of(one, event))
-            kind = one->kind;
+        WatchedKind of_one = kind < WATCHED_FOLDER && is_of(one, event) ? kind_by(one, event) : WATCHED_NOTHING;
+        kind = of_one > kind ? of_one : kind;
     }
     return kind;
 }
@@ -269,7 +285,8 @@ static WatchedKind kind_in(const Watch *watch, const char *room, size_t len)
     return kind;
 }
 
-WatchedKind watch_read(const Watch *watch)
+/* What happened since the last time. */
+static WatchedKind read_events(const Watch *watch)
 {
     _Alignas(struct inotify_event) char room[16384];
     WatchedKind kind = WATCHED_NOTHING;
@@ -286,7 +303,43 @@ int watch_descriptor(const Watch *watch)
     return watch->inotify;
 }
 
-int64_t watch_next_look(const Watch *watch)
+/* ---- when the files are looked at */
+
+/* Microseconds of the monotonic clock. */
+static uint64_t time_now(void)
 {
-    return watch->next;
+    struct timespec now = {0, 0};
+    clock_gettime(CLOCK_MONOTONIC, &now);
+    return (uint64_t)now.tv_sec * SECOND + (uint64_t)now.tv_nsec / NANOSECONDS;
+}
+
+WatchStep watch_step(const Watch *watch, int64_t *until)
+{
+    static const WatchStep steps[] = {[DCONFDB_NOTICE_WATCH] = WATCH_FILES, [DCONFDB_NOTICE_LOOK] = WATCH_LOOK, [DCONFDB_NOTICE_REST] = WATCH_REST};
+    uint64_t moment = 0;
+    uint32_t step = dconfdb_notice_next(&watch->notice, &moment);
+    *until = moment > INT64_MAX ? INT64_MAX : (int64_t)moment;
+    return steps[step];
+}
+
+void watch_answer(Watch *watch, bool yes)
+{
+    dconfdb_notice_answered(&watch->notice, yes, time_now());
+}
+
+void watch_tell(Watch *watch, WatchedKind kind)
+{
+    if (kind != WATCHED_NOTHING)
+        dconfdb_notice_told(&watch->notice, kind == WATCHED_FOLDER ? DCONFDB_NOTICE_FOLDER : DCONFDB_NOTICE_FILE, time_now());
+}
+
+void watch_pass_time(Watch *watch)
+{
+    dconfdb_notice_told(&watch->notice, DCONFDB_NOTICE_TIME, time_now());
+}
+
+void watch_hear(Watch *watch)
+{
+    watch_tell(watch, read_events(watch));
+    watch_pass_time(watch);
 }

@@ -8,15 +8,31 @@
 #include <stdbool.h>
 #include <stdint.h>
 
-/* What a name is to the store: where a folder or a profile changes, other files may be the store's. */
+/* What a name is to the store: where a folder, a link or a profile changes, other files may be the store's. */
 typedef enum { WATCHED_NOTHING, WATCHED_DATABASE, WATCHED_FOLDER } WatchedKind;
 
-/* What is watched, by one thread at a time. */
+/* What comes next, as the proved machine says. */
+typedef enum { WATCH_FILES, WATCH_LOOK, WATCH_REST } WatchStep;
+
+/* What is watched, and when the files are looked at, by one thread at a time. */
 typedef struct Watch Watch;
 
 /* Watches nothing yet. Much happens in /etc: only if that is minded is a folder waited for in it. NULL: no memory is left. */
 Watch *watch_new(bool minds_etc);
 void watch_free(Watch *watch);
+
+/* The next step: the caller carries it out, and answers. WATCH_FILES is to be answered by what watch_files or watch_begin give,
+ * WATCH_LOOK by whether the look at the files succeeded. While it rests watch_hear or watch_pass_time are called when something
+ * happened, or at `until`, in microseconds of the monotonic clock; 0: inotify tells. */
+WatchStep watch_step(const Watch *watch, int64_t *until);
+void watch_answer(Watch *watch, bool yes);
+
+/* Takes what inotify tells, and what the time is; or only that. */
+void watch_hear(Watch *watch);
+void watch_pass_time(Watch *watch);
+
+/* Somebody asks for a look; or other files may be the store's. */
+void watch_tell(Watch *watch, WatchedKind kind);
 
 /* Watches these files, and nothing else; a zero byte is after each, and one more. The first ones are so many profiles. False: not
  * all can be watched; NULL, none. What happened before is to be looked for. */
@@ -25,14 +41,10 @@ bool watch_files(Watch *watch, const char *files, int profiles);
 /* The same of the files that the store at that place has now. */
 bool watch_begin(Watch *watch, const StorePlace *place);
 
+/* Whether inotify tells of all that happens to the files. */
+bool watch_is_whole(const Watch *watch);
+
 /* What is readable when something happens, or -1: inotify can't be had. */
 int watch_descriptor(const Watch *watch);
-
-/* When the files are to be looked at, and watched anew, since not all can be watched, in microseconds of the monotonic clock;
- * 0: inotify tells. */
-int64_t watch_next_look(const Watch *watch);
-
-/* Takes what happened, and says to what. If to a folder, the files are to be watched anew. */
-WatchedKind watch_read(const Watch *watch);
 
 #endif

@@ -7,12 +7,15 @@
 
 #include <errno.h>
 #include <getopt.h>
+#include <limits.h>
 #include <poll.h>
 #include <stdio.h>
 #include <stdlib.h>
 #include <string.h>
+#include <time.h>
 
-enum { LONGEST_PATH = 65535, EACH_SECOND = 1000, PROFILES = 2 };
+enum { LONGEST_PATH = 65535, PROFILES = 2 };
+enum { SECOND = 1000000, NANOSECONDS = 1000 };
 
 /* Of share/help/commands, by capi/command. */
 static const char help[] =
@@ -26,7 +29,7 @@ typedef struct {
     Watch *names;
     DconfdbStore *store;
     DconfdbSnapshot *before; /* what was told last */
-    bool is_late;            /* not all is watched, or a look has failed: each second there is another */
+    bool is_old;             /* another profile may name other databases: the store is to be opened anew */
     char said_of_profile[512], said_of_look[512];
 } Watching;
 
@@ -155,9 +158,10 @@ static bool are_same(const char *one, const char *other)
 static bool begin_once(Watching *watch)
 {
     DconfdbError error = DCONFDB_ERROR_INIT;
-    char *files = place_files(&watch->place, &error);
-    char *now = files && watch_files(watch->names, files, PROFILES) ? place_files(&watch->place, &error) : NULL;
-    bool is_done = now && are_same(files, now);
+    bool are_all = false, are_all_now = false;
+    char *files = place_files(&watch->place, &are_all, &error);
+    char *now = files && watch_files(watch->names, files, PROFILES) ? place_files(&watch->place, &are_all_now, &error) : NULL;
+    bool is_done = now && are_same(files, now) && are_all && are_all_now;
     free(files);
     free(now);
     return is_done;
@@ -166,7 +170,8 @@ static bool begin_once(Watching *watch)
 /* The files that are the store's now, watched. */
 static void begin(Watching *watch)
 {
-    watch->is_late = !begin_once(watch) && !begin_once(watch);
+    watch->is_old = true;
+    watch_answer(watch->names, begin_once(watch) || begin_once(watch));
 }
 
 /* The store, opened anew: another profile may name other databases. */
@@ -177,45 +182,63 @@ static bool open_anew(Watching *watch, DconfdbError *error)
         return false;
     dconfdb_store_close(watch->store);
     watch->store = store;
+    watch->is_old = false;
     return true;
 }
 
-/* Looks at the files, and tells. What fails is tried again in a second. */
-static void look(Watching *watch, bool is_anew)
+/* Looks at the files, and tells. False: it failed. */
+static bool look(Watching *watch)
 {
     DconfdbError error = DCONFDB_ERROR_INIT;
-    bool is_done = is_anew ? open_anew(watch, &error) : dconfdb_store_refresh(watch->store, NULL, &error);
+    bool is_done = watch->is_old ? open_anew(watch, &error) : dconfdb_store_refresh(watch->store, NULL, &error);
     DconfdbSnapshot *now = is_done ? dconfdb_store_snapshot(watch->store) : NULL;
     if (now && tell(watch, now, &error)) {
         warn_of_faults(watch, now);
         warn_once(&watch->said_of_look, "");
         dconfdb_snapshot_unref(watch->before);
         watch->before = now;
-        return;
+        return true;
     }
     dconfdb_snapshot_unref(now);
     warn_once(&watch->said_of_look, error.text);
-    watch->is_late = true;
+    return false;
 }
 
-/* Waits for what happens, and looks. */
-static void wait_and_look(Watching *watch)
+/* Waits for what happens, or for that moment. */
+static void rest(Watching *watch, int64_t until)
 {
     struct pollfd file = {.fd = watch_descriptor(watch->names), .events = POLLIN};
-    bool was_late = watch->is_late;
-    int count = poll(&file, 1, was_late ? EACH_SECOND : -1);
-    WatchedKind what = count > 0 ? watch_read(watch->names) : WATCHED_NOTHING;
-    bool is_anew = what == WATCHED_FOLDER || (was_late && count == 0);
-    if (is_anew)
+    struct timespec now = {0, 0};
+    uint64_t wait = 0;
+    clock_gettime(CLOCK_MONOTONIC, &now);
+    bool ends = dconfdb_sleep_until(0, (uint64_t)until, (uint64_t)now.tv_sec * SECOND + (uint64_t)now.tv_nsec / NANOSECONDS, &wait);
+    if (poll(&file, 1, !ends ? -1 : wait > INT_MAX ? INT_MAX : (int)wait) > 0)
+        watch_hear(watch->names);
+    else
+        watch_pass_time(watch->names);
+}
+
+/* The next step. */
+static void go_on(Watching *watch)
+{
+    int64_t until = 0;
+    switch (watch_step(watch->names, &until)) {
+    case WATCH_FILES:
         begin(watch);
-    if (is_anew || what != WATCHED_NOTHING)
-        look(watch, is_anew);
+        break;
+    case WATCH_LOOK:
+        watch_answer(watch->names, look(watch));
+        break;
+    case WATCH_REST:
+        rest(watch, until);
+        break;
+    }
 }
 
 static int watch_until_interrupted(Watching *watch)
 {
     while (fflush(stdout) == 0 && !ferror(stdout))
-        wait_and_look(watch);
+        go_on(watch);
     return 1;
 }
 
@@ -246,6 +269,7 @@ static int start(Watching *watch)
     }
     if (!has_named_profile(watch))
         return 1;
+    watch->is_old = false;
     DconfdbSnapshot *now = dconfdb_store_snapshot(watch->store);
     warn_of_faults(watch, now);
     watch->before = now;

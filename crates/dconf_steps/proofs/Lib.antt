@@ -2,5 +2,5 @@ pub mod WaitProofs
 pub mod LookProofs
 pub mod EditLaws
 pub mod QueueProofs
+pub mod NoticeProofs
 pub mod WrongMachines
-pub mod EntryLaws

@@ -1,5 +1,9 @@
 -- Wrong machines: of what each would do it is proved that the laws alone exclude it.
-use Rattle.std.proofs.Common.{ℕ, ◌≡◌, ◌≤◌, Bool, true, false, List, [], ◌∷◌, length, Option, Some, None, refl, ap, arith, ⊎_elim, inl}
+use Rattle.std.proofs.Common.{ℕ, ◌≡◌, ◌≤◌, Bool, true, false, List, [], ◌∷◌, length, Option, Some, refl, ap, subst, arith, ⊎_elim, inl}
+use Rattle.dconf_steps.specs.declared.notice.Notice.{Notice}
+use Rattle.dconf_steps.specs.declared.notice.NoticeStep.{NoticeStep}
+use Rattle.dconf_steps.specs.declared.notice.NoticeStep.TheVariants as notice
+use Rattle.dconf_steps.specs.declared.notice.NoticeEvent.TheVariants.{File}
 use Rattle.dconf_steps.specs.declared.queue.QueuedEdit.{QueuedEdit}
 use Rattle.dconf_steps.specs.declared.queue.Queue.{Queue}
 use Rattle.dconf_steps.specs.declared.queue.QueueEnd.TheVariants.{Written}
@@ -15,6 +19,9 @@ use Rattle.dconf_steps.specs.declared.wait.LockWait.{LockWait}
 use Rattle.dconf_steps.specs.declared.wait.WaitEnd.TheVariants.{Had, Busy}
 use Rattle.dconf_steps.specs.declared.wait.WaitStep.TheVariants as wait
 use Rattle.dconf_steps.specs.declared.wait.WaitAnswer.TheVariants.{Taken, Got}
+use Rattle.dconf_steps.specs.Notices.{notice_step}
+use Rattle.dconf_steps.specs.NoticeLaws.{NoticeMoment, Noticed, IsToLook, IsSoon, IsGoodNotice}
+use Rattle.dconf_steps.specs.NoticeLaws.NoticeMoment.{tells, answers}
 use Rattle.dconf_steps.specs.Queues.{queue_step}
 use Rattle.dconf_steps.specs.QueueLaws.{IsGoodQueue, TakenStep}
 use Rattle.dconf_steps.specs.Looks.{look_step}
@@ -105,3 +112,32 @@ too_early u g e = ⊎_elim (λ past. ⊎_elim (λ (le : 10 ≤ 3). omega arith) 
 -- it says that the lock is had though no try had it
 pub never_had : (u : LockWait) → IsGoodWait 10 (record { step = wait.Try; answer = Taken 3 } ∷ []) u → wait_step u ≡ wait.Done Had → ⊥
 never_had u g e = ⊎_elim (λ it. (let bad : Taken 3 ≡ Got = it.1 in cc)) (λ x. x) (g.had e)
+
+-- ---- a notice: what it watches is watched at first
+
+abbrev heard : NoticeStep → NoticeMoment → Noticed
+heard step moment = record { step = step; moment = moment }
+
+abbrev watched : Noticed
+watched = heard notice.Watch (answers true 1)
+
+rests_for_good : (step : NoticeStep) → step ≡ notice.Rest 0 → IsToLook step → ⊥
+rests_for_good step e comes = subst IsToLook e comes refl
+
+-- an event that came amid a look is forgotten when that succeeded
+pub forgotten : (u : Notice) → IsGoodNotice (watched ∷ heard notice.Look (tells File 2) ∷ heard notice.Look (answers true 3) ∷ []) u
+    → notice_step u ≡ notice.Rest 0 → ⊥
+forgotten u g e = ⊎_elim (λ x. x) (λ comes. rests_for_good (notice_step u) e comes) (g.followed.1.0 refl)
+
+-- a look that failed is not repeated
+pub never_repeated : (u : Notice) → IsGoodNotice (watched ∷ heard notice.Look (answers false 2) ∷ []) u → notice_step u ≡ notice.Rest 0 → ⊥
+never_repeated u g e =
+    ⊎_elim (λ seen. ⊎_elim (λ x. x) (λ r. ⊎_elim (λ x. x) (λ x. x) r) seen) (λ comes. rests_for_good (notice_step u) e comes) g.begun
+
+-- it is repeated at once, again and again
+pub never_rests : (u : Notice) → IsGoodNotice (watched ∷ heard notice.Look (answers false 2) ∷ heard notice.Look (answers false 3) ∷ []) u → ⊥
+never_rests u g = let bad : 2 ≤ 1 = g.count in omega arith
+
+-- it is repeated after five seconds
+pub too_late : (u : Notice) → IsGoodNotice (watched ∷ heard notice.Look (answers false 2) ∷ []) u → notice_step u ≡ notice.Rest 5000000 → ⊥
+too_late u g e = let bad : 5000000 ≤ 1000002 = (subst (IsSoon 2) e g.soon (λ (zero_is : 5000000 ≡ 0). omega arith)).0 in omega arith

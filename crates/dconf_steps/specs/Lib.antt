@@ -8,5 +8,6 @@ pub mod LookRecords
 pub mod WaitRecords
 pub mod QueueRecords
 pub mod Dues
-pub mod Faults
-pub mod Entries
+pub mod Notices
+pub mod NoticeLaws
+pub mod NoticeRecords

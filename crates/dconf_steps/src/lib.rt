@@ -1,22 +1,21 @@
-//! What comes next where a file may have changed, a lock may be another's, and changes wait: three machines that do nothing
+//! What comes next where a file may have changed, a lock may be another's, and changes wait: four machines that do nothing
 //! themselves.
 //!
 //! Each says its next step; its caller carries that out and gives the answer, until the step is `Done`. They are a few numbers: they
 //! hold no bytes, no name and no file, take no memory, and can be copied. A [`LockWait`] takes a lock that others may have, a
-//! [`Refresh`] looks at the files of a store, and a [`Queue`] writes the changes that wait. [`entry_of`] says what becomes of a change
-//! that is asked for, and [`class_of`] what a fault means.
+//! [`Refresh`] looks at the files of a store, a [`Queue`] writes the changes that wait, and a [`Notice`] says when whoever is told of
+//! changes looks.
 #![tactic(auto)]
 
 ghost use Rattle.dconf_steps.specs.WaitLaws.{HoweverLongItWaits};
 ghost use Rattle.dconf_steps.specs.RefreshLaws.{WhateverIsSeen};
 ghost use Rattle.dconf_steps.specs.QueueLaws.{WhateverIsWritten};
-ghost use Rattle.dconf_steps.specs.Entries.{NewestIsKept};
-ghost use Rattle.dconf_steps.specs.Faults.{EachIsOne};
+ghost use Rattle.dconf_steps.specs.NoticeLaws.{WhateverIsNoticed};
 
 mod due;
-mod entry;
-mod faults;
 mod next_step;
+mod notice;
+mod notice_record;
 mod queue;
 mod queue_record;
 mod refresh;
@@ -25,9 +24,9 @@ mod wait;
 mod wait_record;
 
 pub use due::{exit_goes_on, is_to_write, pause_after, sleep_until, sync_goes_on};
-pub use entry::{Entry, NewEdit, entry_number, entry_of};
-pub use faults::{FaultClass, FaultKind, class_number, class_of};
 pub use next_step::NextStep;
+pub use notice::{Notice, NoticeEvent, NoticeStep};
+pub use notice_record::NoticeRecord;
 pub use queue::{Queue, QueueAnswer, QueueEnd, QueueStep, QueuedEdit};
 pub use queue_record::QueueRecord;
 pub use refresh::{LookEnd, LookStep, Refresh};
@@ -53,13 +52,8 @@ pub fn whatever_is_written()
     ensures { WhateverIsWritten }
 {}
 
-/// A change is refused only where it sets what may not be written. Else it waits, if anything of it may be written: also where it says
-/// what waits, or is there, already.
-pub fn the_newest_is_kept()
-    ensures { NewestIsKept }
-{}
-
-/// A fault is the file's own, or passes; and none is both.
-pub fn each_fault_is_one()
-    ensures { EachIsOne }
+/// Whatever is answered, each event, and the begin, is followed by a look that began later and succeeded, or that comes at once,
+/// or at a moment that is said: 20 milliseconds to a second after the last answer. No other look is made.
+pub fn whatever_is_noticed()
+    ensures { WhateverIsNoticed }
 {}

@@ -1,9 +1,9 @@
 //! What becomes of a change that is asked for, and what a fault means to it.
 ghost use Rattle.std.specs.Prelude.{◌≡◌};
-ghost use Rattle.dconf_steps.specs.Entries.{entry_number, entry_of};
-ghost use Rattle.dconf_steps.specs.Faults.{class_of, kind_of, number_of};
+ghost use Rattle.dconf_verdicts.specs.Entries.{entry_number, entry_of};
+ghost use Rattle.dconf_verdicts.specs.Faults.{class_of, kind_of, number_of};
 
-use dconf_steps::{NewEdit, class_number, entry_number};
+use dconf_verdicts::{NewEdit, class_number, entry_number};
 
 /// What becomes of a change: 0 it is refused, 1 nothing is left of it, 2 it renews the one that waits,
 /// 3 it waits, though nothing is seen otherwise, 4 it waits.

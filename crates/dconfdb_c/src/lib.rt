@@ -10,6 +10,7 @@ mod entry;
 mod get;
 mod list;
 mod look;
+mod notice;
 mod open;
 mod order;
 mod parsing;

@@ -1,8 +1,8 @@
 //! What a fault of the host means to who reads a file, or changes it: whether it is the file's own, or passes.
 ghost use Rattle.std.specs.Prelude.{◌≡◌};
 ghost use Rattle.std.specs.Prelude.{if◌then◌else◌};
-ghost use Rattle.dconf_steps.specs.declared.faults.FaultClass.TheVariants as FaultClass;
-ghost use Rattle.dconf_steps.specs.Faults.{class_of, kind_of, number_of};
+ghost use Rattle.dconf_verdicts.specs.declared.faults.FaultClass.TheVariants as FaultClass;
+ghost use Rattle.dconf_verdicts.specs.Faults.{class_of, kind_of, number_of};
 
 /// What a host says of a call that failed.
 #[derive(Clone, Copy)]

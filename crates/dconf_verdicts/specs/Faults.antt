@@ -1,9 +1,9 @@
 -- What a fault of the host means: whether it is the file's own, or passes.
 use Rattle.std.specs.Prelude.{ℕ, ◌≡◌, ◌⊎◌, Bool, true, false, if◌then◌else◌, ◌==◌}
-use Rattle.dconf_steps.specs.declared.faults.FaultKind.{FaultKind}
-use Rattle.dconf_steps.specs.declared.faults.FaultKind.TheVariants.{Rights, ReadOnly, Name, Kind, Damage, Scarce, Moment, Full, Disk, Other}
-use Rattle.dconf_steps.specs.declared.faults.FaultClass.{FaultClass}
-use Rattle.dconf_steps.specs.declared.faults.FaultClass.TheVariants.{Own, Soon, Later}
+use Rattle.dconf_verdicts.specs.declared.faults.FaultKind.{FaultKind}
+use Rattle.dconf_verdicts.specs.declared.faults.FaultKind.TheVariants.{Rights, ReadOnly, Name, Kind, Damage, Scarce, Moment, Full, Disk, Other}
+use Rattle.dconf_verdicts.specs.declared.faults.FaultClass.{FaultClass}
+use Rattle.dconf_verdicts.specs.declared.faults.FaultClass.TheVariants.{Own, Soon, Later}
 
 -- Of who changes a file (true), or reads it (false). A file of another kind, or that is damaged, is put right by a change.
 abbrev pub class_of : FaultKind → Bool → FaultClass

@@ -1,9 +1,9 @@
 -- A change that is asked for, beside what waits and what is stored: what becomes of it.
 use Rattle.std.specs.Prelude.{ℕ, ◌≡◌, ◌↔◌, Bool, true, false, not, ◌&&◌, if◌then◌else◌, List, [], ◌∷◌}
 use Rattle.std.specs.List.{list_any}
-use Rattle.dconf_steps.specs.declared.entry.NewEdit.{NewEdit}
-use Rattle.dconf_steps.specs.declared.entry.Entry.{Entry}
-use Rattle.dconf_steps.specs.declared.entry.Entry.TheVariants.{Refused, Empty, Renews, Asks, Waits}
+use Rattle.dconf_verdicts.specs.declared.entry.NewEdit.{NewEdit}
+use Rattle.dconf_verdicts.specs.declared.entry.Entry.{Entry}
+use Rattle.dconf_verdicts.specs.declared.entry.Entry.TheVariants.{Refused, Empty, Renews, Asks, Waits}
 
 -- it sets what may not be written
 abbrev pub is_barred : NewEdit → Bool

@@ -1,7 +1,7 @@
 //! What becomes of a change that is asked for, beside what waits and what is stored.
 ghost use Rattle.std.specs.Prelude.{◌≡◌};
 ghost use Rattle.std.specs.List.{list_any};
-ghost use Rattle.dconf_steps.specs.Entries.{entry_number, entry_of, goes, is_barred, is_news, renews};
+ghost use Rattle.dconf_verdicts.specs.Entries.{entry_number, entry_of, goes, is_barred, is_news, renews};
 
 /// An edit that is asked for, and what is known of its key.
 #[repr(C)]
@@ -45,11 +45,10 @@ pub fn entry_of(edits: &[NewEdit]) -> Entry
     if has_news(edits) {
         return Entry::Waits;
     }
-    if renews(edits) {
-        Entry::Renews
-    } else {
-        Entry::Asks
+    if !renews(edits) {
+        return Entry::Asks;
     }
+    Entry::Renews
 }
 
 /// The same as a number: 0 refused, 1 empty, 2 renews, 3 asks, 4 waits.

@@ -2,12 +2,12 @@
 use Rattle.std.proofs.Common.{◌≡◌, ◌⊎◌, Bool, true, false, not, refl, inl, inr}
 use Rattle.std.specs.Prelude.{if◌then◌else◌}
 use Rattle.std.specs.List.{list_any}
-use Rattle.dconf_steps.specs.declared.entry.Entry.{Entry}
-use Rattle.dconf_steps.specs.declared.entry.Entry.TheVariants.{Refused, Empty, Renews, Asks, Waits}
-use Rattle.dconf_steps.specs.declared.faults.FaultClass.{FaultClass}
-use Rattle.dconf_steps.specs.declared.faults.FaultClass.TheVariants.{Own, Soon, Later}
-use Rattle.dconf_steps.specs.Entries.{is_barred, goes, is_news, renews, IsKept, NewestIsKept}
-use Rattle.dconf_steps.specs.Faults.{class_of, Passes, EachIsOne}
+use Rattle.dconf_verdicts.specs.declared.entry.Entry.{Entry}
+use Rattle.dconf_verdicts.specs.declared.entry.Entry.TheVariants.{Refused, Empty, Renews, Asks, Waits}
+use Rattle.dconf_verdicts.specs.declared.faults.FaultClass.{FaultClass}
+use Rattle.dconf_verdicts.specs.declared.faults.FaultClass.TheVariants.{Own, Soon, Later}
+use Rattle.dconf_verdicts.specs.Entries.{is_barred, goes, is_news, renews, IsKept, NewestIsKept}
+use Rattle.dconf_verdicts.specs.Faults.{class_of, Passes, EachIsOne}
 
 -- ---- a change that is asked for
 

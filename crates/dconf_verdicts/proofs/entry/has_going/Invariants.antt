@@ -1,7 +1,7 @@
 use Rattle.std.proofs.Common.{◌≡◌, drop}
 use Rattle.std.specs.List.{list_any}
-use Rattle.dconf_steps.specs.Entries.{goes}
-use Rattle.dconf_steps.proofs.entry.has_going.Given as goal
+use Rattle.dconf_verdicts.specs.Entries.{goes}
+use Rattle.dconf_verdicts.proofs.entry.has_going.Given as goal
 
 -- the rest decides
 abbrev pub invariant-loop-edit : goal.invariant-loop-edit

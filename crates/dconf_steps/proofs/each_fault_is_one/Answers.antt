@@ -1,5 +1,0 @@
-use Rattle.dconf_steps.proofs.EntryLaws.{each_is_one}
-use Rattle.dconf_steps.proofs.each_fault_is_one.Goals as goal
-
-pub returns : goal.returns
-returns c = each_is_one
