@@ -26,7 +26,7 @@ bool locked_change(DconfdbStore *store, const FolderLock *lock, const DconfdbEdi
 bool is_amid_change(const DconfdbStore *store);
 
 /* As dconfdb_store_refresh, but that it waits for no other thread's change: then it doesn't look. */
-bool store_look(DconfdbStore *store, bool *has_looked, DconfdbError *error);
+bool refresh_unless_amid(DconfdbStore *store, bool *has_looked, DconfdbError *error);
 
 /* While edits wait: what others changed between two snapshots, which the next locked_change heeds. */
 void heed_others(DconfdbStore *store, const DconfdbSnapshot *before, const DconfdbSnapshot *after);

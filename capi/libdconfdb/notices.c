@@ -109,7 +109,7 @@ int dconfdb_store_fd(DconfdbStore *store, DconfdbError *error)
 /* What differs from what was told last. Amid a change of another thread nobody looks. */
 static char *differences(Notices *it, DconfdbStore *store, bool *has_looked, size_t *size, DconfdbError *error)
 {
-    if (!store_look(store, has_looked, error))
+    if (!refresh_unless_amid(store, has_looked, error))
         return NULL;
     DconfdbSnapshot *now = dconfdb_store_snapshot(store);
     char *paths = dconfdb_snapshot_differences(now, it->told, size, error);

@@ -1045,7 +1045,7 @@ bool dconfdb_store_refresh(DconfdbStore *store, bool *changed, DconfdbError *err
 }
 
 /* Who looks too is waited for, and who reads the files before a change. */
-bool store_look(DconfdbStore *store, bool *has_looked, DconfdbError *error)
+bool refresh_unless_amid(DconfdbStore *store, bool *has_looked, DconfdbError *error)
 {
     static const struct timespec moment = {0, 1000000};
     while (pthread_mutex_trylock(&store->refreshing) != 0) {
