@@ -506,7 +506,7 @@ static void finds_notice(void)
     Written notice = room_of("DconfdbNotice"), partly = notice;
     makes_notice(&notice, true);
     makes_notice(&partly, false);
-    finds_number(&notice, "stage", 1);
+    finds_first(&notice, "stage", 1);
     finds_number(&notice, "owed", 2);
     finds_word(&notice, "pause", 20000);
     finds_word(&notice, "until", 20005);

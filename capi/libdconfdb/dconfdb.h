@@ -491,12 +491,14 @@ DCONFDB_API bool dconfdb_snapshot_has_edit(const DconfdbSnapshot *snapshot, cons
  * of two threads that call it, to one. It waits for no change: without anything to tell it returns at once. While
  * another thread changes the store it doesn't look at the files, so as not to wait for the disk.
  *
- * Nothing is lost: if `dispatch` fails (NULL), or doesn't look, or if not all files can be watched, the file is
- * readable again, after a second at most. If `dispatch` fails since no time can be set for that
- * (DCONFDB_ERROR_FILE), a file that was readable stays so. Watched are, by inotify, the databases' names, and the folders and links on the way to
- * them. A folder that is missing is waited for, but not in /etc; and what another machine changes on a file
- * server is not seen so. The store owns the file: it is not to be read, and is closed with the store. -1: it
- * can't be had. */
+ * Nothing is lost: if `dispatch` fails (NULL) or doesn't look, the file is readable again after 20
+ * milliseconds, after the next time after twice that, and so on, up to a second; and each second if not all
+ * files can be watched.
+ * If `dispatch` fails since no time can be set for that (DCONFDB_ERROR_FILE), a file that was readable stays
+ * so. Watched are, by inotify, the databases' names and permission bits, and the folders and links on the way
+ * to them. A folder that is missing is waited for, but not in /etc; and what another machine changes on a
+ * file server is not seen so. The store owns the file: it is not to be read, and is closed with the store.
+ * -1: it can't be had. */
 DCONFDB_API int dconfdb_store_fd(DconfdbStore *store, DconfdbError *error) DCONFDB_NOEXCEPT DCONFDB_NONNULL((1));
 DCONFDB_NODISCARD DCONFDB_API char *dconfdb_store_dispatch(DconfdbStore *store, size_t *size, DconfdbError *error)
     DCONFDB_NOEXCEPT DCONFDB_NONNULL((1));

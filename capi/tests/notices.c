@@ -180,7 +180,42 @@ static void tries_ways(void)
         dconfdb_store_close(all[i]);
 }
 
-/* A file that is bad for a while: the call fails, and is tried again each second. */
+/* A database that is a link, or has one on its way: the link is turned, and then the file is replaced to which it leads. It may come in
+ * the place of a file. */
+static void tries_links(void)
+{
+    TRY(mkdir("ways/v1", 0700) == 0 && mkdir("ways/v2", 0700) == 0 && symlink("v1", "ways/current") == 0);
+    TRY(link("site.db", "ways/v1/site.db") == 0 && link("next.db", "ways/v2/site.db") == 0);
+    TRY(mkdir("ways/linked", 0700) == 0 && symlink("../v1/site.db", "ways/linked/site.db") == 0);
+    makes("ways/linked/profile", "user-db:me\nsystem-db:site\n");
+    DconfdbStore *store = dconfdb_store_open("ways/linked", &error);
+    TRY(store && dconfdb_store_fd(store, &error) >= 0 && is_quiet(store));
+    TRY(symlink("../v2/site.db", "ways/new") == 0 && rename("ways/new", "ways/linked/site.db") == 0 && IS_TOLD(store, "/org/desk/name\0"));
+    TRY(link("site.db", "ways/new") == 0 && rename("ways/new", "ways/v2/site.db") == 0 && IS_TOLD(store, "/org/desk/name\0") && is_quiet(store));
+    /* Nobody is woken by the old target. */
+    TRY(unlink("ways/v1/site.db") == 0 && !is_readable(dconfdb_store_fd(store, &error), QUIET) && link("site.db", "ways/v1/site.db") == 0);
+    TRY(symlink("../current/site.db", "ways/new") == 0 && rename("ways/new", "ways/linked/site.db") == 0 && is_quiet(store));
+    TRY(unlink("ways/v2/site.db") == 0 && link("next.db", "ways/v2/site.db") == 0 && is_quiet(store));
+    TRY(symlink("v2", "ways/new") == 0 && rename("ways/new", "ways/current") == 0 && IS_TOLD(store, "/org/desk/name\0"));
+    TRY(link("site.db", "ways/new") == 0 && rename("ways/new", "ways/v2/site.db") == 0 && IS_TOLD(store, "/org/desk/name\0"));
+    TRY(link("next.db", "ways/new") == 0 && rename("ways/new", "ways/linked/site.db") == 0 && IS_TOLD(store, "/org/desk/name\0") && is_quiet(store));
+    TRY(unlink("ways/linked/site.db") == 0 && IS_TOLD(store, "/org/desk/name\0/org/desk/size\0") && is_quiet(store));
+    TRY(symlink("../v1/site.db", "ways/linked/site.db") == 0 && IS_TOLD(store, "/org/desk/name\0/org/desk/size\0"));
+    TRY(link("next.db", "ways/new") == 0 && rename("ways/new", "ways/v1/site.db") == 0 && IS_TOLD(store, "/org/desk/name\0") && is_quiet(store));
+    dconfdb_store_close(store);
+}
+
+/* The permission bits of a file may be all that changes: it may be one that could not be read. */
+static void tries_bits(void)
+{
+    DconfdbStore *store = dconfdb_store_open(".", &error);
+    int file = store ? dconfdb_store_fd(store, &error) : -1;
+    TRY(file >= 0 && is_quiet(store) && chmod("site.db", 0640) == 0 && is_readable(file, SOON) && is_quiet(store));
+    TRY(chmod("site.db", 0644) == 0 && is_readable(file, SOON) && is_quiet(store));
+    dconfdb_store_close(store);
+}
+
+/* A file that is bad for a while: the call fails, and is tried again, soon at first, and then each second. */
 static void tries_bad_files(void)
 {
     DconfdbStore *store = dconfdb_store_open(".", &error);
@@ -196,7 +231,11 @@ static void tries_bad_files(void)
         paths = dconfdb_store_dispatch(store, &size, &error);
     }
     TRY(size == 77 && error.code == DCONFDB_ERROR_BAD_SIGNATURE && error.database == 1);
-    TRY(is_readable(dconfdb_store_fd(store, &error), SOON) && !dconfdb_store_dispatch(store, NULL, NULL));
+    TRY(is_readable(dconfdb_store_fd(store, &error), 500) && !dconfdb_store_dispatch(store, NULL, NULL));
+    TRY(!is_readable(dconfdb_store_fd(store, &error), 10));
+    for (int i = 0; i < 8; i++)
+        TRY(is_readable(dconfdb_store_fd(store, &error), SOON) && !dconfdb_store_dispatch(store, NULL, NULL));
+    TRY(!is_readable(dconfdb_store_fd(store, &error), 500) && is_readable(dconfdb_store_fd(store, &error), SOON));
     TRY(rename("next.db", "site.db") == 0);
     do {
         free(paths);
@@ -302,6 +341,8 @@ int main(int argc, char **argv)
     tries_changes();
     tries_without_file();
     tries_ways();
+    tries_links();
+    tries_bits();
     tries_bad_files();
     tries_faults();
     tries_clock();

@@ -7,13 +7,17 @@
  *   moments dies TEXT         sets the name twice, and is killed 20 milliseconds after the second
  *   moments watches SECONDS   gets and sets without a main loop for so long: prints how many inotify instances it has
  *   moments listens SECONDS   prints the name at each `changed`
+ *   moments starves SECONDS   the same, and takes all file descriptors at SIGUSR1, and closes them at SIGUSR2
  */
 #define _GNU_SOURCE
+#include <fcntl.h>
 #include <gio/gio.h>
+#include <glib-unix.h>
 #include <signal.h>
 #include <stdio.h>
 #include <stdlib.h>
 #include <string.h>
+#include <sys/resource.h>
 #include <sys/time.h>
 #include <unistd.h>
 
@@ -115,6 +119,36 @@ static int listens(GSettings *desk, guint seconds)
     return 0;
 }
 
+static int taken[MOST_FILES], count;
+
+static gboolean takes_all(gpointer data)
+{
+    (void)data;
+    while (count < MOST_FILES && (taken[count] = open("/dev/null", O_RDONLY | O_CLOEXEC)) >= 0)
+        count++;
+    puts("starves");
+    fflush(stdout);
+    return G_SOURCE_CONTINUE;
+}
+
+static gboolean gives_back(gpointer data)
+{
+    (void)data;
+    while (count > 0)
+        close(taken[--count]);
+    return G_SOURCE_CONTINUE;
+}
+
+static int starves(GSettings *desk, guint seconds)
+{
+    struct rlimit few = {MOST_FILES, MOST_FILES};
+    if (setrlimit(RLIMIT_NOFILE, &few) != 0)
+        return 1;
+    g_unix_signal_add(SIGUSR1, takes_all, NULL);
+    g_unix_signal_add(SIGUSR2, gives_back, NULL);
+    return listens(desk, seconds);
+}
+
 int main(int argc, char **argv)
 {
     if (argc < 2)
@@ -131,6 +165,8 @@ int main(int argc, char **argv)
         return watches(desk, atoi(more));
     if (strcmp(what, "listens") == 0)
         return listens(desk, (guint)atoi(more));
+    if (strcmp(what, "starves") == 0)
+        return starves(desk, (guint)atoi(more));
     printf("%d\n", g_settings_set_string(desk, "name", more));
     return 0;
 }

@@ -1,6 +1,7 @@
 /* Refuses calls of the system, for a program that is started with it in LD_PRELOAD: the first $TIMES calls of $CALL that are made for a store
- * (flock; fsync; openat of a new file; inotify_init1), with the errno $ERRNO. And each fsync takes $SLOW milliseconds longer; and, once there is
- * a file $FLAG, each stat of a user's file $STAT. */
+ * (flock; fsync; openat of a new file; inotify_init1), with the errno $ERRNO. And each fsync takes $SLOW milliseconds longer. As long as
+ * there is a file $WHILE, no file of the name $NAME can be opened to be read, by $ERRNO; and as long as there is a file $FLAG, each stat of a
+ * user's file takes $STAT milliseconds. */
 #define _GNU_SOURCE
 #include <dlfcn.h>
 #include <errno.h>
@@ -20,6 +21,16 @@ static int is_refused(const char *call)
 {
     const char *refused = getenv("CALL"), *times = getenv("TIMES"), *fault = getenv("ERRNO");
     if (!refused || !times || !fault || strcmp(refused, call) != 0 || atomic_fetch_add(&count, 1) >= atoi(times))
+        return 0;
+    errno = atoi(fault);
+    return 1;
+}
+
+static int is_closed(const char *path, int flags)
+{
+    const char *name = getenv("NAME"), *flag = getenv("WHILE"), *fault = getenv("ERRNO"), *last = strrchr(path, '/');
+    int is_asked = name && flag && fault && (flags & O_ACCMODE) == O_RDONLY && strcmp(last ? last + 1 : path, name) == 0;
+    if (!is_asked || access(flag, F_OK) != 0)
         return 0;
     errno = atoi(fault);
     return 1;
@@ -53,6 +64,8 @@ int openat(int folder, const char *name, int flags, ...)
     va_start(more, flags);
     mode_t mode = (flags & O_CREAT) != 0 ? va_arg(more, mode_t) : 0;
     va_end(more);
+    if (is_closed(name, flags))
+        return -1;
     return (flags & O_EXCL) != 0 && is_refused("openat") ? -1 : real(folder, name, flags, mode);
 }
 
@@ -75,4 +88,14 @@ int stat64(const char *name, struct stat64 *found)
     int (*real)(const char *, struct stat64 *) = (int (*)(const char *, struct stat64 *))dlsym(RTLD_NEXT, "stat64");
     is_slow(name);
     return real(name, found);
+}
+
+int open(const char *name, int flags, ...)
+{
+    int (*real)(const char *, int, ...) = (int (*)(const char *, int, ...))dlsym(RTLD_NEXT, "open");
+    va_list more;
+    va_start(more, flags);
+    mode_t mode = (flags & O_CREAT) != 0 ? va_arg(more, mode_t) : 0;
+    va_end(more);
+    return is_closed(name, flags) ? -1 : real(name, flags, mode);
 }

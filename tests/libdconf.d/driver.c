@@ -7,8 +7,6 @@
 #include <sys/resource.h>
 #include <unistd.h>
 
-enum { FILES = 64 };
-
 static DConfClient *client;
 static gchar *last_tag;
 static int handled;
@@ -197,17 +195,25 @@ static void anew(gchar **words)
     g_signal_connect(client, "writability-changed", G_CALLBACK(on_writability_changed), NULL);
 }
 
-/* Leaves no descriptor, or gives them back. */
-static void files(gchar **words)
+enum { MOST_FILES = 64 };
+
+static int taken[MOST_FILES], count;
+
+/* Takes all file descriptors that there are; and gives them back. */
+static void starve(gchar **words)
 {
-    static int taken[FILES], count;
-    struct rlimit few = {FILES, FILES};
-    setrlimit(RLIMIT_NOFILE, &few);
-    if (strcmp(words[0], "none") == 0) {
-        while (count < FILES && (taken[count] = open("/dev/null", O_RDONLY)) >= 0)
-            count++;
-    }
-    while (strcmp(words[0], "none") != 0 && count > 0)
+    struct rlimit few = {MOST_FILES, MOST_FILES};
+    (void)words;
+    if (setrlimit(RLIMIT_NOFILE, &few) != 0)
+        printf("  no limit\n");
+    while (count < MOST_FILES && (taken[count] = open("/dev/null", O_RDONLY | O_CLOEXEC)) >= 0)
+        count++;
+}
+
+static void feed(gchar **words)
+{
+    (void)words;
+    while (count > 0)
         close(taken[--count]);
 }
 
@@ -215,7 +221,8 @@ static const struct {
     const char *name;
     void (*call)(gchar **words);
 } COMMANDS[] = {{"change", change}, {"write", write_one}, {"read", read_one}, {"watch", watch}, {"unwatch", unwatch}, {"list", list}, {"locks", locks},
-                {"writable", writable}, {"settle", settle_for}, {"await", await}, {"sync", sync_all}, {"anew", anew}, {"files", files}};
+                {"writable", writable}, {"settle", settle_for}, {"await", await}, {"sync", sync_all}, {"anew", anew}, {"starve", starve},
+                {"feed", feed}};
 
 int main(void)
 {

@@ -44,7 +44,7 @@ def write_nothing():
 
 def without_files(both, driver):
     """A fast change while no descriptor is left: it is read, waits, and is kept when there are some, as with dconf's library."""
-    given = 'write sync /w/k 1\nfiles none\nwrite fast /w/k 2\nread 0 /w/k\nsettle 300\nread 0 /w/k\nfiles some\nsync\nread 0 /w/k\nread 2 /w/k\n'
+    given = 'write sync /w/k 1\nstarve\nwrite fast /w/k 2\nread 0 /w/k\nsettle 300\nread 0 /w/k\nfeed\nsync\nread 0 /w/k\nread 2 /w/k\n'
     theirs, ours = (both.ran(whose, [driver], given, timeout=60) for whose in ('theirs', 'ours'))
     same('a fast change without descriptors, with ours and with dconf', ours[:2], theirs[:2])
     same('a fast change without descriptors', ours[1].split('\n')[-2], '  2')

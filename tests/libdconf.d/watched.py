@@ -1,5 +1,6 @@
 """Who watches is told of what other programs change, of three kinds: dconf's command over the library, GSettings by its backend, and dconfdb's own command.
 Each change is made to both stores, and the signals are the same. dconf's have a tag of the writer's, ours none."""
+import errno
 import os
 import random
 import shutil
@@ -15,8 +16,8 @@ SCHEMA = 'org.example.desk'
 class Watcher:
     """The driver, which watches, with one of the libraries."""
 
-    def __init__(self, both, whose, driver):
-        self.run = subprocess.Popen([driver], env=both.environment(whose), stdin=subprocess.PIPE, stdout=subprocess.PIPE, text=True)
+    def __init__(self, both, whose, driver, **more):
+        self.run = subprocess.Popen([driver], env=both.environment(whose) | more, stdin=subprocess.PIPE, stdout=subprocess.PIPE, text=True)
 
     def says(self, command):
         """What it prints to a command."""
@@ -67,6 +68,37 @@ def change(both, rand, number, modules, schema):
     return f'{kind}: {words if kind != "module" else "set"} {given!r}'
 
 
+def starved(both, watchers):
+    """Who has no file descriptor left is told of what is set meanwhile, once there are some."""
+    for it in watchers.values():
+        it.says('starve')
+    for whose in watchers:
+        both.ran(whose, ['dconf', 'write', '/w/starved', '1'])
+    told = {whose: it.says('settle 1000') for whose, it in watchers.items()}
+    for whose, it in watchers.items():
+        told[whose] += it.says('feed') + it.says('settle 3000')
+    if told['ours'] != told['theirs'] or not told['ours']:
+        raise Stop(f'without file descriptors: dconf tells {told["theirs"]}, and ours {told["ours"]}')
+
+
+def refused_at_first(both, driver):
+    """Who watches before the store can be opened is told of all that is in it, once it can, and of what comes then."""
+    library, fails = both.folder / 'refuses.so', both.folder / 'fails'
+    subprocess.run(['gcc', '-shared', '-fPIC', homes.HERE / 'refuses.c', '-o', library], check=True)
+    both.ran('ours', ['dconf', 'write', '/w/early', '1'])
+    fails.touch()
+    it = Watcher(both, 'ours', driver, LD_PRELOAD=str(library), NAME='user.user', WHILE=str(fails), ERRNO=str(errno.EIO))
+    said = it.says('watch sync /w/') + it.says('settle 500')
+    fails.unlink()
+    said += it.says('settle 3000')
+    if not any(line.startswith('  changed ') and 'early' in line for line in said) or it.says('read 0 /w/early') != ['  1']:
+        raise Stop(f'a store that could not be opened at first: told {said}')
+    both.ran('ours', ['dconf', 'write', '/w/late', '2'])
+    if '  changed /w/late []' not in it.says('await 3000'):
+        raise Stop('a store that could not be opened at first is not watched')
+    it.end()
+
+
 def main(both):
     needs('gsettings', 'libglib2.0-bin')
     rand, driver = random.Random(13), both.compiled('driver')
@@ -85,7 +117,9 @@ def main(both):
         if one != other:
             raise Stop(f'{done}: dconf tells {one}, and ours {other}')
         told += len(other)
+    starved(both, {'theirs': theirs, 'ours': ours})
     for it in (theirs, ours):
         it.end()
+    refused_at_first(both, driver)
     shutil.rmtree(modules)
-    return f'{COUNT} changes by dconf\'s command, by dconfdb\'s and by GSettings: the same {told} signals as of dconf\'s'
+    return f'{COUNT} changes by dconf\'s command, by dconfdb\'s and by GSettings: the same {told} signals as of dconf\'s; without file descriptors; a store that opens late'

@@ -3,8 +3,8 @@ use crate::questions::TableOf;
 use crate::times::{NOTED, OVERTAKEN};
 use crate::turns::TURNS;
 use dconf_steps::{
-    NextStep, QueueRecord, QueuedEdit, RefreshRecord, WaitRecord, exit_goes_on, is_to_write,
-    pause_after, sleep_until, sync_goes_on,
+    NextStep, NoticeRecord, QueueRecord, QueuedEdit, RefreshRecord, WaitRecord, exit_goes_on,
+    is_to_write, pause_after, sleep_until, sync_goes_on,
 };
 use std::alloc::AllocError;
 use std::fmt::Write;
@@ -44,6 +44,22 @@ pub(crate) fn waited(asked: &str, found: &mut String) -> Result<(), AllocError> 
         wait.answered(kind, u64::from(n), n);
     }
     show(wait.next(), found)
+}
+
+/// A notice, by answers and events at moments; and until when it rests at last.
+pub(crate) fn noticed(asked: &str, found: &mut String) -> Result<(), AllocError> {
+    let mut notice = NoticeRecord::begin();
+    for word in asked.split_terminator(' ') {
+        let (what, moment) = word.split_once(':').unwrap_or((word, "0"));
+        let now = u64::from(number(moment));
+        write!(found, " {}", notice.next().0)?;
+        match what {
+            "y" => notice.answered(true, now),
+            "n" => notice.answered(false, now),
+            event => notice.told(number(event), now),
+        }
+    }
+    write!(found, " {}.{}", notice.next().0, notice.next().1)
 }
 
 /// Three edits: the first two are one change, of which the second is a reset.
@@ -124,6 +140,21 @@ const QUEUES: &str = "
 0 0 0 2:9 | 0.0 0.1 0.2 2.0 5.0 00 00 00
 ";
 
+/// 0 watch, 1 look, 2 rest. An answer y or n, or an event: 0 a file, 1 a folder, 2 time.
+const NOTICES: &str = "
+y y:5 | 0 1 2.0
+-- not all is watched: in a second it is tried again
+n y:5 2:1000004 2:1000005 y y:1000006 | 0 1 2 2 0 1 2.0
+-- looks that fail are repeated, later each time
+y n:5 2:20005 n:20006 2:60006 n:60007 2:140007 y | 0 1 2 1 2 1 2 1 2.0
+y n:5 2:20004 0:20004 n:20005 | 0 1 2 2 1 2.60005
+-- an event amid a look
+y 0:1 y:2 y:3 | 0 1 1 1 2.0
+y 1:1 y:2 y:3 y:4 | 0 1 1 0 1 2.0
+-- a folder changes before it is watched, and after
+1:1 y:2 y:3 y:4 y:5 1:6 y:7 y:8 | 0 0 1 0 1 2 0 1 2.0
+";
+
 /// Whether what waits is written when it is due, and is waited for as long as that is promised.
 fn are_due() -> bool {
     is_to_write(true, false, 5, 5)
@@ -150,6 +181,7 @@ fn machines_go_by_their_answers(rt: HostRuntime) -> Result<(), Fail> {
     for (mut of, rows) in [
         (TableOf::Looked, LOOKS),
         (TableOf::Waited, WAITS),
+        (TableOf::Noticed, NOTICES),
         (TableOf::Queued, QUEUES),
         (TableOf::Steps, TURNS),
         (TableOf::Overtaken, OVERTAKEN),

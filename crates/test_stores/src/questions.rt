@@ -3,7 +3,7 @@ use crate::calls::opened;
 use crate::calls_rows::{keyless, names, saved, stored, value_shown};
 use crate::folders::crashes::crashed;
 use crate::folders::failures::replaced;
-use crate::machines::{looked, queued, waited};
+use crate::machines::{looked, noticed, queued, waited};
 use crate::tables::{alike, item_shown, searched};
 use crate::texts::paths::path_read;
 use crate::times::{noted, overtaken};
@@ -18,6 +18,7 @@ pub(crate) enum TableOf {
     Crash,
     Looked,
     Noted,
+    Noticed,
     Overtaken,
     Path,
     Queued,
@@ -32,6 +33,7 @@ impl Question for TableOf {
             TableOf::Crash => crashed(alloc, asked, found),
             TableOf::Looked => looked(asked, found),
             TableOf::Noted => noted(alloc, asked, found),
+            TableOf::Noticed => noticed(asked, found),
             TableOf::Overtaken => overtaken(asked, found),
             TableOf::Path => path_read(asked, found),
             TableOf::Queued => queued(asked, found),
