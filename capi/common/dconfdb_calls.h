@@ -353,6 +353,49 @@ void dconfdb_refresh_begin(DconfdbRefresh *refresh, size_t count, bool has_old, 
 void dconfdb_refresh_next(const DconfdbRefresh *refresh, DconfdbNext *step);
 void dconfdb_refresh_answered(DconfdbRefresh *refresh, bool yes);
 
+/* An edit that is asked for, and what is known of its key. */
+typedef struct {
+    bool sets;    /* it sets a value; else it takes one away */
+    bool may;     /* its key may be written; a reset of any other is left out */
+    bool is_same; /* it says what the newest edit says that waits of its key; or, where none waits, the user has that by what was seen last */
+    bool renews;  /* one waits that says the same, is alone in its change, and is nobody's to write yet */
+} DconfdbNewEdit;
+
+/* What becomes of a change that is asked for. */
+enum {
+    DCONFDB_ENTRY_REFUSED, /* it sets a key that may not be written */
+    DCONFDB_ENTRY_EMPTY,   /* nothing of it is left */
+    DCONFDB_ENTRY_RENEWS,  /* the one that waits counts as set now */
+    DCONFDB_ENTRY_ASKS,    /* it waits, though nothing is seen otherwise: others may have changed the key, and nobody noticed yet */
+    DCONFDB_ENTRY_WAITS
+};
+
+uint32_t dconfdb_entry(const DconfdbNewEdit *edits, size_t count);
+
+/* What a host says of a call that failed (faults.h has which errno is which). */
+enum {
+    DCONFDB_KIND_RIGHTS,
+    DCONFDB_KIND_READ_ONLY,
+    DCONFDB_KIND_NAME,   /* something else has the name, or one above it, or it can't be one */
+    DCONFDB_KIND_KIND,   /* it is no regular file, or is too large to be one */
+    DCONFDB_KIND_DAMAGE, /* its bytes on the disk are damaged */
+    DCONFDB_KIND_SCARCE, /* no more of something is left: descriptors, memory, locks */
+    DCONFDB_KIND_MOMENT, /* it was interrupted, or a server asks for another try */
+    DCONFDB_KIND_FULL,
+    DCONFDB_KIND_DISK,
+    DCONFDB_KIND_OTHER
+};
+
+/* What comes of it. */
+enum {
+    DCONFDB_CLASS_OWN,  /* it is the file's own, and stays: what is read counts as what can be had of it, a change is refused */
+    DCONFDB_CLASS_SOON, /* it passes in a moment, mostly */
+    DCONFDB_CLASS_LATER /* it may pass */
+};
+
+/* Of who changes a file, or reads it. Each kind has one class. */
+uint32_t dconfdb_fault_class(uint32_t kind, bool changes);
+
 /* An edit that waits, and what became of it. Of each change the first edit says whether it is refused. */
 typedef struct {
     size_t change; /* the number of its change's first edit */
@@ -473,6 +516,9 @@ bool dconfdb_exit_goes_on(uint64_t now, uint64_t end, uint64_t moved);
 /* Whether a change of that time is overtaken: the path, or a directory above it, was set later, as the
  * times say. One that is later than `now` counts for nothing. */
 bool dconfdb_is_overtaken(const DconfdbTime *times, size_t n, const uint8_t *path, size_t path_len, uint64_t when, uint64_t now);
+
+/* Whether a change is left out, by which of its edits are overtaken: they are made together, or none is. */
+bool dconfdb_is_left_out(const bool *overtaken, size_t count);
 
 /* The times with more of them, as many as there is room for: of each path the latest. What has no
  * room is no later than what has. One that is later than `now` goes. The paths are lent from the times

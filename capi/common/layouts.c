@@ -24,6 +24,7 @@ uint32_t dconfdb_change(const void *layers, size_t n, bool writable, const void 
 void dconfdb_refresh_begin(void *refresh, size_t count, bool has_old, bool in_turn);
 void dconfdb_refresh_next(const void *refresh, void *step);
 void dconfdb_refresh_answered(void *refresh, bool yes);
+uint32_t dconfdb_entry(const void *edits, size_t count);
 void dconfdb_queue_begin(void *queue);
 void dconfdb_queue_answered(void *queue, void *edits, size_t count, uint32_t answer, size_t at);
 void dconfdb_wait_begin(void *wait, uint32_t longest);
@@ -462,6 +463,35 @@ static void finds_wait(void)
     ends(&wait);
 }
 
+/* New edits are read alone: each field changes what becomes of one, and the second of two lies behind the first. */
+enum { NEW_SETS = 0, NEW_MAY = 1, NEW_IS_SAME = 2, NEW_RENEWS = 3, NEW_EDIT = 4 };
+
+static uint32_t entry_of(bool sets, bool may, bool is_same, bool renews)
+{
+    uint8_t edit[NEW_EDIT] = {0};
+    edit[NEW_SETS] = sets;
+    edit[NEW_MAY] = may;
+    edit[NEW_IS_SAME] = is_same;
+    edit[NEW_RENEWS] = renews;
+    return dconfdb_entry(edit, 1);
+}
+
+static void finds_new_edit(void)
+{
+    uint8_t edits[2 * NEW_EDIT] = {0};
+    is_so(entry_of(false, false, false, false) == 1 && entry_of(true, false, false, false) == 0, "DconfdbNewEdit");
+    is_so(entry_of(false, true, false, false) == 4 && entry_of(false, true, true, false) == 3, "DconfdbNewEdit");
+    is_so(entry_of(false, true, true, true) == 2 && entry_of(true, true, false, true) == 4, "DconfdbNewEdit");
+    is_so(dconfdb_entry(edits, 2) == 1, "DconfdbNewEdit");
+    edits[NEW_EDIT + NEW_SETS] = 1;
+    is_so(dconfdb_entry(edits, 2) == 0, "DconfdbNewEdit");
+    lies("DconfdbNewEdit", "sets", NEW_SETS, FLAG);
+    lies("DconfdbNewEdit", "may", NEW_MAY, FLAG);
+    lies("DconfdbNewEdit", "is_same", NEW_IS_SAME, FLAG);
+    lies("DconfdbNewEdit", "renews", NEW_RENEWS, FLAG);
+    printf("TAKES(DconfdbNewEdit, %d);\n", NEW_EDIT);
+}
+
 /* A look is to come after one that failed, and other files may be the store's meanwhile. */
 static void makes_notice(Written *notice, bool is_whole)
 {
@@ -588,6 +618,7 @@ int main(void)
     finds_step();
     finds_refresh();
     finds_wait();
+    finds_new_edit();
     finds_notice();
     finds_queue();
     tries_times();

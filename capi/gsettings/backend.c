@@ -157,71 +157,57 @@ static GPermission *dconfdb_backend_get_permission(GSettingsBackend *backend, co
 
 /* ---- changes */
 
-/* What becomes of a change. */
-typedef enum { REFUSED, EMPTY, WAITS } Outcome;
-
 /* `lock` is held. A child of fork() has no thread that writes, and its parent writes what waits. */
-static Outcome outcome_of(const DconfdbBackend *self, Change *change, const DconfdbSnapshot *stored)
+static uint32_t entry_of(const DconfdbBackend *self, Change *change)
 {
-    if (self->has_ended || getpid() != self->process || !change_may_be_made(change, self->now))
-        return REFUSED;
-    return change_leave_out(change, stored == self->now ? stored : NULL) ? WAITS : EMPTY;
+    if (self->has_ended || getpid() != self->process)
+        return DCONFDB_ENTRY_REFUSED;
+    return change_entry(change, &self->waiting, self->now);
 }
 
-/* `lock` is held, but not while the file is looked at. Gives the newest snapshot, where what the user has set is as
- * there: another program may have changed the file, and nobody noticed yet. Where each key has an edit that
- * waits, the file isn't asked for, and none is given. */
-static DconfdbSnapshot *stored_now(DconfdbBackend *self, Change *change)
+/* `lock` is held. True: there is no worker, and it is to be written here. */
+static bool add(DconfdbBackend *self, Change *change)
 {
-    if (!self->now || waiting_has(&self->waiting, change))
-        return NULL;
-    DconfdbSnapshot *now = dconfdb_snapshot_ref(self->now);
-    g_mutex_unlock(&self->lock);
-    if (!dconfdb_snapshot_is_newest(now)) {
-        g_clear_pointer(&now, dconfdb_snapshot_unref);
-        store_look_before(self);
-    }
-    g_mutex_lock(&self->lock);
-    waiting_has(&self->waiting, change);
-    return now;
+    bool is_first = waiting_add(&self->waiting, change);
+    self->added++;
+    worker_begin(self);
+    /* For those before it, it is awake, or is to try again. */
+    if (self->has_worker && is_first)
+        worker_wake(self);
+    return !self->has_worker;
 }
 
-/* Lets the change wait, or frees it. `told`, if it isn't NULL, is what it changes, where it waits. */
-static Outcome make(DconfdbBackend *self, Change *change, GTree **told)
+/* Lets the change wait, or frees it. No file is looked at: by the newest snapshot it is known what is seen, and the worker finds
+ * out whether it is the newest file's. `told`, if it isn't NULL, is what is seen otherwise. */
+static uint32_t make(DconfdbBackend *self, Change *change, GTree **told)
 {
-    bool is_here = false;
+    bool is_here = false, is_kept = false;
     lock_opened(self);
-    DconfdbSnapshot *stored = stored_now(self, change);
-    Outcome outcome = outcome_of(self, change, stored);
-    if (outcome == WAITS && told)
+    uint32_t entry = entry_of(self, change);
+    if (entry == DCONFDB_ENTRY_WAITS && told)
         *told = change_tree(change);
-    self->is_to_settle = self->is_to_settle || outcome == EMPTY;
-    if (outcome == WAITS) {
-        bool is_first = waiting_add(&self->waiting, change);
-        self->added++;
-        worker_begin(self);
-        is_here = !self->has_worker;
-        /* For those before it, it is awake, or is to try again. */
-        if (self->has_worker && is_first)
-            worker_wake(self);
-    }
+    if (entry == DCONFDB_ENTRY_RENEWS)
+        waiting_renew(&self->waiting, change);
+    is_kept = entry == DCONFDB_ENTRY_WAITS || entry == DCONFDB_ENTRY_ASKS;
+    change->asks = entry == DCONFDB_ENTRY_ASKS;
+    if (is_kept)
+        is_here = add(self, change);
     g_mutex_unlock(&self->lock);
-    dconfdb_snapshot_unref(stored);
-    if (outcome != WAITS)
+    if (!is_kept)
         change_free(change);
     if (is_here)
         store_write(self, g_get_monotonic_time() + LONGEST_WRITE, false);
-    return outcome;
+    return entry;
 }
 
 static gboolean dconfdb_backend_write(GSettingsBackend *backend, const char *key, GVariant *value, gpointer origin_tag)
 {
     Change *change = change_new(1, strlen(key) + 1);
     change_add(change, key, value);
-    Outcome outcome = make(backend_of(backend), change, NULL);
-    if (outcome == WAITS)
+    uint32_t entry = make(backend_of(backend), change, NULL);
+    if (entry == DCONFDB_ENTRY_WAITS)
         g_settings_backend_changed(backend, key, origin_tag);
-    return outcome != REFUSED;
+    return entry != DCONFDB_ENTRY_REFUSED;
 }
 
 static void dconfdb_backend_reset(GSettingsBackend *backend, const char *key, gpointer origin_tag)
@@ -249,12 +235,12 @@ static gboolean dconfdb_backend_write_tree(GSettingsBackend *backend, GTree *tre
     g_tree_foreach(tree, add_length, &paths);
     Change *change = change_new((size_t)g_tree_nnodes(tree), paths);
     g_tree_foreach(tree, add_row, change);
-    Outcome outcome = make(backend_of(backend), change, &told);
+    uint32_t entry = make(backend_of(backend), change, &told);
     if (told) {
         g_settings_backend_changed_tree(backend, told, origin_tag);
         g_tree_unref(told);
     }
-    return outcome != REFUSED;
+    return entry != DCONFDB_ENTRY_REFUSED;
 }
 
 static void dconfdb_backend_sync(GSettingsBackend *backend)

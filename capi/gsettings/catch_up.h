@@ -8,7 +8,7 @@
 #define CATCH_UP_DATA "dconfdb-catch-up"
 
 typedef struct {
-    void (*all)(void); /* from any thread; it waits for no write longer than a second, and sends no signal */
+    void (*all)(void); /* from any thread; it waits for no write, and sends no signal */
 } CatchUp;
 
 #endif

@@ -1,19 +1,20 @@
 /* Changes that wait to be written, and how they are. */
 #define _POSIX_C_SOURCE 200809L
-#include "dconfdb_calls.h"
+#include "faults.h"
 #include "gsettings.h"
 
-#include <errno.h>
 #include <string.h>
 
 Change *change_new(size_t most, size_t paths)
 {
-    Change *change = g_malloc(sizeof *change + most * sizeof change->edits[0] + paths);
+    Change *change = g_malloc(sizeof *change + most * (sizeof change->edits[0] + sizeof change->known[0]) + paths);
     change->link = (GList){.data = change};
     change->moment = 0;
+    change->asks = change->is_taken = false;
     change->count = 0;
     change->most = most;
-    change->room = (char *)&change->edits[most];
+    change->known = (DconfdbNewEdit *)&change->edits[most];
+    change->room = (char *)&change->known[most];
     return change;
 }
 
@@ -34,24 +35,12 @@ void change_add(Change *change, const char *path, GVariant *value)
     change->room = stpcpy(change->room, path) + 1;
     edit->hash = g_str_hash(path);
     edit->first = edit->newest = NULL;
+    edit->change = change;
     /* Bytes of a program that aren't normal may be as deep as they like; normal ones say the
      * same. */
     edit->value = value ? g_variant_get_normal_form(value) : NULL;
     edit->asked = edit_of(edit);
     edit->is_left_out = false;
-    edit->is_alone = change->most == 1;
-}
-
-bool change_may_be_made(Change *change, const DconfdbSnapshot *now)
-{
-    for (size_t i = 0; i < change->count; i++) {
-        Edit *edit = &change->edits[i];
-        bool is_writable = edit->is_left_out || (now && dconfdb_snapshot_is_writable(now, edit->path));
-        if (!is_writable && edit->value)
-            return false;
-        edit->is_left_out = edit->is_left_out || !is_writable;
-    }
-    return true;
 }
 
 /* Normal forms of one type are alike where their bytes are. */
@@ -69,23 +58,29 @@ static Edit *first_of(const Waiting *waiting, const Edit *edit)
     return g_hash_table_lookup(waiting->firsts, edit);
 }
 
-/* Of what waits, with the edits of this change before it, the newest counts: each is of another key. */
-static bool changes_nothing(const Edit *edit, const DconfdbSnapshot *stored)
+static bool is_alone(const Edit *edit)
 {
-    if (edit->first)
-        return are_alike(&edit->first->newest->asked, &edit->asked);
-    return stored && dconfdb_snapshot_has_edit(stored, &edit->asked);
+    return edit->change->most == 1;
 }
 
-bool change_leave_out(Change *change, const DconfdbSnapshot *stored)
+/* What is known of the edit's key, where `waits` is the newest edit of it that waits, or NULL. */
+static DconfdbNewEdit known_of(const Edit *edit, const Edit *waits, const DconfdbSnapshot *now)
 {
-    bool is_left = false;
+    DconfdbNewEdit known = {.sets = edit->value != NULL, .may = now && dconfdb_snapshot_is_writable(now, edit->path)};
+    known.is_same = waits ? are_alike(&waits->asked, &edit->asked) : now && dconfdb_snapshot_has_edit(now, &edit->asked);
+    known.renews = waits && known.is_same && is_alone(waits) && !waits->change->is_taken;
+    return known;
+}
+
+uint32_t change_entry(Change *change, const Waiting *waiting, const DconfdbSnapshot *now)
+{
     for (size_t i = 0; i < change->count; i++) {
         Edit *edit = &change->edits[i];
-        edit->is_left_out = edit->is_left_out || changes_nothing(edit, stored);
-        is_left = is_left || !edit->is_left_out;
+        edit->first = first_of(waiting, edit);
+        change->known[i] = known_of(edit, edit->first ? edit->first->newest : NULL, now);
+        edit->is_left_out = !change->known[i].may;
     }
-    return is_left;
+    return dconfdb_entry(change->known, change->count);
 }
 
 static int by_name(const void *one, const void *other, void *data)
@@ -105,7 +100,7 @@ GTree *change_tree(const Change *change)
     GTree *tree = g_tree_new_full(by_name, NULL, g_free, unref_value);
     for (size_t i = 0; i < change->count; i++) {
         const Edit *edit = &change->edits[i];
-        if (!edit->is_left_out)
+        if (!edit->is_left_out && !change->known[i].is_same)
             g_tree_insert(tree, g_strdup(edit->path), edit->value ? g_variant_ref(edit->value) : NULL);
     }
     return tree;
@@ -172,6 +167,14 @@ bool waiting_add(Waiting *waiting, Change *change)
     return is_first;
 }
 
+void waiting_renew(Waiting *waiting, const Change *change)
+{
+    Change *waits = change->edits[0].first->newest->change;
+    g_queue_unlink(&waiting->changes, &waits->link);
+    g_queue_push_tail_link(&waiting->changes, &waits->link);
+    waits->moment = order_clock();
+}
+
 const Edit *waiting_find(const Waiting *waiting, const char *path)
 {
     if (g_hash_table_size(waiting->firsts) == 0)
@@ -181,20 +184,21 @@ const Edit *waiting_find(const Waiting *waiting, const char *path)
     return first ? first->newest : NULL;
 }
 
-bool waiting_has(const Waiting *waiting, Change *change)
+bool waiting_asks(const Waiting *waiting)
 {
-    bool has = true;
-    for (size_t i = 0; i < change->count; i++) {
-        change->edits[i].first = first_of(waiting, &change->edits[i]);
-        has = has && change->edits[i].first;
+    for (const GList *at = waiting->changes.head; at; at = at->next) {
+        if (((const Change *)at->data)->asks)
+            return true;
     }
-    return has;
+    return false;
 }
 
 GQueue waiting_take(Waiting *waiting)
 {
     GQueue taken = waiting->changes;
     g_queue_init(&waiting->changes);
+    for (GList *at = taken.head; at; at = at->next)
+        ((Change *)at->data)->is_taken = true;
     return taken;
 }
 
@@ -252,11 +256,46 @@ static void forget(Waiting *waiting, const GQueue *changes)
     }
 }
 
+/* What is known of an edit that waits, by the newest snapshot: it says what is there, and no other waits of its key. */
+static DconfdbNewEdit known_by_now(const Waiting *waiting, const Edit *edit, const DconfdbSnapshot *now)
+{
+    const Edit *first = first_of(waiting, edit);
+    bool is_only = first == edit && edit->newest == edit;
+    DconfdbNewEdit known = known_of(edit, NULL, now);
+    known.is_same = known.is_same && is_only;
+    return known;
+}
+
+/* Asked once more, as if nothing of it waited. */
+static bool is_there_already(const Waiting *waiting, Change *change, const DconfdbSnapshot *now)
+{
+    for (size_t i = 0; i < change->count; i++)
+        change->known[i] = known_by_now(waiting, &change->edits[i], now);
+    return dconfdb_entry(change->known, change->count) == DCONFDB_ENTRY_ASKS;
+}
+
+guint waiting_settle(Waiting *waiting, const DconfdbSnapshot *now)
+{
+    guint settled = 0;
+    for (GList *at = waiting->changes.head, *next; at; at = next) {
+        Change *change = at->data;
+        next = at->next;
+        if (!change->asks || !is_there_already(waiting, change, now))
+            continue;
+        for (size_t i = 0; i < change->count; i++)
+            forget_edit(waiting, &change->edits[i]);
+        g_queue_unlink(&waiting->changes, at);
+        change_free(change);
+        settled++;
+    }
+    return settled;
+}
+
 /* The later one is refused where this one would be: its key is the same. */
 static bool is_replaced(const Waiting *waiting, const Change *change)
 {
     const Edit *first = change->count == 1 ? first_of(waiting, &change->edits[0]) : NULL;
-    return first && first->newest != &change->edits[0] && first->newest->is_alone;
+    return first && first->newest != &change->edits[0] && is_alone(first->newest);
 }
 
 guint waiting_put_back(Waiting *waiting, GQueue *changes)
@@ -268,6 +307,7 @@ guint waiting_put_back(Waiting *waiting, GQueue *changes)
             change_free(at->data);
             gone++;
         } else {
+            ((Change *)at->data)->is_taken = false;
             g_queue_push_head_link(&waiting->changes, at);
         }
     }
@@ -298,10 +338,9 @@ typedef struct {
     bool is_closed; /* nobody who has this program's rights may write there: no key is writable */
     DconfdbQueued *queued; /* with all that follows in one block */
     Edit **edits;
-    uint64_t *moments;  /* in which each was made */
-    DconfdbEdit *asked; /* those that were taken, and the number and the moment of each */
+    DconfdbEdit *asked; /* those that were taken, and the number, the moment and the change of each */
     size_t *numbers;
-    uint64_t *asked_in;
+    Made *made;
 } Batch;
 
 static size_t edits_in(const GQueue *changes)
@@ -316,13 +355,11 @@ static size_t edits_in(const GQueue *changes)
 static Batch batch_new(size_t count)
 {
     Batch batch = {.count = 0};
-    batch.queued = g_malloc_n(count, sizeof *batch.queued + sizeof *batch.edits + sizeof *batch.moments + sizeof *batch.asked + sizeof *batch.numbers
-                                         + sizeof *batch.asked_in);
+    batch.queued = g_malloc_n(count, sizeof *batch.queued + sizeof *batch.edits + sizeof *batch.asked + sizeof *batch.numbers + sizeof *batch.made);
     batch.edits = (Edit **)(batch.queued + count);
-    batch.moments = (uint64_t *)(batch.edits + count);
-    batch.asked = (DconfdbEdit *)(batch.moments + count);
+    batch.asked = (DconfdbEdit *)(batch.edits + count);
     batch.numbers = (size_t *)(batch.asked + count);
-    batch.asked_in = (uint64_t *)(batch.numbers + count);
+    batch.made = (Made *)(batch.numbers + count);
     return batch;
 }
 
@@ -335,7 +372,6 @@ static Batch batch_of(const GQueue *changes)
         for (size_t i = 0; i < change->count; i++) {
             Edit *edit = &change->edits[i];
             batch.queued[batch.count] = (DconfdbQueued){first, edit->value != NULL, edit->is_left_out, false};
-            batch.moments[batch.count] = change->moment;
             batch.edits[batch.count++] = edit;
         }
     }
@@ -376,7 +412,7 @@ static void batch_end(Batch *batch, GQueue *changes, GQueue *refused)
 static void take(Batch *batch, size_t number)
 {
     batch->asked[batch->taken] = batch->edits[number]->asked;
-    batch->asked_in[batch->taken] = batch->moments[number];
+    batch->made[batch->taken] = (Made){batch->edits[number]->change->moment, batch->queued[number].change};
     batch->numbers[batch->taken++] = number;
 }
 
@@ -386,19 +422,7 @@ static bool try_to_write(DconfdbStore *store, const Turn *turn, const Batch *bat
         return true;
     if (turn->fault != 0)
         return refuse_lock(store, turn->fault, fault);
-    return locked_change(store, turn->lock, batch->asked, batch->asked_in, batch->taken, fault);
-}
-
-/* What a disk doesn't mend: the rights to the file, its folder or its file system, or what has the name of the file or of the
- * lock. All else, be it full, failing or busy, may pass. */
-static bool says_closed(const DconfdbError *fault)
-{
-    static const int faults[] = {EACCES, EPERM, EROFS, EINVAL, ENOTDIR, ELOOP, ENAMETOOLONG};
-    for (size_t i = 0; i < G_N_ELEMENTS(faults); i++) {
-        if (fault->errnum == faults[i])
-            return true;
-    }
-    return false;
+    return locked_change(store, turn->lock, batch->asked, batch->made, batch->taken, fault);
 }
 
 /* What became of a write, as dconfdb_queue_answered has it. The first fault for which a change is refused is kept. */
@@ -411,22 +435,11 @@ static uint32_t write_taken(DconfdbStore *store, const Turn *turn, Batch *batch,
         return DCONFDB_QUEUE_YES;
     if (!has_refused(batch))
         *refusal = *fault;
-    switch (fault->code) {
-    case DCONFDB_ERROR_LOCKED:
-    case DCONFDB_ERROR_NOT_WRITABLE:
-        return DCONFDB_QUEUE_LOCKED;
-    case DCONFDB_ERROR_VALUE_TOO_LARGE:
-    case DCONFDB_ERROR_BAD_PATH:
-    case DCONFDB_ERROR_BAD_TYPE:
-    case DCONFDB_ERROR_BAD_VALUE:
+    batch->is_closed = says_closed(fault);
+    uint32_t answer = answer_of_fault(fault);
+    if (answer == DCONFDB_QUEUE_FAULT)
         *at = fault->edit < taken ? batch->numbers[fault->edit] : batch->count;
-        return DCONFDB_QUEUE_FAULT;
-    case DCONFDB_ERROR_FILE:
-        batch->is_closed = says_closed(fault);
-        return batch->is_closed ? DCONFDB_QUEUE_LOCKED : DCONFDB_QUEUE_LATER;
-    default:
-        return DCONFDB_QUEUE_LATER;
-    }
+    return answer;
 }
 
 static bool is_writable(DconfdbStore *store, const Batch *batch, const Edit *edit)

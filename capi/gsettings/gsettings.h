@@ -17,25 +17,28 @@
 
 /* ---- changes that wait (changes.c) */
 
-/* An edit of a key; without a value it removes the user's. One that has no effect is left out, and the others
- * of the change are made: that of a locked key, and one that changes nothing. */
+/* An edit of a key; without a value it removes the user's. The reset of a locked key is left out, and the others
+ * of the change are made. */
 typedef struct Edit {
     char *path; /* behind the edits of its change */
     guint hash; /* of the path */
-    struct Edit *first;  /* that waits of the same key, as waiting_has() found it; NULL: none */
+    struct Edit *first;  /* that waits of the same key, as change_entry() found it; NULL: none */
     struct Edit *newest; /* that waits, of the first of a key: it may be itself */
+    struct Change *change; /* that it is of */
     GVariant *value;
     DconfdbEdit asked; /* the same for the library: it lends the path and the value's bytes */
     bool is_left_out;
-    bool is_alone; /* in its change */
 } Edit;
 
-/* Edits of which all are made, or none, but for those that others have overtaken. */
-typedef struct {
+/* Edits of which all are made, or none. */
+typedef struct Change {
     GList link; /* in the queue that has it */
-    uint64_t moment; /* in which it began to wait, by order_clock() */
+    uint64_t moment; /* in which it was set, by order_clock() */
+    bool asks;       /* nothing is seen otherwise by it: it is there already, unless others have changed it, and nobody noticed */
+    bool is_taken;   /* to be written */
     size_t count, most;
-    char *room; /* for the next path */
+    DconfdbNewEdit *known; /* of each edit, behind them */
+    char *room;            /* for the next path */
     Edit edits[];
 } Change;
 
@@ -50,29 +53,30 @@ Change *change_new(size_t most, size_t paths);
 void change_add(Change *change, const char *path, GVariant *value);
 void change_free(Change *change);
 
-/* Whether everything that the change sets may be set: no key is locked, and there are a snapshot and a
- * user's database. Resets of what may not be changed are left out. */
-bool change_may_be_made(Change *change, const DconfdbSnapshot *now);
+/* What becomes of the change, by the proved call, beside what waits and the newest snapshot, if there is one. Resets of
+ * what may not be changed are left out. */
+uint32_t change_entry(Change *change, const Waiting *waiting, const DconfdbSnapshot *now);
 
-/* Leaves out what changes nothing: where the newest edit of the key that waits is the same, or, where none
- * waits, the user has that value. `stored` is NULL where nobody knows that. Nothing began to wait since waiting_has().
- * False: nothing is left. */
-bool change_leave_out(Change *change, const DconfdbSnapshot *stored);
-
-/* The paths of the edits that are left, each with `value`: to be told. */
+/* The paths of the edits by which something else is seen, each with `value`: to be told. */
 GTree *change_tree(const Change *change);
 void changes_free(GQueue *changes);
 
 void waiting_begin(Waiting *waiting);
 void waiting_end(Waiting *waiting);
 
-/* Nothing began to wait since waiting_has(). True: no other change waits, but for those that were taken. */
+/* Nothing began to wait since change_entry(). True: no other change waits, but for those that were taken. */
 bool waiting_add(Waiting *waiting, Change *change);
+
+/* The edit that waits, and says what this change does, counts as set now. */
+void waiting_renew(Waiting *waiting, const Change *change);
 
 const Edit *waiting_find(const Waiting *waiting, const char *path);
 
-/* Whether an edit waits for each key of a change, which is told of each. */
-bool waiting_has(const Waiting *waiting, Change *change);
+/* Whether a change waits of which nobody knows whether it changes anything. */
+bool waiting_asks(const Waiting *waiting);
+
+/* Forgets those of which the newest snapshot says that all is there, and that nothing else waits for. Gives how many. */
+guint waiting_settle(Waiting *waiting, const DconfdbSnapshot *now);
 
 /* A key at the moment when changes are forgotten: what its newest edit said before, and what that of
  * then says, if there is one. */
@@ -119,7 +123,7 @@ typedef struct {
     GVariant *types;
 
     GMutex turn;         /* held while files are looked at or changed. It guards: */
-    DconfdbStore *store; /* NULL: it isn't opened yet, or could not be */
+    DconfdbStore *store; /* NULL: it isn't opened yet, or could not be. Changed with `lock` held, too */
     struct stat seen[2]; /* the profiles as they were then; st_nlink is 0 where there is none */
     gint64 failing;      /* since when nothing can be written, by no fault of a change; 0: it can */
     gint64 pause;        /* before the next try */
@@ -188,10 +192,7 @@ bool store_look(DconfdbBackend *self);
 /* The same for who reads where nothing is watched, if nobody else looks: the worker tells. */
 void store_peek(DconfdbBackend *self);
 
-/* The same for who is about to set, and knows that there is another file: what is there already is older than the set. */
-void store_look_before(DconfdbBackend *self);
-
-/* The same for who is about to tell of a change by itself: it waits for who looks or writes, a second at most. */
+/* The same for who is about to tell of a change by itself: it waits for who looks, a tenth of a second at most, and for no write. */
 void store_catch_up(DconfdbBackend *self);
 
 /* Until what waits is written, and the files are looked at: ten seconds at most, and as long again after each turn of other

@@ -1,6 +1,6 @@
 /* The backend's store: opened, looked at, changed. */
 #define _GNU_SOURCE
-#include "dconfdb_calls.h"
+#include "faults.h"
 #include "gsettings.h"
 
 #include <errno.h>
@@ -12,7 +12,7 @@
 /* In microseconds: how long g_settings_sync() waits; after which time a fault is one that goes on, if it may be gone in a moment,
  * and if it is the disk's; how long who catches up waits; how often who waits looks for turns of others, and who reads at the
  * files; and how often a mutex is tried. */
-enum { LONGEST_SYNC = 10000000, LONGEST_MOMENT = 10000000, LONGEST_FAULT = 1500000, LONGEST_CATCH_UP = 1000000 };
+enum { LONGEST_SYNC = 10000000, LONGEST_MOMENT = 10000000, LONGEST_FAULT = 1500000, LONGEST_CATCH_UP = 100000 };
 enum { BETWEEN_TURNS = 500000, BETWEEN_LOOKS = 10000, AFTER_A_FAULT = 1000000, TRY = 1000, MILLISECOND = 1000 };
 
 bool mutex_lock_until(GMutex *mutex, gint64 end)
@@ -106,8 +106,11 @@ static bool open_store(DconfdbBackend *self, const struct stat profiles[2], Dcon
     DconfdbStore *store = place_open(&self->place, error);
     if (!store)
         return false;
-    dconfdb_store_close(self->store);
+    g_mutex_lock(&self->lock);
+    DconfdbStore *old = self->store;
     self->store = store;
+    g_mutex_unlock(&self->lock);
+    dconfdb_store_close(old);
     memcpy(self->seen, profiles, sizeof self->seen);
     return true;
 }
@@ -127,10 +130,9 @@ static char **odd_keys(const DconfdbBackend *self)
     return keys;
 }
 
-/* Hands the newest snapshot to who reads, together with what no longer waits. */
-static void renew(DconfdbBackend *self, Notice *notice)
+/* `lock` is held. Hands the newest snapshot to who reads, together with what no longer waits. */
+static void hand_out(DconfdbBackend *self, Notice *notice)
 {
-    g_mutex_lock(&self->lock);
     notice->edited = waiting_forget(&self->waiting, &notice->written, &notice->refused);
     notice->odd = odd_keys(self);
     self->settled += notice->written.length + notice->refused.length;
@@ -147,6 +149,12 @@ static void renew(DconfdbBackend *self, Notice *notice)
     }
     notice->after = self->now ? dconfdb_snapshot_ref(self->now) : NULL;
     notice->has_user = self->has_user;
+}
+
+static void renew(DconfdbBackend *self, Notice *notice)
+{
+    g_mutex_lock(&self->lock);
+    hand_out(self, notice);
     g_mutex_unlock(&self->lock);
 }
 
@@ -266,10 +274,20 @@ void store_peek(DconfdbBackend *self)
         look_quietly(self);
 }
 
-void store_look_before(DconfdbBackend *self)
+/* Where the worker writes: hands out what it has seen in its turn. Nobody else changes the user's file until it has written. */
+static bool shows_amid_write(DconfdbBackend *self)
 {
-    if (self->process == getpid() && g_mutex_trylock(&self->turn))
-        look_quietly(self);
+    Notice notice = {.faults = NULL};
+    g_mutex_lock(&self->lock);
+    bool is = self->store && is_amid_change(self->store);
+    if (is && !is_shown(self))
+        hand_out(self, &notice);
+    g_mutex_unlock(&self->lock);
+    if (notice.before != notice.after)
+        worker_tells(self, &notice);
+    else
+        notice_tell(self, &notice);
+    return is;
 }
 
 void store_catch_up(DconfdbBackend *self)
@@ -277,21 +295,14 @@ void store_catch_up(DconfdbBackend *self)
     g_mutex_lock(&self->lock);
     bool is = self->place.folder && self->has_opened && !self->has_ended && self->process == getpid();
     g_mutex_unlock(&self->lock);
-    if (is && mutex_lock_until(&self->turn, g_get_monotonic_time() + LONGEST_CATCH_UP))
-        look_quietly(self);
-}
-
-/* What is mostly so for a moment: that all files of the process are in use, say, or what a server answers once. */
-static bool is_momentary(const DconfdbError *fault)
-{
-    static const int faults[] = {EMFILE, ENFILE, ENOLCK, ESTALE, EAGAIN, EINTR};
-    if (fault->code == DCONFDB_ERROR_MEMORY)
-        return true;
-    for (size_t i = 0; i < G_N_ELEMENTS(faults); i++) {
-        if (fault->code == DCONFDB_ERROR_FILE && fault->errnum == faults[i])
-            return true;
+    gint64 end = g_get_monotonic_time() + LONGEST_CATCH_UP;
+    while (is && !g_mutex_trylock(&self->turn)) {
+        is = !shows_amid_write(self) && g_get_monotonic_time() < end;
+        if (is)
+            g_usleep(TRY);
     }
-    return false;
+    if (is)
+        look_quietly(self);
 }
 
 /* Of what goes on, once. */
@@ -388,6 +399,27 @@ static void write_here(DconfdbBackend *self, Notice *notice, gint64 end)
     g_mutex_unlock(&self->turn);
 }
 
+/* Looks at the files, where nobody told of them since a set was made: what is older than the set is seen before its turn. What is
+ * there already by the newest files is settled without a turn. */
+static void settle_what_is_there(DconfdbBackend *self, Notice *notice)
+{
+    g_mutex_lock(&self->lock);
+    bool asks = waiting_asks(&self->waiting), waits = self->waiting.changes.length > 0;
+    g_mutex_unlock(&self->lock);
+    if (!asks && (!waits || g_atomic_int_get(&self->is_watching)))
+        return;
+    g_mutex_lock(&self->turn);
+    bool done = look(self, notice);
+    g_mutex_lock(&self->lock);
+    guint settled = done ? waiting_settle(&self->waiting, self->now) : 0;
+    self->settled += settled;
+    self->is_to_settle = self->is_to_settle || settled > 0;
+    if (settled > 0)
+        g_cond_broadcast(&self->settles);
+    g_mutex_unlock(&self->lock);
+    g_mutex_unlock(&self->turn);
+}
+
 bool store_has_waiting(DconfdbBackend *self)
 {
     g_mutex_lock(&self->lock);
@@ -398,8 +430,10 @@ bool store_has_waiting(DconfdbBackend *self)
 
 gint64 store_write(DconfdbBackend *self, gint64 end, bool tries_again)
 {
-    Notice notice = {.faults = NULL};
+    Notice seen = {.faults = NULL}, notice = {.faults = NULL};
     gint64 again = 0;
+    settle_what_is_there(self, &seen);
+    notice_tell(self, &seen);
     if (!store_has_waiting(self))
         return 0;
     if (worker_is_this(self)) {

@@ -2,6 +2,7 @@
  * passed over, and the worker goes on seeing and telling what they change. */
 #define _GNU_SOURCE
 #include "gsettings.h"
+#include "threads.h"
 
 #include <errno.h>
 
@@ -47,14 +48,13 @@ static bool is_thread_over(DconfdbBackend *self, Wait *wait, gint64 end)
     return is_over;
 }
 
-/* The worker's signals are blocked, and so are its thread's. */
 static bool is_over(DconfdbBackend *self, Wait *wait, gint64 end)
 {
     if (!wait->has_thread) {
         wait->fault = folder_lock(self->place.folder, 0, &wait->lock);
         if (wait->fault != EWOULDBLOCK)
             return true;
-        wait->has_thread = pthread_create(&wait->thread, NULL, wait_in_kernel, wait) == 0;
+        wait->has_thread = thread_begin(&wait->thread, wait_in_kernel, wait);
     }
     return wait->has_thread && is_thread_over(self, wait, end);
 }

@@ -3,11 +3,11 @@
 #define _GNU_SOURCE
 #include "dconfdb_calls.h"
 #include "gsettings.h"
+#include "threads.h"
 
 #include <errno.h>
 #include <limits.h>
 #include <poll.h>
-#include <signal.h>
 #include <stdint.h>
 #include <sys/eventfd.h>
 #include <time.h>
@@ -16,7 +16,7 @@
 /* In microseconds: how long the program's end waits for a write, and for a thread that writes nothing; and how
  * often it asks. */
 enum { LONGEST_END = 5000000, LONGEST_REST = 2000000, TICK = 5000 };
-enum { NANOSECONDS = 1000, SECOND = 1000000000 };
+enum { NANOSECONDS = 1000, MILLISECOND = 1000, SECOND = 1000000000 };
 
 static void tell_untold(DconfdbBackend *self)
 {
@@ -123,18 +123,13 @@ static void *work(void *data)
 
 void worker_begin(DconfdbBackend *self)
 {
-    sigset_t all, before;
     if (self->has_worker || self->has_ended || !self->place.folder || getpid() != self->process)
         return;
     if (self->wakes < 0)
         self->wakes = eventfd(0, EFD_CLOEXEC | EFD_NONBLOCK);
     if (self->wakes < 0)
         return;
-    /* The program's signals are its other threads'. */
-    sigfillset(&all);
-    pthread_sigmask(SIG_SETMASK, &all, &before);
-    self->has_worker = pthread_create(&self->worker, NULL, work, self) == 0;
-    pthread_sigmask(SIG_SETMASK, &before, NULL);
+    self->has_worker = thread_begin(&self->worker, work, self);
 }
 
 void worker_wake(DconfdbBackend *self)
@@ -218,6 +213,16 @@ static void say_what_waits(DconfdbBackend *self)
         return;
 }
 
+/* The same where exit() was called in the worker itself, by a handler of the program's that a warning came to: nobody else writes
+ * what waits. */
+static bool has_done_here(DconfdbBackend *self)
+{
+    if (!takes_turn(self))
+        return true;
+    await(self, TICK / MILLISECOND);
+    return false;
+}
+
 /* exit() may be called by a handler of a signal, amid anything that its thread does: in malloc(), say, or in
  * a lock that the worker then waits for. So nothing here waits without a bound, or takes memory. */
 void worker_end(DconfdbBackend *self)
@@ -226,14 +231,14 @@ void worker_end(DconfdbBackend *self)
     Patience patience = patience_of(self, LONGEST_END);
     if (!mutex_lock_until(&self->lock, now + LONGEST_REST))
         return; /* this very thread has it */
-    bool has_worker = self->has_worker, is_over = false;
+    bool has_worker = self->has_worker, is_over = false, is_this = has_worker && pthread_equal(self->worker, pthread_self());
     self->has_ended = self->is_asked = true;
     self->last_try = self->tries;
     g_mutex_unlock(&self->lock);
     if (has_worker)
         worker_wake(self);
     while (has_worker && dconfdb_exit_goes_on((uint64_t)now, (uint64_t)patience.end, (uint64_t)moved)) {
-        is_over = has_done(self);
+        is_over = is_this ? has_done_here(self) : has_done(self);
         if (is_over)
             break;
         patience_renew(&patience, self);

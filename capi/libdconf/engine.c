@@ -104,6 +104,19 @@ DconfdbSnapshot *engine_look(Engine *self)
     return dconfdb_store_snapshot(store);
 }
 
+void engine_warn_once(Engine *self, const gchar *text)
+{
+    warn_once(self, text);
+}
+
+DconfdbSnapshot *engine_newest(Engine *self)
+{
+    g_mutex_lock(&self->lock);
+    DconfdbSnapshot *now = self->source && self->store ? dconfdb_store_snapshot(self->store) : NULL;
+    g_mutex_unlock(&self->lock);
+    return now ? now : engine_look(self);
+}
+
 void engine_begin_write(Engine *self)
 {
     g_mutex_lock(&self->lock);
@@ -154,6 +167,7 @@ Engine *engine_new(DConfClient *client)
     g_cond_init(&self->looked);
     self->warned = g_hash_table_new_full(g_str_hash, g_str_equal, g_free, NULL);
     self->watched = g_hash_table_new_full(g_str_hash, g_str_equal, g_free, NULL);
+    self->moments = g_hash_table_new_full(g_str_hash, g_str_equal, g_free, g_free);
     find_place(self);
     DconfdbSnapshot *now = engine_look(self);
     if (now)
@@ -177,6 +191,7 @@ static void clear(gpointer data)
     g_cond_clear(&self->looked);
     g_hash_table_unref(self->warned);
     g_hash_table_unref(self->watched);
+    g_hash_table_unref(self->moments);
     g_clear_pointer(&self->waiting, dconf_changeset_unref);
     dconfdb_snapshot_unref(self->told);
     dconfdb_store_close(self->store);

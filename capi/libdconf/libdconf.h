@@ -23,6 +23,7 @@ typedef struct {
     GHashTable *warned;      /* the faults that were logged */
     DConfChangeset *waiting; /* fast changes that nobody writes yet; NULL: none */
     DConfChangeset *flying;  /* fast changes that a thread writes */
+    GHashTable *moments;     /* of each path in the two when it was set last, by order_clock() */
     DConfChangeset *writing; /* what a thread writes, fast or not */
     gboolean is_busy;        /* its file is being replaced: nobody looks at the files, which would wait for the disk */
     gboolean is_to_look;     /* somebody wanted to, meanwhile */
@@ -45,6 +46,12 @@ DconfdbStore *engine_store(Engine *self);
 /* The files as they are now, a reference; NULL: the store can't be opened. It waits for no disk: as long as this
  * client replaces the user's file, it is what was seen before. */
 DconfdbSnapshot *engine_look(Engine *self);
+
+/* The same without a look, where the files are watched. */
+DconfdbSnapshot *engine_newest(Engine *self);
+
+/* Logs a warning, unless it was logged before. */
+void engine_warn_once(Engine *self, const gchar *text);
 
 /* Looks at the files. False: the store can't be opened, or the files can't be read now, or this client replaces the user's: a look
  * is still to be made. */

@@ -10,6 +10,7 @@ typedef struct {
     gchar *path;     /* what all changed paths begin with, or what is locked or no longer */
     gchar **changes; /* the rest of each; NULL: `writability-changed` */
     gchar *tag;
+    gboolean is_new; /* a fast change of this client, which no file has yet */
 } Notice;
 
 /* Who is told may read by GSettings, whose module watches the files by itself. */
@@ -25,7 +26,8 @@ static gboolean emit(gpointer data)
 {
     const Notice *notice = data;
     DConfClient *client = g_weak_ref_get(&notice->engine->client);
-    catch_up();
+    if (!notice->is_new)
+        catch_up();
     if (client && notice->changes)
         g_signal_emit_by_name(client, "changed", notice->path, notice->changes, notice->tag);
     else if (client)
@@ -47,7 +49,7 @@ static void free_notice(gpointer data)
 static void send(Engine *self, const gchar *path, const gchar *const *changes, const gchar *tag, gboolean may_be_now)
 {
     Notice *notice = g_new(Notice, 1);
-    *notice = (Notice){engine_ref(self), g_strdup(path), g_strdupv((gchar **)(gpointer)changes), g_strdup(tag)};
+    *notice = (Notice){engine_ref(self), g_strdup(path), g_strdupv((gchar **)(gpointer)changes), g_strdup(tag), may_be_now};
     if (may_be_now) {
         g_main_context_invoke_full(self->context, G_PRIORITY_DEFAULT, emit, notice, free_notice);
         return;

@@ -2,16 +2,16 @@
 #define _GNU_SOURCE
 #include "libdconf.h"
 
+#include "faults.h"
 #include "locked.h"
+#include "order.h"
+#include "threads.h"
 
-#include <pthread.h>
-#include <signal.h>
 #include <string.h>
 #include <unistd.h>
 
-/* How long a change waits for others, in milliseconds; and before what they kept from being written is tried again, in
- * microseconds. */
-enum { LONGEST_WAIT = 10000, PAUSE = 50000 };
+/* How long a change waits for others, in milliseconds. */
+enum { LONGEST_WAIT = 10000 };
 
 /* ---- edits */
 
@@ -133,13 +133,14 @@ static void set_writing(Engine *self, DConfChangeset *changes)
     g_mutex_unlock(&self->lock);
 }
 
-/* As dconfdb_store_change, but that the others are waited for before anybody who reads is kept from the files. What
- * waited counts as set now. */
-static gboolean put(Engine *self, const Edits *edits, DconfdbError *fault)
+/* As dconfdb_store_change, but that the others are waited for before anybody who reads is kept from the files. Without `made` all
+ * counts as set now. */
+static gboolean put(Engine *self, const Edits *edits, const Made *made, DconfdbError *fault)
 {
     FolderLock lock;
     DconfdbStore *store = engine_store(self);
     fault->code = DCONFDB_ERROR_FILE;
+    fault->errnum = 0;
     g_strlcpy(fault->text, "the store can't be opened", sizeof fault->text);
     if (!store || edits->edits->len == 0)
         return store != NULL;
@@ -147,7 +148,7 @@ static gboolean put(Engine *self, const Edits *edits, DconfdbError *fault)
     if (failed != 0)
         return refuse_lock(store, failed, fault);
     engine_begin_write(self);
-    gboolean is_done = locked_change(store, engine_has_user(self) ? &lock : NULL, edit_at(edits, 0), NULL, edits->edits->len, fault);
+    gboolean is_done = locked_change(store, engine_has_user(self) ? &lock : NULL, edit_at(edits, 0), made, edits->edits->len, fault);
     if (engine_has_user(self))
         folder_unlock(&lock);
     engine_end_write(self);
@@ -175,6 +176,48 @@ static void refuse_locked_edits(Edits *self, Engine *engine, size_t found, DConf
     dconfdb_snapshot_unref(now);
 }
 
+/* `lock` is held. */
+static uint64_t moment_of(Engine *self, const DconfdbEdit *edit)
+{
+    const uint64_t *moment = g_hash_table_lookup(self->moments, edit->path);
+    return moment ? *moment : UINT64_MAX;
+}
+
+static gint by_moment(gconstpointer one, gconstpointer other, gpointer self)
+{
+    uint64_t first = moment_of(self, one), second = moment_of(self, other);
+    if (first == second)
+        return strcmp(((const DconfdbEdit *)one)->path, ((const DconfdbEdit *)other)->path);
+    return first < second ? -1 : 1;
+}
+
+/* When each was asked for, the oldest first: what others have set since stays. A directory is reset in this moment, and with it
+ * counts all else: NULL. */
+static GArray *made_of(Engine *self, Edits *edits)
+{
+    for (guint at = 0; at < edits->edits->len; at++) {
+        if (g_str_has_suffix(edit_at(edits, at)->path, "/"))
+            return NULL;
+    }
+    GArray *made = g_array_new(FALSE, FALSE, sizeof(Made));
+    g_mutex_lock(&self->lock);
+    g_array_sort_with_data(edits->edits, by_moment, self);
+    for (guint at = 0; at < edits->edits->len; at++) {
+        Made one = {moment_of(self, edit_at(edits, at)), at};
+        g_array_append_val(made, one);
+    }
+    g_mutex_unlock(&self->lock);
+    return made;
+}
+
+static gboolean put_waiting(Engine *self, Edits *edits, DconfdbError *fault)
+{
+    GArray *made = made_of(self, edits);
+    gboolean is_done = put(self, edits, made ? (const Made *)(gpointer)made->data : NULL, fault);
+    g_clear_pointer(&made, g_array_unref);
+    return is_done;
+}
+
 /* Makes the changes, but for those of keys that were locked since they were asked for: they come into `refused`. */
 static gboolean put_unlocked(Engine *self, DConfChangeset *changes, DConfChangeset *refused, DconfdbError *fault)
 {
@@ -182,7 +225,7 @@ static gboolean put_unlocked(Engine *self, DConfChangeset *changes, DConfChanges
     Edits edits = edits_of(changes);
     gboolean is_done;
     leave_out(&edits, now);
-    while (!(is_done = put(self, &edits, fault)) && fault->code == DCONFDB_ERROR_LOCKED && fault->edit < edits.edits->len) {
+    while (!(is_done = put_waiting(self, &edits, fault)) && fault->code == DCONFDB_ERROR_LOCKED && fault->edit < edits.edits->len) {
         g_warning("failed to commit changes to dconf: %s", fault->text);
         refuse_locked_edits(&edits, self, fault->edit, refused);
     }
@@ -202,11 +245,25 @@ static DConfChangeset *take_waiting(Engine *self)
     return taken;
 }
 
-/* They wait again, before those that came since. */
-static void put_back(Engine *self, DConfChangeset *taken)
+/* All of a set but what is refused. */
+static DConfChangeset *without(DConfChangeset *taken, DConfChangeset *refused)
 {
-    DConfChangeset *merged = dconf_changeset_new();
-    dconf_changeset_change(merged, taken);
+    const gchar *prefix, *const *paths;
+    GVariant *const *values;
+    DConfChangeset *left = dconf_changeset_new();
+    guint count = dconf_changeset_describe(taken, &prefix, &paths, &values);
+    for (guint i = 0; i < count; i++) {
+        g_autofree gchar *path = g_strconcat(prefix, paths[i], NULL);
+        if (!dconf_changeset_get(refused, path, NULL))
+            dconf_changeset_set(left, path, values[i]);
+    }
+    return left;
+}
+
+/* They wait again, before those that came since. */
+static void put_back(Engine *self, DConfChangeset *taken, DConfChangeset *refused)
+{
+    DConfChangeset *merged = without(taken, refused);
     g_mutex_lock(&self->lock);
     if (self->waiting) {
         dconf_changeset_change(merged, self->waiting);
@@ -218,7 +275,40 @@ static void put_back(Engine *self, DConfChangeset *taken)
     dconf_changeset_unref(taken);
 }
 
-/* False: others kept it from being written, and it goes on waiting. What is refused is taken back. */
+/* Of what goes on waiting, once, unless it passes in a moment, or others write. */
+static void warn_of_waiting(Engine *self, const DconfdbError *fault)
+{
+    if (fault->code == DCONFDB_ERROR_BUSY || is_momentary(fault))
+        return;
+    g_autofree gchar *text = g_strdup_printf("%s; what was changed is not on the disk yet, and goes on waiting", fault->text);
+    engine_warn_once(self, text);
+}
+
+/* What of it others have set since: it is told as what is refused. */
+static void add_overtaken(Engine *self, DConfChangeset *taken, DConfChangeset *refused)
+{
+    Edits edits = edits_of(taken);
+    DconfdbSnapshot *now = engine_newest(self);
+    for (guint at = 0; now && at < edits.edits->len; at++) {
+        const DconfdbEdit *edit = edit_at(&edits, at);
+        if (!dconfdb_snapshot_has_edit(now, edit) && !is_reset_of_locked(now, edit))
+            dconf_changeset_set(refused, edit->path, NULL);
+    }
+    dconfdb_snapshot_unref(now);
+    edits_clear(&edits);
+}
+
+/* `turn` is held: what waited is written, or refused. */
+static void end_flying(Engine *self)
+{
+    g_mutex_lock(&self->lock);
+    self->flying = NULL;
+    if (!self->waiting)
+        g_hash_table_remove_all(self->moments);
+    g_mutex_unlock(&self->lock);
+}
+
+/* False: it could not be written, by no fault of its own, and goes on waiting. What is refused is taken back. */
 static gboolean write_waiting(Engine *self, DconfdbError *fault)
 {
     DConfChangeset *taken = take_waiting(self);
@@ -226,13 +316,15 @@ static gboolean write_waiting(Engine *self, DconfdbError *fault)
         return TRUE;
     g_autoptr(DConfChangeset) refused = dconf_changeset_new();
     gboolean is_done = put_unlocked(self, taken, refused, fault);
-    if (!is_done && fault->code == DCONFDB_ERROR_BUSY) {
-        put_back(self, taken);
+    if (!is_done && answer_of_fault(fault) == DCONFDB_QUEUE_LATER) {
+        put_back(self, taken, refused);
+        notice_changed(self, refused, NULL, FALSE);
+        warn_of_waiting(self, fault);
         return FALSE;
     }
-    g_mutex_lock(&self->lock);
-    self->flying = NULL;
-    g_mutex_unlock(&self->lock);
+    if (is_done)
+        add_overtaken(self, taken, refused);
+    end_flying(self);
     notice_others(self);
     set_writing(self, NULL);
     if (!is_done)
@@ -261,24 +353,16 @@ static gboolean ends(Engine *self)
     return is_idle;
 }
 
-/* The program's signals are its other threads'. */
-static GThread *new_thread(GThreadFunc call, Engine *self)
-{
-    sigset_t all, before;
-    sigfillset(&all);
-    pthread_sigmask(SIG_SETMASK, &all, &before);
-    GThread *thread = g_thread_try_new("dconf", call, self, NULL);
-    pthread_sigmask(SIG_SETMASK, &before, NULL);
-    return thread;
-}
-
-static gpointer write_behind(gpointer data)
+static void *write_behind(void *data)
 {
     Engine *self = data;
     DconfdbError fault = DCONFDB_ERROR_INIT;
+    guint64 pause = 0;
+    pthread_setname_np(pthread_self(), "dconf");
     do {
-        if (!flush(self, &fault))
-            g_usleep(PAUSE);
+        pause = flush(self, &fault) ? 0 : dconfdb_pause_after(pause);
+        if (pause > 0)
+            g_usleep(pause);
     } while (!ends(self));
     engine_unref(self);
     return NULL;
@@ -287,6 +371,7 @@ static gpointer write_behind(gpointer data)
 /* A thread writes what waits, or this one, where none can be had. */
 static void begin_thread(Engine *self)
 {
+    pthread_t thread;
     DconfdbError fault = DCONFDB_ERROR_INIT;
     g_mutex_lock(&self->lock);
     gboolean is_new = !self->has_thread;
@@ -294,9 +379,8 @@ static void begin_thread(Engine *self)
     g_mutex_unlock(&self->lock);
     if (!is_new)
         return;
-    GThread *thread = new_thread(write_behind, engine_ref(self));
-    if (thread) {
-        g_thread_unref(thread);
+    if (thread_begin(&thread, write_behind, engine_ref(self))) {
+        pthread_detach(thread);
         return;
     }
     flush(self, &fault);
@@ -342,6 +426,11 @@ static gboolean add_waiting(Engine *self, const DconfdbSnapshot *now, const Edit
     if (!self->waiting)
         self->waiting = dconf_changeset_new();
     dconf_changeset_change(self->waiting, changes);
+    for (guint at = 0; at < edits->edits->len; at++) {
+        uint64_t *moment = g_new(uint64_t, 1);
+        *moment = order_clock();
+        g_hash_table_replace(self->moments, g_strdup(edit_at(edits, at)->path), moment);
+    }
     g_mutex_unlock(&self->lock);
     return !changes_nothing;
 }
@@ -350,7 +439,7 @@ gboolean engine_change_fast(Engine *self, DConfChangeset *changes, GError **erro
 {
     if (dconf_changeset_is_empty(changes))
         return TRUE;
-    DconfdbSnapshot *now = engine_look(self);
+    DconfdbSnapshot *now = engine_newest(self);
     Edits edits = edits_of(changes);
     gboolean may = may_change(self, now, &edits, error);
     if (may && now && engine_has_user(self)) {
@@ -379,7 +468,7 @@ static gboolean write_now(Engine *self, DConfChangeset *changes, Edits *edits, c
         leave_out(edits, now);
     g_autoptr(DConfChangeset) told = effective(edits, now, changes);
     set_writing(self, changes);
-    gboolean is_done = put(self, edits, fault);
+    gboolean is_done = put(self, edits, NULL, fault);
     if (!is_done)
         set_writing(self, NULL);
     notice_others(self);

@@ -491,10 +491,12 @@ DCONFDB_API bool dconfdb_snapshot_has_edit(const DconfdbSnapshot *snapshot, cons
  * as dconfdb_store_refresh does, and gives the paths of the keys that differ between the newest snapshot and
  * that of the last dispatch, at first that of the first call of either: as dconfdb_snapshot_differences
  * gives them, and empty if none does. This program's own changes are among them. Each change is told once:
- * of two threads that call it, to one. It waits for no change: without anything to tell it returns at once.
+ * of two threads that call it, to one. It waits for no change: without anything to tell it returns at once. While
+ * another thread changes the store it doesn't look at the files, so as not to wait for the disk.
  *
- * Nothing is lost: if `dispatch` fails (NULL), the file is readable again after 20 milliseconds, after the
- * next failure after twice that, and so on, up to a second; and each second if not all files can be watched.
+ * Nothing is lost: if `dispatch` fails (NULL) or doesn't look, the file is readable again after 20
+ * milliseconds, after the next time after twice that, and so on, up to a second; and each second if not all
+ * files can be watched.
  * If `dispatch` fails since no time can be set for that (DCONFDB_ERROR_FILE), a file that was readable stays
  * so. Watched are, by inotify, the databases' names and permission bits, and the folders and links on the way
  * to them. A folder that is missing is waited for, but not in /etc; and what another machine changes on a

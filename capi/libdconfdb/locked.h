@@ -10,10 +10,23 @@
 /* Whether all databases after the first are the same ones: whatever they lock and have, they do in both. */
 bool have_same_others(const DconfdbSnapshot *one, const DconfdbSnapshot *other);
 
-/* dconfdb_store_change, while the lock of the store's folder is held. Each edit has the moment in which it was made, by
- * order_clock(), the oldest first: what others have set since is left out. NULL: all are made now. */
-bool locked_change(DconfdbStore *store, const FolderLock *lock, const DconfdbEdit *edits, const uint64_t *moments, size_t count,
+/* Of an edit: the moment in which it was made, by order_clock(), and the number of its change. */
+typedef struct {
+    uint64_t moment;
+    size_t change;
+} Made;
+
+/* dconfdb_store_change, while the lock of the store's folder is held. The oldest edit comes first, and those of one change side by
+ * side: a change is left out, whole, where others have set one of its keys since. NULL: all are made now. */
+bool locked_change(DconfdbStore *store, const FolderLock *lock, const DconfdbEdit *edits, const Made *made, size_t count,
                    DconfdbError *error);
+
+/* Whether another thread is amid a change: the newest snapshot is what the user's file was when its turn began, and until the change
+ * is made nobody else has a turn. */
+bool is_amid_change(const DconfdbStore *store);
+
+/* As dconfdb_store_refresh, but that it waits for no other thread's change: then it doesn't look. */
+bool refresh_unless_amid(DconfdbStore *store, bool *has_looked, DconfdbError *error);
 
 /* While edits wait: what others changed between two snapshots, which the next locked_change heeds. */
 void heed_others(DconfdbStore *store, const DconfdbSnapshot *before, const DconfdbSnapshot *after);

@@ -2,6 +2,7 @@
 #define _GNU_SOURCE
 #include "notices.h"
 #include "errors.h"
+#include "locked.h"
 
 #include <errno.h>
 #include <stdlib.h>
@@ -105,10 +106,10 @@ int dconfdb_store_fd(DconfdbStore *store, DconfdbError *error)
 
 /* ---- what is told */
 
-/* What differs from what was told last. */
-static char *differences(Notices *it, DconfdbStore *store, size_t *size, DconfdbError *error)
+/* What differs from what was told last. Amid a change of another thread nobody looks. */
+static char *differences(Notices *it, DconfdbStore *store, bool *has_looked, size_t *size, DconfdbError *error)
 {
-    if (!dconfdb_store_refresh(store, NULL, error))
+    if (!refresh_unless_amid(store, has_looked, error))
         return NULL;
     DconfdbSnapshot *now = dconfdb_store_snapshot(store);
     char *paths = dconfdb_snapshot_differences(now, it->told, size, error);
@@ -132,8 +133,9 @@ static char *look(Notices *it, DconfdbStore *store, size_t *size, DconfdbError *
         watch_tell(it->watch, WATCHED_DATABASE);
     if (watch_step(it->watch, &until) == WATCH_FILES)
         watch_anew(it, store);
-    char *paths = differences(it, store, size, error);
-    watch_answer(it->watch, paths != NULL);
+    bool has_looked = false;
+    char *paths = differences(it, store, &has_looked, size, error);
+    watch_answer(it->watch, paths && has_looked);
     /* If it can't be set for that it is readable after the second. */
     (void)set_clock_for_next(it);
     return paths;
@@ -145,7 +147,8 @@ char *dconfdb_store_dispatch(DconfdbStore *store, size_t *size, DconfdbError *er
     pthread_mutex_lock(&it->lock);
     if (!it->told)
         it->told = dconfdb_store_snapshot(store);
-    char *paths = it->watch ? look(it, store, size, error) : differences(it, store, size, error);
+    bool has_looked;
+    char *paths = it->watch ? look(it, store, size, error) : differences(it, store, &has_looked, size, error);
     pthread_mutex_unlock(&it->lock);
     return paths;
 }

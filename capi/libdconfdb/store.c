@@ -6,6 +6,7 @@
 #include "dconfdb.h"
 #include "dconfdb_calls.h"
 #include "errors.h"
+#include "faults.h"
 #include "files.h"
 #include "locked.h"
 #include "notices.h"
@@ -23,6 +24,7 @@
 #include <stdlib.h>
 #include <string.h>
 #include <sys/auxv.h>
+#include <time.h>
 #include <unistd.h>
 
 /* What was wrong with a file, and what is read of it. */
@@ -75,6 +77,7 @@ struct DconfdbStore {
     Order order;                /* of the turn that it has; under `refreshing` */
     bool is_unsettled;          /* its last change is perhaps not on the disk; under `refreshing` */
     DconfdbSnapshot *tried;     /* of a change of this store's that is perhaps made; under `refreshing` */
+    atomic_bool is_amid;        /* in a turn, and the files were read in it: nobody else changes the user's */
     DconfdbSnapshot *now;
     Notices notices;
     StorePlace place;
@@ -235,12 +238,7 @@ static bool has_bytes(const Part *part, const FileBytes *bytes)
  * process's, the disk's or a server's fault, and then a sound file must not be replaced. */
 static bool is_files_own(int fault)
 {
-    static const int faults[] = {EACCES, EPERM, EISDIR, EINVAL, ENXIO, ENODEV, EOVERFLOW, ELOOP, ENOTDIR, ENAMETOOLONG, EUCLEAN, EBADMSG};
-    for (size_t i = 0; i < sizeof faults / sizeof *faults; i++) {
-        if (fault == faults[i])
-            return true;
-    }
-    return false;
+    return fault_class_of(fault, false) == DCONFDB_CLASS_OWN;
 }
 
 /* A file that is bad is also another one where its permissions are. */
@@ -1105,6 +1103,11 @@ static bool refresh(DconfdbStore *store, int turn, DconfdbError *error)
     return end != DCONFDB_LOOK_FAILED;
 }
 
+bool is_amid_change(const DconfdbStore *store)
+{
+    return atomic_load(&store->is_amid);
+}
+
 bool dconfdb_store_refresh(DconfdbStore *store, bool *changed, DconfdbError *error)
 {
     pthread_mutex_lock(&store->refreshing);
@@ -1114,6 +1117,22 @@ bool dconfdb_store_refresh(DconfdbStore *store, bool *changed, DconfdbError *err
         store->has_news = false;
     }
     pthread_mutex_unlock(&store->refreshing);
+    return done;
+}
+
+/* Who looks too is waited for, and who reads the files before a change. */
+bool refresh_unless_amid(DconfdbStore *store, bool *has_looked, DconfdbError *error)
+{
+    static const struct timespec moment = {0, 1000000};
+    while (pthread_mutex_trylock(&store->refreshing) != 0) {
+        *has_looked = !is_amid_change(store);
+        if (!*has_looked)
+            return true;
+        nanosleep(&moment, NULL);
+    }
+    bool done = refresh(store, NO_FOLDER, error);
+    pthread_mutex_unlock(&store->refreshing);
+    *has_looked = done;
     return done;
 }
 
@@ -1339,12 +1358,14 @@ static bool note_others(const DconfdbStore *store, Order *order)
     return done;
 }
 
-/* Changes that are made together: when each was asked for, and which of the edits it is. */
+/* Changes that are made together: when each was asked for, which of the edits it is, with which others it is made or left out, and
+ * whether it is overtaken. */
 typedef struct {
     size_t count;
-    DconfdbChange *changes; /* all three are in one block */
+    DconfdbChange *changes; /* all five are in one block */
     DconfdbTime *times;
-    size_t *edits;
+    size_t *edits, *of;
+    bool *is_late;
     const DconfdbSnapshot *expected; /* NULL: whatever is seen */
 } Asking;
 
@@ -1353,21 +1374,24 @@ static void asking_free(Asking *asking)
     free(asking->changes);
 }
 
-/* `moments` are NULL where all is asked for now. */
-static bool asking_begin(Asking *asking, const DconfdbEdit *edits, const uint64_t *moments, size_t count)
+/* `made` is NULL where all is asked for now. */
+static bool asking_begin(Asking *asking, const DconfdbEdit *edits, const Made *made, size_t count)
 {
     asking->count = count;
     asking->expected = NULL;
-    size_t size = sizeof *asking->changes + sizeof *asking->times + sizeof *asking->edits;
+    size_t size = sizeof *asking->changes + sizeof *asking->times + sizeof *asking->edits + sizeof *asking->of + sizeof *asking->is_late;
     asking->changes = count <= SIZE_MAX / size ? malloc(count * size) : NULL;
     if (!asking->changes)
         return false;
     asking->times = (DconfdbTime *)(asking->changes + count);
     asking->edits = (size_t *)(asking->times + count);
+    asking->of = asking->edits + count;
+    asking->is_late = (bool *)(asking->of + count);
     for (size_t i = 0; i < count; i++) {
         asking->changes[i] = change_of(&edits[i]);
-        asking->times[i] = (DconfdbTime){asking->changes[i].path, moments ? moments[i] : UINT64_MAX, 0};
+        asking->times[i] = (DconfdbTime){asking->changes[i].path, made ? made[i].moment : UINT64_MAX, 0};
         asking->edits[i] = i;
+        asking->of[i] = made ? made[i].change : i;
     }
     return true;
 }
@@ -1411,24 +1435,59 @@ static bool is_overtaken(const Order *order, const DconfdbTime *time)
     return dconfdb_is_overtaken(order->times, order->count, time->path.at, time->path.len, time->when, order->now);
 }
 
-/* Leaves out what others have set since. What this store's last write may have left looks like that, too: it is in the file. */
-static bool leave_out(Asking *asking, const DconfdbStore *store, Order *order, const DconfdbSnapshot *before)
+/* Whether others have set it since. What this store's last write may have left looks like that, too: it is in the file. */
+static bool is_late(const DconfdbStore *store, Order *order, const DconfdbSnapshot *before, const DconfdbChange *change, const DconfdbTime *time)
 {
-    size_t left = 0, size = 0;
+    bool is_own = store->is_unsettled && is_made(store->now, change);
+    return !is_own && is_overtaken(order, time) && !(forgets_guess(store, order, before, time, &change->path) && !is_overtaken(order, time));
+}
+
+/* How many edits there are of the change that begins there. */
+static size_t count_of(const Asking *asking, size_t first)
+{
+    size_t count = 1;
+    while (first + count < asking->count && asking->of[first + count] == asking->of[first])
+        count++;
+    return count;
+}
+
+/* Moves so many, which lie behind what is left. */
+static void keep(Asking *asking, size_t *left, size_t first, size_t count)
+{
+    for (size_t i = first; i < first + count; i++, ++*left) {
+        asking->changes[*left] = asking->changes[i];
+        asking->times[*left] = asking->times[i];
+        asking->edits[*left] = asking->edits[i];
+        asking->of[*left] = asking->of[i];
+    }
+}
+
+/* When each was set, at a path of this file. False: no memory is left. */
+static bool time_all(Asking *asking, const DconfdbStore *store, Order *order)
+{
+    size_t size = 0;
     for (size_t i = 0; i < asking->count; i++)
         size += order_path_size(own_name(store), asking->changes[i].path.len);
     char *room = order_room(order, size);
-    if (!room)
+    for (size_t i = 0; room && i < asking->count; i++) {
+        DconfdbBytes path = order_path(&room, own_name(store), &asking->changes[i].path);
+        asking->times[i] = (DconfdbTime){path, time_of(store, order, asking->times[i].when), 0};
+    }
+    return asking->count == 0 || room;
+}
+
+/* Leaves out the changes of which others have set something since. False: no memory is left. */
+static bool leave_out(Asking *asking, const DconfdbStore *store, Order *order, const DconfdbSnapshot *before)
+{
+    size_t left = 0;
+    if (!time_all(asking, store, order))
         return false;
-    for (size_t i = 0; i < asking->count; i++) {
-        const DconfdbBytes *path = &asking->changes[i].path;
-        DconfdbTime time = {order_path(&room, own_name(store), path), time_of(store, order, asking->times[i].when), 0};
-        bool is_own = store->is_unsettled && is_made(store->now, &asking->changes[i]);
-        if (!is_own && is_overtaken(order, &time) && !(forgets_guess(store, order, before, &time, path) && !is_overtaken(order, &time)))
-            continue;
-        asking->changes[left] = asking->changes[i];
-        asking->times[left] = time;
-        asking->edits[left++] = asking->edits[i];
+    for (size_t first = 0, count; first < asking->count; first += count) {
+        count = count_of(asking, first);
+        for (size_t i = first; i < first + count; i++)
+            asking->is_late[i] = is_late(store, order, before, &asking->changes[i], &asking->times[i]);
+        if (!dconfdb_is_left_out(asking->is_late + first, count))
+            keep(asking, &left, first, count);
     }
     asking->count = left;
     return true;
@@ -1480,6 +1539,7 @@ static bool read_old(Changing *it, size_t *bits)
     it->order = order_of(it->store, it->before, it->lock, it->error);
     if (!it->order)
         return false;
+    atomic_store(&it->store->is_amid, true);
     const Fault *bad = it->store->now->parts[0]->fault;
     int fault = replacing_look(it->replacing, bad && !bad->aside, bits);
     return fault == 0 || refuse_file(it->error, fault, it->store->user_file, nowhere);
@@ -1663,6 +1723,7 @@ static bool change_in_turn(DconfdbStore *store, const FolderLock *lock, Asking *
         dconfdb_turn_answered(&turn, done ? 0 : it.is_nothing && step.kind == DCONFDB_TURN_MAKE ? DCONFDB_TURN_NOTHING : 1, n);
     }
     bool done = end(&it, (uint32_t)step.number, step.fault);
+    atomic_store(&store->is_amid, false);
     dconfdb_snapshot_unref(it.before);
     pthread_mutex_unlock(&store->refreshing);
     replacing_end(&replacing);
@@ -1748,12 +1809,12 @@ static bool change_nothing(DconfdbStore *store, const Asking *asking, DconfdbErr
 
 /* `lock` is NULL where no file is to be made. */
 static bool change_if(DconfdbStore *store, const FolderLock *lock, const DconfdbSnapshot *expected, const DconfdbEdit *edits,
-                      const uint64_t *moments, size_t count, DconfdbError *error)
+                      const Made *made, size_t count, DconfdbError *error)
 {
     Asking asking;
     if (count == 0)
         return true;
-    if (!asking_begin(&asking, edits, moments, count))
+    if (!asking_begin(&asking, edits, made, count))
         return refuse_memory(error);
     asking.expected = expected;
     bool done = store->user_file && lock ? change_in_turn(store, lock, &asking, error) : change_nothing(store, &asking, error);
@@ -1761,10 +1822,10 @@ static bool change_if(DconfdbStore *store, const FolderLock *lock, const Dconfdb
     return done;
 }
 
-bool locked_change(DconfdbStore *store, const FolderLock *lock, const DconfdbEdit *edits, const uint64_t *moments, size_t count,
+bool locked_change(DconfdbStore *store, const FolderLock *lock, const DconfdbEdit *edits, const Made *made, size_t count,
                    DconfdbError *error)
 {
-    return change_if(store, lock, NULL, edits, moments, count, error);
+    return change_if(store, lock, NULL, edits, made, count, error);
 }
 
 /* Whether there is nothing that could be changed: no user's database, or no file of it, and nothing is set. So no

@@ -1,9 +1,10 @@
 /* Tries what tells of changes: notices FOLDER, as calls.c has it. inotify_init1, epoll_create1 and timerfd_create are
- * wrapped: each can be had, or not. So is timerfd_settime, which succeeds so many times. */
+ * wrapped: each can be had, or not. So is timerfd_settime, which succeeds so many times; and fsync, which may take a second. */
 #include "try.h"
 
 #include <errno.h>
 #include <poll.h>
+#include <pthread.h>
 #include <sys/inotify.h>
 #include <sys/stat.h>
 #include <sys/timerfd.h>
@@ -19,7 +20,11 @@ int __wrap_timerfd_create(int clock, int flags);
 int __real_timerfd_settime(int file, int flags, const struct itimerspec *next, struct itimerspec *last);
 int __wrap_timerfd_settime(int file, int flags, const struct itimerspec *next, struct itimerspec *last);
 
+int __real_fsync(int file);
+int __wrap_fsync(int file);
+
 static DconfdbError error = DCONFDB_ERROR_INIT;
+static bool is_slow;
 static bool has_inotify = true, has_epoll = true, has_clock = true;
 static size_t sets = SIZE_MAX;
 
@@ -50,6 +55,13 @@ int __wrap_timerfd_settime(int file, int flags, const struct itimerspec *next, s
         return fails();
     sets -= sets != SIZE_MAX;
     return __real_timerfd_settime(file, flags, next, last);
+}
+
+int __wrap_fsync(int file)
+{
+    if (is_slow)
+        sleep(1);
+    return __real_fsync(file);
 }
 
 enum { SOON = 3000, QUIET = 100 };
@@ -289,6 +301,40 @@ static void tries_clock(void)
     dconfdb_store_close(store);
 }
 
+static void *changes_slowly(void *store)
+{
+    DconfdbEdit edit = sets_text("/slow", "1");
+    TRY(dconfdb_store_change(store, NULL, &edit, 1, NULL));
+    return NULL;
+}
+
+static long milliseconds(void)
+{
+    struct timespec now;
+    TRY(clock_gettime(CLOCK_MONOTONIC, &now) == 0);
+    return now.tv_sec * 1000 + now.tv_nsec / 1000000;
+}
+
+/* While another thread changes the store no call waits for the disk; and then all is told. */
+static void tries_amid_change(void)
+{
+    pthread_t thread;
+    DconfdbStore *store = dconfdb_store_open(".", &error);
+    TRY(store && dconfdb_store_fd(store, &error) >= 0 && is_quiet(store));
+    is_slow = true;
+    TRY(pthread_create(&thread, NULL, changes_slowly, store) == 0);
+    TRY(usleep(300000) == 0);
+    long began = milliseconds();
+    size_t size = 77;
+    char *paths = dconfdb_store_dispatch(store, &size, &error);
+    TRY(paths && size == 0 && milliseconds() - began < 300);
+    free(paths);
+    TRY(IS_TOLD(store, "/slow\0") && pthread_join(thread, NULL) == 0);
+    is_slow = false;
+    TRY(is_quiet(store) && changes(store, (DconfdbEdit){"/", NULL, NULL, 0}));
+    dconfdb_store_close(store);
+}
+
 int main(int argc, char **argv)
 {
     int next = next_descriptor();
@@ -301,6 +347,7 @@ int main(int argc, char **argv)
     tries_bad_files();
     tries_faults();
     tries_clock();
+    tries_amid_change();
     TRY(next_descriptor() == next);
     return 0;
 }

@@ -12,7 +12,7 @@ from desk import HOME, Stop, run
 
 KINDS = ['dconfdb', 'dconf']
 MODULES, SCHEMAS = os.environ['GIO_EXTRA_MODULES'], os.environ['GSETTINGS_SCHEMA_DIR']
-PROGRAM = {name: desk.made(name) for name in ('beside', 'moments', 'turns')}
+PROGRAM = {name: desk.made(name) for name in ('beside', 'moments', 'turns', 'waits')}
 REFUSES, WHOLE = HOME / 'refuses.so', HOME / 'whole'
 HANGS, LONGEST = 'hangs', 8
 worse = []

@@ -1,6 +1,7 @@
 /* Refuses calls of the system, for a program that is started with it in LD_PRELOAD: the first $TIMES calls of $CALL that are made for a store
  * (flock; fsync; openat of a new file; inotify_init1), with the errno $ERRNO. And each fsync takes $SLOW milliseconds longer. As long as
- * there is a file $WHILE, no file of the name $NAME can be opened to be read, by $ERRNO. */
+ * there is a file $WHILE, no file of the name $NAME can be opened to be read, by $ERRNO; and as long as there is a file $FLAG, each stat of a
+ * user's file takes $STAT milliseconds. */
 #define _GNU_SOURCE
 #include <dlfcn.h>
 #include <errno.h>
@@ -11,6 +12,7 @@
 #include <string.h>
 #include <sys/file.h>
 #include <sys/inotify.h>
+#include <sys/stat.h>
 #include <unistd.h>
 
 static atomic_int count;
@@ -65,6 +67,27 @@ int openat(int folder, const char *name, int flags, ...)
     if (is_closed(name, flags))
         return -1;
     return (flags & O_EXCL) != 0 && is_refused("openat") ? -1 : real(folder, name, flags, mode);
+}
+
+static void is_slow(const char *name)
+{
+    const char *flag = getenv("FLAG"), *slow = getenv("STAT"), *last = strrchr(name, '.');
+    if (flag && slow && last && strcmp(last, ".user") == 0 && access(flag, F_OK) == 0)
+        usleep((useconds_t)atoi(slow) * 1000);
+}
+
+int stat(const char *name, struct stat *found)
+{
+    int (*real)(const char *, struct stat *) = (int (*)(const char *, struct stat *))dlsym(RTLD_NEXT, "stat");
+    is_slow(name);
+    return real(name, found);
+}
+
+int stat64(const char *name, struct stat64 *found)
+{
+    int (*real)(const char *, struct stat64 *) = (int (*)(const char *, struct stat64 *))dlsym(RTLD_NEXT, "stat64");
+    is_slow(name);
+    return real(name, found);
 }
 
 int open(const char *name, int flags, ...)

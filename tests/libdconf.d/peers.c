@@ -107,7 +107,7 @@ void dconf_engine_call_handle_reply(Call *call, GVariant *reply, const GError *e
     g_mutex_lock(&lock);
     g_free(failure);
     failure = error ? g_strdup(error->message) : NULL;
-    call->fault = error ? EIO : 0;
+    call->fault = error ? EACCES : 0; /* it refuses what waits */
     call->is_answered = TRUE;
     g_cond_broadcast(&answered);
     g_mutex_unlock(&lock);

@@ -42,14 +42,22 @@ def write_nothing():
     resource.setrlimit(resource.RLIMIT_FSIZE, (0, 0))
 
 
+def without_files(both, driver):
+    """A fast change while no descriptor is left: it is read, waits, and is kept when there are some, as with dconf's library."""
+    given = 'write sync /w/k 1\nstarve\nwrite fast /w/k 2\nread 0 /w/k\nsettle 300\nread 0 /w/k\nfeed\nsync\nread 0 /w/k\nread 2 /w/k\n'
+    theirs, ours = (both.ran(whose, [driver], given, timeout=60) for whose in ('theirs', 'ours'))
+    same('a fast change without descriptors, with ours and with dconf', ours[:2], theirs[:2])
+    same('a fast change without descriptors', ours[1].split('\n')[-2], '  2')
+
+
 def full(both, driver):
-    """Nothing can be written, as on a full disk."""
+    """Nothing can be written, as on a full disk: a sync change fails, and a fast one goes on waiting."""
     out, err = asked(both, driver, WRITES, lambda store: None, preexec_fn=write_nothing)
     same('a sync change that fails', out.split('\n')[2], '  0 dconf_error 0 ' + out.split('\n')[2].removeprefix('  0 dconf_error 0 '))
     same('a fast one', out.split('\n')[3:7], ['write fast /u/k 2', '  changed /u/k [] NULL', '  1', 'read 0 /u/k'])
-    same('is taken back, and told', out.split('\n')[8:], ['sync', 'settle 50', '  changed /u/k [] NULL', 'read 0 /u/k', '  NULL', ''])
-    if err.count('failed to commit changes to dconf: ') != 1:
-        raise Stop(f'a fast change that fails: {err}')
+    same('goes on waiting', out.split('\n')[8:], ['sync', 'settle 50', 'read 0 /u/k', '  2', ''])
+    if err.count('what was changed is not on the disk yet') != 2:
+        raise Stop(f'a fast change that waits: {err}')
 
 
 def no_user(both, driver):
@@ -110,6 +118,6 @@ def left(both, driver):
 
 def main(both):
     driver = both.compiled('driver')
-    for part in (full, no_user, damaged, held, locked_meanwhile, left):
+    for part in (without_files, full, no_user, damaged, held, locked_meanwhile, left):
         part(both, driver)
     return 'stores that can\'t be written, have no user, are damaged or held: the right errors, warnings and signals'

@@ -1,10 +1,10 @@
 -- What stands after turns is the latest of all that was to be written.
-use Rattle.std.specs.Prelude.{◌≡◌, ◌⊎◌, ◌≤◌, ◌<◌, ℕ, Bool, true, false, List, [], ◌∷◌, ◌++◌, length, map, drop, Option, Some, None, refl, not, nat_lt, ◌&&◌, ◌||◌, IsTrue, if◌then◌else◌}
+use Rattle.std.specs.Prelude.{◌≡◌, ◌⊎◌, ◌≤◌, ◌<◌, ℕ, Bool, true, false, List, [], ◌∷◌, ◌++◌, length, map, drop, Option, Some, None, refl, nat_lt, ◌&&◌, ◌||◌, IsTrue, if◌then◌else◌}
 use Rattle.std.proofs.Common.{inl, inr, sym, ap, ◌∙◌, subst, arith}
-use Rattle.std.specs.List.{AllByRecursion, list_any, filter}
+use Rattle.std.specs.List.{AllByRecursion, list_any, filter, flat_map}
 use Rattle.std.specs.Option.{option_or}
 use Rattle.std.specs.Str.{bytes_eq}
-use Rattle.std.proofs.lemmas.Bool.{and_from, and_parts, or_cases, or_left, or_right, le-leb, ltb-true, ltb-false, not-true, not-false}
+use Rattle.std.proofs.lemmas.Bool.{and_from, and_parts, or_cases, or_left, or_right, le-leb, ltb-true, ltb-false}
 use Rattle.std.proofs.lemmas.Bool.Decides.{Decides-eqb}
 use Rattle.std.proofs.lemmas.List.{append_assoc, append-nil}
 use Rattle.std.proofs.lemmas.Option.{none-some, same_Some}
@@ -18,7 +18,7 @@ use Rattle.dconf_model.specs.Locks.{covers, is_below}
 use Rattle.dconf_model.specs.Paths.{ends_with_slash}
 use Rattle.dconf_times.specs.Noted.{AreNoted, is_among, is_note, is_said_by}
 use Rattle.dconf_times.specs.Times.{Note, is_known, is_overtaken, time_of, time_told}
-use Rattle.dconf_times.specs.Turns.{AreInOrder, Course, Edit, Follow, IsNoLater, IsTimely, LatestStands, Turn, asked_in, no_course, standing, written_in}
+use Rattle.dconf_times.specs.Turns.{AreInOrder, Course, Edit, Follow, IsNoLater, IsTimely, IsWhole, LatestStands, OneCounts, Turn, asked_in, counted, is_left_out, no_course, standing, whole}
 use Rattle.dconf_times.proofs.NotedLaws.{note_itself, one_note, said, said_path, said_when}
 
 -- ---- paths
@@ -135,6 +135,10 @@ all_with : (P Q : Edit → Type 0) (xs : List Edit) → AllByRecursion P xs → 
 all_with P Q [] h k = tt
 all_with P Q (x ∷ xs) h k = ((h.0, k.0), all_with P Q xs h.1 k.1)
 
+all_parts : (P : Edit → Type 0) (xs ys : List Edit) → AllByRecursion P (xs ++ ys) → AllByRecursion P xs × AllByRecursion P ys
+all_parts P [] ys h = (tt, h)
+all_parts P (x ∷ xs) ys h = let r = all_parts P xs ys h.1 in ((h.0, r.0), r.1)
+
 filtered : (P : Edit → Type 0) (f : Edit → Bool) (xs : List Edit) → AllByRecursion P xs → AllByRecursion (λ e. P e × (f e ≡ true)) (filter f xs)
 filtered P f [] h = tt
 filtered P f (x ∷ xs) h =
@@ -143,22 +147,64 @@ filtered P f (x ∷ xs) h =
     (λ is. rw is ((h.0, is), rest))
     (λ not_so. rw not_so rest)
 
-filtered_order : (f : Edit → Bool) (xs : List Edit) → AreInOrder xs → AreInOrder (filter f xs)
-filtered_order f [] h = tt
-filtered_order f (x ∷ xs) h =
-    let rest = filtered_order f xs h.1 in
-    let later = all_so (λ e. (x.note.when ≤ e.note.when) × (f e ≡ true)) (λ e. x.note.when ≤ e.note.when) (filter f xs) (λ e p. p.0) (filtered (λ e. x.note.when ≤ e.note.when) f xs h.0) in
-    by_bool (f x) (AreInOrder (filter f (x ∷ xs)))
-    (λ is. rw is (later, rest))
-    (λ not_so. rw not_so rest)
+none_late : (late : Edit → Bool) (xs : List Edit) → list_any late xs ≡ false → AllByRecursion (λ e. late e ≡ false) xs
+none_late late [] h = tt
+none_late late (x ∷ xs) h = by_bool (late x) (AllByRecursion (λ e. late e ≡ false) (x ∷ xs))
+    (λ is. absurd (no_truth (sym h ∙ or_left (late x) (list_any late xs) is)))
+    (λ is_not. (is_not, none_late late xs (sym (ap (λ b. b || list_any late xs) is_not) ∙ h)))
 
--- what holds of what a filter keeps holds of each that passes
-unfiltered : (Q : Edit → Type 0) (f : Edit → Bool) (xs : List Edit) → AllByRecursion Q (filter f xs) → AllByRecursion (λ e. f e ≡ true → Q e) xs
-unfiltered Q f [] h = tt
-unfiltered Q f (x ∷ xs) h =
-    by_bool (f x) (AllByRecursion (λ e. f e ≡ true → Q e) (x ∷ xs))
-    (λ is. let k : Q x × AllByRecursion Q (filter f xs) = rw is at h in ((λ _. k.0), unfiltered Q f xs k.1))
-    (λ not_so. let k : AllByRecursion Q (filter f xs) = rw not_so at h in ((λ is. absurd (no_truth (sym not_so ∙ is))), unfiltered Q f xs k))
+-- ---- changes, each of them whole
+
+abbrev all_of : List (List Edit) → List Edit
+all_of changes = flat_map (λ change. change) changes
+
+abbrev kept_of : (Edit → Bool) → List (List Edit) → List Edit
+kept_of late changes = flat_map (whole late) changes
+
+kept_all : (P : Edit → Type 0) (late : Edit → Bool) (cs : List (List Edit)) → AllByRecursion P (all_of cs) → AllByRecursion (λ e. P e × (late e ≡ false)) (kept_of late cs)
+kept_all P late [] h = tt
+kept_all P late (c ∷ cs) h =
+    let parts = all_parts P c (all_of cs) h in
+    let rest = kept_all P late cs parts.1 in
+    by_bool (is_left_out late c) (AllByRecursion (λ e. P e × (late e ≡ false)) (kept_of late (c ∷ cs)))
+    (λ out. rw out rest)
+    (λ is_not. rw is_not (all_both (λ e. P e × (late e ≡ false)) c (kept_of late cs) (all_with P (λ e. late e ≡ false) c parts.0 (none_late late c is_not)) rest))
+
+order_rest : (xs ys : List Edit) → AreInOrder (xs ++ ys) → AreInOrder ys
+order_rest [] ys h = h
+order_rest (x ∷ xs) ys h = order_rest xs ys h.1
+
+order_with : (xs ys zs : List Edit) → AreInOrder (xs ++ ys) → AreInOrder zs → ((P : Edit → Type 0) → AllByRecursion P ys → AllByRecursion P zs) → AreInOrder (xs ++ zs)
+order_with [] ys zs h k f = k
+order_with (x ∷ xs) ys zs h k f =
+    let parts = all_parts (λ e. x.note.when ≤ e.note.when) xs ys h.0 in
+    (all_both (λ e. x.note.when ≤ e.note.when) xs zs parts.0 (f (λ e. x.note.when ≤ e.note.when) parts.1), order_with xs ys zs h.1 k f)
+
+kept_order : (late : Edit → Bool) (cs : List (List Edit)) → AreInOrder (all_of cs) → AreInOrder (kept_of late cs)
+kept_order late [] h = tt
+kept_order late (c ∷ cs) h =
+    let rest = kept_order late cs (order_rest c (all_of cs) h) in
+    by_bool (is_left_out late c) (AreInOrder (kept_of late (c ∷ cs)))
+    (λ out. rw out rest)
+    (λ is_not. rw is_not (order_with c (all_of cs) (kept_of late cs) h rest (λ P all. all_so (λ e. P e × (late e ≡ false)) P (kept_of late cs) (λ e p. p.0) (kept_all P late cs all))))
+
+-- what holds of all that is kept, and of what is late, holds of all that counts
+counts : (Q : Edit → Type 0) (late : Edit → Bool) (cs : List (List Edit)) → ((e : Edit) → late e ≡ true → Q e) → AllByRecursion Q (kept_of late cs)
+    → AllByRecursion Q (flat_map (counted late) cs)
+counts Q late [] f h = tt
+counts Q late (c ∷ cs) f h =
+    by_bool (is_left_out late c) (AllByRecursion Q (flat_map (counted late) (c ∷ cs)))
+    (λ out. let k : AllByRecursion Q (kept_of late cs) = rw out at h in
+    rw out (all_both Q (filter late c) (flat_map (counted late) cs)
+    (all_so (λ e. Unit {0} × (late e ≡ true)) Q (filter late c) (λ e p. f e p.1) (filtered (λ e. Unit {0}) late c (each_unit c)))
+    (counts Q late cs f k)))
+    (λ is_not. let k : AllByRecursion Q (c ++ kept_of late cs) = rw is_not at h in
+    let parts = all_parts Q c (kept_of late cs) k in
+    rw is_not (all_both Q c (flat_map (counted late) cs) parts.0 (counts Q late cs f parts.1)))
+  where
+    each_unit : (xs : List Edit) → AllByRecursion (λ e. Unit {0}) xs
+    each_unit [] = tt
+    each_unit (x ∷ xs) = (tt, each_unit xs)
 
 picked : (P : Edit → Type 0) (n : Note) (xs : List Edit) → is_among n (notes_of xs) ≡ true → AllByRecursion P xs → (e : Edit) × P e × (n ≡ e.note)
 picked P n [] any h = absurd (no_truth any)
@@ -241,18 +287,18 @@ record Holds (since : ℕ) (asked : List Edit) (course : Course) : Type 0 where
   done : (key : List ℕ) → AllByRecursion (Out key course.written) asked
 
 module _ (since most : ℕ) (asked : List Edit) (before : Course) (turn : Turn) (holds : Holds since asked before) (timely : IsTimely since turn) where
-  abbrev new : List Edit
-  new = written_in turn before.notes
+  abbrev late : Edit → Bool
+  late e = is_overtaken turn.now e.note.path e.note.when before.notes
 
-  abbrev is_written : Edit → Bool
-  is_written e = not (is_overtaken turn.now e.note.path e.note.when before.notes)
+  abbrev new : List Edit
+  new = kept_of late turn.changes
 
   abbrev IsNew : Edit → Type 0
-  IsNew e = ((e.note.when ≤ turn.now) × (IsTrue (ends_with_slash e.note.path) → e.note.when ≡ turn.now)) × (is_written e ≡ true)
+  IsNew e = ((e.note.when ≤ turn.now) × (IsTrue (ends_with_slash e.note.path) → e.note.when ≡ turn.now)) × (late e ≡ false)
 
   all_new : AllByRecursion IsNew new
-  all_new = filtered (λ e. (e.note.when ≤ turn.now) × (IsTrue (ends_with_slash e.note.path) → e.note.when ≡ turn.now)) is_written turn.edits
-      (all_with (λ e. e.note.when ≤ turn.now) (λ e. IsTrue (ends_with_slash e.note.path) → e.note.when ≡ turn.now) turn.edits timely.past timely.directories)
+  all_new = kept_all (λ e. (e.note.when ≤ turn.now) × (IsTrue (ends_with_slash e.note.path) → e.note.when ≡ turn.now)) late turn.changes
+      (all_with (λ e. e.note.when ≤ turn.now) (λ e. IsTrue (ends_with_slash e.note.path) → e.note.when ≡ turn.now) (all_of turn.changes) timely.past timely.directories)
 
   -- a new one that covers the key is no older than an old one that does
   newer : (key : List ℕ) (w s : Edit) → (w.note.when ≤ since) × (list_any (is_said_by w.note) before.notes ≡ true) → covers w.note.path key ≡ true → IsNew s → covers s.note.path key ≡ true → w.note.when ≤ s.note.when
@@ -264,8 +310,7 @@ module _ (since most : ℕ) (asked : List Edit) (before : Course) (turn : Turn) 
             let known : m.0.when ≤ turn.now = omega (arith, (holds.noted m.0 m.1).0, timely.later) in
             let m_over : covers m.0.path s.note.path ≡ true = subst (λ (p : List ℕ). covers m.0.path p ≡ true) (sym same) (subst (λ (p : List ℕ). covers p key ≡ true) (said_path w.note m.0 m.2) over) in
             let at_most = noted_at_most turn.now s.note.path m.0 before.notes m.1 known m_over in
-            let fresh : is_overtaken turn.now s.note.path s.note.when before.notes ≡ false = not-true _ is_new.1 in
-            let bound = ltb-false s.note.when (time_of turn.now s.note.path before.notes) fresh in
+            let bound = ltb-false s.note.when (time_of turn.now s.note.path before.notes) is_new.1 in
             omega (arith, at_most, bound, said_when w.note m.0 m.2)
         | inr below ↦ absurd (no_truth (sym no_slash ∙ below.0))
       ])
@@ -284,14 +329,13 @@ module _ (since most : ℕ) (asked : List Edit) (before : Course) (turn : Turn) 
     new_out : AllByRecursion (Out key (before.written ++ new)) new
     new_out = all_so (Out key new) (Out key (before.written ++ new)) new
         (λ e out over. let r = out over in (r.0, standing_both key before.written new ∙ ap (λ o. option_or o (standing key before.written)) r.1, r.2))
-        (in_order_out key new (filtered_order is_written turn.edits timely.in_order))
+        (in_order_out key new (kept_order late turn.changes timely.in_order))
 
     still_out : (xs : List Edit) → AllByRecursion (Out key before.written) xs → AllByRecursion (Out key (before.written ++ new)) xs
     still_out xs h = all_so (Out key before.written) (Out key (before.written ++ new)) xs (λ e out over. still e (out over)) h
 
-    overtaken_out : (e : Edit) → is_written e ≡ false → Out key (before.written ++ new) e
-    overtaken_out e is over =
-        let later : is_overtaken turn.now e.note.path e.note.when before.notes ≡ true = not-false _ is in
+    overtaken_out : (e : Edit) → late e ≡ true → Out key (before.written ++ new) e
+    overtaken_out e later over =
         let t = teller turn.now e.note.when e.note.path before.notes (ltb-true e.note.when (time_of turn.now e.note.path before.notes) later) in
         let w = picked (Out key before.written) t.note before.written (holds.noted t.note t.among).1 (holds.written key) in
         let w_over : covers w.0.note.path key ≡ true = subst (λ (n : Note). covers n.path key ≡ true) w.2 (covers_twice t.note.path e.note.path key t.over over) in
@@ -299,10 +343,8 @@ module _ (since most : ℕ) (asked : List Edit) (before : Course) (turn : Turn) 
         let same : t.note.when ≡ w.0.note.when = ap (λ (n : Note). n.when) w.2 in
         still e (stands.0, stands.1, omega (arith, t.later, same, stands.2))
 
-    edits_out : AllByRecursion (Out key (before.written ++ new)) turn.edits
-    edits_out = all_so (λ e. is_written e ≡ true → Out key (before.written ++ new) e) (Out key (before.written ++ new)) turn.edits
-        (λ e h. by_bool (is_written e) (Out key (before.written ++ new) e) h (overtaken_out e))
-        (unfiltered (Out key (before.written ++ new)) is_written turn.edits new_out)
+    edits_out : AllByRecursion (Out key (before.written ++ new)) (flat_map (counted late) turn.changes)
+    edits_out = counts (Out key (before.written ++ new)) late turn.changes overtaken_out new_out
 
   module _ (notes : List Note) (are : AreNoted turn.now most (before.notes ++ notes_of new) notes) (room : length notes < most) where
     is_kept : (n : Note) → is_among n (before.notes ++ notes_of new) ≡ true → n.when ≤ turn.now → list_any (is_said_by n) notes ≡ true
@@ -343,13 +385,16 @@ module _ (since most : ℕ) (asked : List Edit) (before : Course) (turn : Turn) 
           ],
         )
 
-    after_turn : Holds turn.now (asked ++ turn.edits) (record { written = before.written ++ new; notes = notes })
+    after_turn : Holds turn.now (asked ++ flat_map (counted late) turn.changes) (record { written = before.written ++ new; notes = notes })
     after_turn = record {
       past = past_now;
       noted = noted_now;
       written = λ key. all_both (Out key (before.written ++ new)) before.written new (still_out key before.written (holds.written key)) (new_out key);
-      done = λ key. all_both (Out key (before.written ++ new)) asked turn.edits (still_out key asked (holds.done key)) (edits_out key);
+      done = λ key. all_both (Out key (before.written ++ new)) asked (flat_map (counted late) turn.changes) (still_out key asked (holds.done key)) (edits_out key);
     }
+
+abbrev late_by : ℕ → List Note → Edit → Bool
+late_by now found e = is_overtaken now e.note.path e.note.when found
 
 follows : (most : ℕ) (turns : List Turn) (since : ℕ) (asked : List Edit) (before after : Course) → Holds since asked before → Follow most turns since before after →
     (key : List ℕ) → AllByRecursion (Out key after.written) (asked ++ asked_in turns)
@@ -357,12 +402,28 @@ follows most [] since asked before after holds same key =
     subst (λ (c : Course). AllByRecursion (Out key c.written) (asked ++ [])) same
     (subst (λ (es : List Edit). AllByRecursion (Out key before.written) es) (sym (append-nil asked)) (holds.done key))
 follows most (turn ∷ more) since asked before after holds f key =
-    let here : Course = record { written = before.written ++ written_in turn before.notes; notes = f.0.notes } in
-    let same : here ≡ f.0 = ap (λ (w : List Edit). let c : Course = record { written = w; notes = f.0.notes } in c) (sym f.2.written_is) in
-    let now = after_turn since most asked before turn holds f.1 f.0.notes f.2.notes_are f.2.has_room in
-    subst (λ (es : List Edit). AllByRecursion (Out key after.written) es) (append_assoc asked turn.edits (asked_in more))
-    (follows most more turn.now (asked ++ turn.edits) f.0 after (subst (λ (c : Course). Holds turn.now (asked ++ turn.edits) c) same now) f.3 key)
+    let at : List Note → List Edit = λ found. flat_map (whole (late_by turn.now found)) turn.changes in
+    let given : List Note → List Edit = λ found. flat_map (counted (late_by turn.now found)) turn.changes in
+    let written : before.written ++ at before.notes ≡ f.0.written = ap (λ (ns : List Note). before.written ++ at ns) (sym f.2.found_is) ∙ sym f.2.written_is in
+    let here : Course = record { written = before.written ++ at before.notes; notes = f.0.notes } in
+    let same : here ≡ f.0 = ap (λ (w : List Edit). let c : Course = record { written = w; notes = f.0.notes } in c) written in
+    let are = subst (λ (ns : List Note). AreNoted turn.now most (before.notes ++ notes_of (at ns)) f.0.notes) f.2.found_is f.2.notes_are in
+    let now = after_turn since most asked before turn holds f.1 f.0.notes are f.2.has_room in
+    let then_is : Holds turn.now (asked ++ given turn.found) f.0 =
+    subst (λ (ns : List Note). Holds turn.now (asked ++ given ns) f.0) (sym f.2.found_is) (subst (λ (c : Course). Holds turn.now (asked ++ given before.notes) c) same now) in
+    subst (λ (es : List Edit). AllByRecursion (Out key after.written) es) (append_assoc asked (given turn.found) (asked_in more))
+    (follows most more turn.now (asked ++ given turn.found) f.0 after then_is f.3 key)
 
 pub latest_stands : LatestStands
 latest_stands most turns course key f =
     follows most turns 0 [] no_course course (record { past = tt; noted = λ n bad. absurd (no_truth bad); written = λ k. tt; done = λ k. tt }) f key
+
+pub one_counts : OneCounts
+one_counts late e = by_bool (late e) (counted late (e ∷ []) ≡ e ∷ [])
+    (λ is. rw is refl)
+    (λ is_not. rw is_not refl)
+
+pub is_whole : IsWhole
+is_whole late change = by_bool (is_left_out late change) ((whole late change ≡ change) ⊎ (whole late change ≡ []))
+    (λ out. rw out (inr refl))
+    (λ is_not. rw is_not (inl refl))

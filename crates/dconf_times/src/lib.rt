@@ -1,5 +1,5 @@
 //! Who set what last, for programs that take turns to write: each notes what it sets, and when, and
-//! leaves out what another one has set later.
+//! leaves out what another one has set later, together with all that was to be made with it.
 //!
 //! A note is of a key, or of a directory of which all keys were reset. One of the future counts for
 //! nothing: a clock was wrong. Nothing is kept here; the caller lends the notes, and stores what
@@ -18,6 +18,6 @@ mod laws;
 mod notes;
 mod times;
 
-pub use laws::the_latest_stands;
+pub use laws::{a_change_is_whole, one_edit_counts, the_latest_stands};
 pub use notes::note_times;
-pub use times::{DconfdbTime, is_overtaken};
+pub use times::{DconfdbTime, is_left_out, is_overtaken};

@@ -1,5 +1,6 @@
 //! When paths were set.
 ghost use Rattle.std.specs.Prelude.{◌≡◌, map};
+ghost use Rattle.std.specs.List.{list_any};
 ghost use Rattle.dconf_model.specs.Locks.{covers};
 ghost use Rattle.dconf_times.specs.Times.{is_overtaken, note_of, time_told};
 
@@ -40,6 +41,18 @@ pub fn is_overtaken(times: &[DconfdbTime<'_>], path: &[u8], when: u64, now: u64)
 {
     for time in times {
         if time.told_of(path, now) > when {
+            return true;
+        }
+    }
+    false
+}
+
+/// Whether a change is left out, by which of its edits are overtaken: they are made together, or none is.
+pub fn is_left_out(overtaken: &[bool]) -> bool
+    ensures { result ≡ list_any (λ is. is) overtaken.now }
+{
+    for is in overtaken {
+        if *is {
             return true;
         }
     }

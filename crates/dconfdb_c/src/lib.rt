@@ -6,6 +6,7 @@
 
 mod change;
 mod due;
+mod entry;
 mod fates;
 mod get;
 mod list;

@@ -1,5 +1,6 @@
 //! Which paths were set last: what is overtaken, and what is noted.
 ghost use Rattle.std.specs.Prelude.{◌≡◌, ◌≢◌, ◌⊎◌, ◌++◌, ◌∷◌, [], ℕ, List, length, map, take, drop};
+ghost use Rattle.std.specs.List.{list_any};
 ghost use Rattle.dconf_times.specs.Noted.{AreNoted};
 ghost use Rattle.dconf_times.specs.Times.{is_overtaken, note_of};
 ghost use Rattle.dconf_times.specs.declared.times.DconfdbTime.{DconfdbTime};
@@ -7,7 +8,7 @@ ghost use Rattle.dconf_notes.specs.Records.{Noted, IsFile, IsForAll, file_bytes,
 ghost use Rattle.dconfdb_calls.specs.Given.{HandsOut};
 
 use dconf_notes::{notes_read, notes_written};
-use dconf_times::{DconfdbTime, is_overtaken, note_times};
+use dconf_times::{DconfdbTime, is_left_out, is_overtaken, note_times};
 use dconfdb_calls::{Fault, hand_out};
 use std::alloc::Global;
 
@@ -23,6 +24,15 @@ pub extern "C" fn dconfdb_is_overtaken(
     ensures { result ≡ is_overtaken now path.now when (map note_of times.now) }
 {
     is_overtaken(times, path, when, now)
+}
+
+/// Whether a change is left out, by which of its edits are overtaken: they are made together, or none
+/// is.
+#[unsafe(no_mangle)]
+pub extern "C" fn dconfdb_is_left_out(overtaken: &[bool]) -> bool
+    ensures { result ≡ list_any (λ is. is) overtaken.now }
+{
+    is_left_out(overtaken)
 }
 
 /// The times with more of them, as many as the room has: of each path the latest. They are handed
