@@ -2,6 +2,7 @@
 #define _GNU_SOURCE
 #include "notices.h"
 #include "errors.h"
+#include "held.h"
 
 #include <errno.h>
 #include <stdlib.h>
@@ -86,6 +87,7 @@ static bool begin(Notices *it, const DconfdbStore *store)
 int dconfdb_store_fd(DconfdbStore *store, DconfdbError *error)
 {
     Notices *it = notices_of(store);
+    int cancels = hold_cancellation();
     pthread_mutex_lock(&it->lock);
     if (!it->told)
         it->told = dconfdb_store_snapshot(store);
@@ -95,6 +97,7 @@ int dconfdb_store_fd(DconfdbStore *store, DconfdbError *error)
     }
     int polled = it->polled;
     pthread_mutex_unlock(&it->lock);
+    cancel_as_before(cancels);
     return polled;
 }
 
@@ -135,6 +138,7 @@ static char *differences(Notices *it, DconfdbStore *store, size_t *size, Dconfdb
 char *dconfdb_store_dispatch(DconfdbStore *store, size_t *size, DconfdbError *error)
 {
     Notices *it = notices_of(store);
+    int cancels = hold_cancellation();
     pthread_mutex_lock(&it->lock);
     if (!it->told)
         it->told = dconfdb_store_snapshot(store);
@@ -143,5 +147,6 @@ char *dconfdb_store_dispatch(DconfdbStore *store, size_t *size, DconfdbError *er
     if (it->watch && paths && is_whole(it))
         (void)set_clock(it, never);
     pthread_mutex_unlock(&it->lock);
+    cancel_as_before(cancels);
     return paths;
 }

@@ -7,6 +7,7 @@
 #include "dconfdb_calls.h"
 #include "errors.h"
 #include "files.h"
+#include "held.h"
 #include "locked.h"
 #include "notices.h"
 #include "order.h"
@@ -51,6 +52,9 @@ struct DconfdbSnapshot {
 
 /* A file and a profile have at most so many bytes, and a profile so many databases. */
 enum { LARGEST_PROFILE = 16777216, MOST_DATABASES = 64, ROOM_OF_PASSWD = 65536 };
+
+/* What dconfdb_profile calls a database of the system. */
+enum { SYSTEMS = 1 };
 #define LARGEST_FILE 4294967295U
 
 static const DconfdbOptions strict = DCONFDB_OPTIONS_INIT, lenient = {sizeof lenient, true, false, DCONFDB_USUAL_WAIT};
@@ -548,13 +552,13 @@ void place_release(StorePlace *place)
 {
     free(place->folder);
     free(place->profile);
-    *place = (StorePlace){NULL, NULL};
+    *place = (StorePlace){NULL, NULL, false};
 }
 
 bool place_find(const char *folder, StorePlace *place, DconfdbError *error)
 {
     const char *of = folder, *name = variable("DCONFDB_PROFILE");
-    *place = (StorePlace){folder ? absolute(folder) : folder_by_default(&of), NULL};
+    *place = (StorePlace){folder ? absolute(folder) : folder_by_default(&of), NULL, folder != NULL};
     if (!place->folder)
         return refuse_folder(error, errno, of);
     place->profile = name ? profile_named(name) : NULL;
@@ -570,7 +574,7 @@ static bool find_place(const char *folder, StorePlace *place, DconfdbError *erro
 {
     if (!folder)
         return place_find(NULL, place, error);
-    *place = (StorePlace){absolute(folder), NULL};
+    *place = (StorePlace){absolute(folder), NULL, true};
     return place->folder || refuse_folder(error, errno, folder);
 }
 
@@ -600,9 +604,18 @@ static bool read_profile(DconfdbStore *store, const char *name, FileBytes *text,
     return true;
 }
 
+static const char everyones[] = "/etc/dconfdb/profile", everyones_folder[] = "/etc/dconfdb";
+
+/* Where a profile's databases of the system are: in the store's folder. But those of the profile of all users stand beside it, and not
+ * in each user's own folder, unless the caller names the folder. */
+static const char *systems_folder(const DconfdbStore *store, const char *profile)
+{
+    return strcmp(profile, everyones) == 0 && !store->place.is_given ? everyones_folder : store->place.folder;
+}
+
 /* The file of a database, or NULL. A name with a zero byte is one of no file. The path of a file-db
  * alone may start with `/`. */
-static char *file_of(const DconfdbStore *store, const DconfdbName *database)
+static char *file_of(const DconfdbStore *store, const char *profile, const DconfdbName *database)
 {
     static const char *const ends[] = {".user", ".db", ""};
     errno = EINVAL;
@@ -613,10 +626,22 @@ static char *file_of(const DconfdbStore *store, const DconfdbName *database)
     if (!name || name[0] == '/')
         return name;
     char *with_end = joined(name, ends[database->kind], "");
-    char *file = with_end ? joined(store->place.folder, "/", with_end) : NULL;
+    const char *folder = database->kind == SYSTEMS ? systems_folder(store, profile) : store->place.folder;
+    char *file = with_end ? joined(folder, "/", with_end) : NULL;
     free(name);
     free(with_end);
     return file;
+}
+
+/* The databases that a profile names, where every line has to be good. Of a text that isn't UTF-8 the first bad line is told, as where bad
+ * lines are passed over. */
+static uint32_t read_all_names(const uint8_t *text, size_t len, DconfdbName *names, size_t *count, size_t *line)
+{
+    uint32_t fault = DCONFDB_OK, number = dconfdb_profile(text, len, names, MOST_DATABASES, count, line);
+    if (number != DCONFDB_NOT_TEXT)
+        return number;
+    number = dconfdb_profile_lines(text, len, names, MOST_DATABASES, count, &fault, line);
+    return number == DCONFDB_OK ? fault : number;
 }
 
 /* The databases that a profile names; of a lenient store those of its good lines, where the first bad one
@@ -626,7 +651,7 @@ static uint32_t read_names(DconfdbStore *store, const char *profile, const uint8
 {
     uint32_t fault = DCONFDB_OK;
     if (!store->options.is_lenient)
-        return dconfdb_profile(text, len, names, MOST_DATABASES, count, line);
+        return read_all_names(text, len, names, count, line);
     uint32_t number = dconfdb_profile_lines(text, len, names, MOST_DATABASES, count, &fault, line);
     if (number == DCONFDB_OK && fault != DCONFDB_OK)
         refuse_call(profile_fault_of(store), fault, profile, (Place){.line = *line});
@@ -643,7 +668,7 @@ static bool name_files(DconfdbStore *store, const char *profile, const uint8_t *
     if (number != DCONFDB_OK)
         return refuse_call(error, number, profile, (Place){.line = line});
     for (size_t i = 0; i < count; i++) {
-        char *file = file_of(store, &names[i]);
+        char *file = file_of(store, profile, &names[i]);
         if (!file)
             return refuse_file(error, errno, profile, (Place){.database = i});
         store->files[store->count++] = file;
@@ -652,8 +677,6 @@ static bool name_files(DconfdbStore *store, const char *profile, const uint8_t *
         store->user_file = store->files[0];
     return true;
 }
-
-static const char everyones[] = "/etc/dconfdb/profile";
 
 /* The databases of the profile that is named. Where that can't be had nothing takes its place. */
 static bool find_files_named(DconfdbStore *store, const char *name, DconfdbError *error)
@@ -842,7 +865,7 @@ static DconfdbStore *store_at(const StorePlace *place, const DconfdbOptions *opt
     pthread_mutex_init(&store->handing, NULL);
     notices_begin(&store->notices);
     store->options = *options;
-    store->place = (StorePlace){folder, profile};
+    store->place = (StorePlace){folder, profile, place->is_given};
     return store;
 }
 
@@ -858,10 +881,13 @@ static DconfdbStore *open_at(const StorePlace *place, const DconfdbOptions *opti
 DconfdbStore *dconfdb_store_open_with(const char *folder, const DconfdbOptions *options, DconfdbError *error)
 {
     StorePlace place;
-    if (!find_place(folder, &place, error))
-        return NULL;
-    DconfdbStore *store = open_at(&place, options, error);
-    place_release(&place);
+    DconfdbStore *store = NULL;
+    int cancels = hold_cancellation();
+    if (find_place(folder, &place, error)) {
+        store = open_at(&place, options, error);
+        place_release(&place);
+    }
+    cancel_as_before(cancels);
     return store;
 }
 
@@ -943,10 +969,13 @@ char *place_files(const StorePlace *place, DconfdbError *error)
 char *dconfdb_store_files(const char *folder, size_t *size, DconfdbError *error)
 {
     StorePlace place;
-    if (!find_place(folder, &place, error))
-        return NULL;
-    char *files = files_at(&place, size, error);
-    place_release(&place);
+    char *files = NULL;
+    int cancels = hold_cancellation();
+    if (find_place(folder, &place, error)) {
+        files = files_at(&place, size, error);
+        place_release(&place);
+    }
+    cancel_as_before(cancels);
     return files;
 }
 
@@ -964,6 +993,7 @@ void dconfdb_store_close(DconfdbStore *store)
 {
     if (!store)
         return;
+    int cancels = hold_cancellation();
     notices_end(&store->notices);
     forget_seen(store);
     order_end(&store->order);
@@ -974,6 +1004,7 @@ void dconfdb_store_close(DconfdbStore *store)
     pthread_mutex_destroy(&store->refreshing);
     pthread_mutex_destroy(&store->handing);
     free(store);
+    cancel_as_before(cancels);
 }
 
 const StorePlace *place_of(const DconfdbStore *store)
@@ -1030,6 +1061,7 @@ static bool refresh(DconfdbStore *store, int turn, DconfdbError *error)
 
 bool dconfdb_store_refresh(DconfdbStore *store, bool *changed, DconfdbError *error)
 {
+    int cancels = hold_cancellation();
     pthread_mutex_lock(&store->refreshing);
     bool done = refresh(store, NO_FOLDER, error);
     if (done && changed) {
@@ -1037,6 +1069,7 @@ bool dconfdb_store_refresh(DconfdbStore *store, bool *changed, DconfdbError *err
         store->has_news = false;
     }
     pthread_mutex_unlock(&store->refreshing);
+    cancel_as_before(cancels);
     return done;
 }
 
@@ -1384,8 +1417,9 @@ static bool read_old(Changing *it, size_t *bits)
     it->order = order_of(it->store, it->before, it->lock, it->error);
     if (!it->order)
         return false;
-    const Fault *bad = it->store->now->parts[0]->fault;
-    int fault = replacing_look(it->replacing, bad && !bad->aside, bits);
+    const Part *old = it->store->now->parts[0];
+    const Fault *bad = old->fault;
+    int fault = replacing_look(it->replacing, bad && !bad->aside, &old->state, bits);
     return fault == 0 || refuse_file(it->error, fault, it->store->user_file, nowhere);
 }
 
@@ -1520,6 +1554,7 @@ static bool end(Changing *it, uint32_t outcome, uint32_t fault)
 static bool change_in_turn(DconfdbStore *store, const FolderLock *lock, Asking *asking, DconfdbError *error)
 {
     Replacing replacing;
+    HeldSignal held;
     Changing it = {.store = store, .lock = lock, .asking = asking, .error = error, .replacing = &replacing};
     DconfdbTurn turn = {.len = 0};
     DconfdbStep step = {.kind = DCONFDB_TURN_LOCK};
@@ -1527,6 +1562,7 @@ static bool change_in_turn(DconfdbStore *store, const FolderLock *lock, Asking *
     if (fault != 0)
         return refuse_file(error, fault, store->user_file, nowhere);
     replacing.is_unsynced = store->options.is_unsynced;
+    hold_limit_signal(&held);
     pthread_mutex_lock(&store->refreshing);
     it.before = dconfdb_snapshot_ref(store->now);
     dconfdb_turn_begin(&turn);
@@ -1538,6 +1574,7 @@ static bool change_in_turn(DconfdbStore *store, const FolderLock *lock, Asking *
     bool done = end(&it, (uint32_t)step.number, step.fault);
     dconfdb_snapshot_unref(it.before);
     pthread_mutex_unlock(&store->refreshing);
+    release_limit_signal(&held);
     replacing_end(&replacing);
     return done;
 }
@@ -1600,7 +1637,10 @@ static bool change_if(DconfdbStore *store, const FolderLock *lock, const Dconfdb
 bool locked_change(DconfdbStore *store, const FolderLock *lock, const DconfdbEdit *edits, const uint64_t *moments, size_t count,
                    DconfdbError *error)
 {
-    return change_if(store, lock, NULL, edits, moments, count, error);
+    int cancels = hold_cancellation();
+    bool done = change_if(store, lock, NULL, edits, moments, count, error);
+    cancel_as_before(cancels);
+    return done;
 }
 
 /* Whether there is nothing that could be changed: no user's database, or no file of it, and nothing is set. So no
@@ -1617,8 +1657,7 @@ static bool has_nothing(const DconfdbStore *store, const DconfdbEdit *edits, siz
     return file_look(store->user_file, &state) == 0 && !state.is_there;
 }
 
-bool dconfdb_store_change(DconfdbStore *store, const DconfdbSnapshot *expected, const DconfdbEdit *edits, size_t count,
-                          DconfdbError *error)
+static bool change(DconfdbStore *store, const DconfdbSnapshot *expected, const DconfdbEdit *edits, size_t count, DconfdbError *error)
 {
     FolderLock lock;
     int wait = store->options.longest_wait;
@@ -1629,5 +1668,14 @@ bool dconfdb_store_change(DconfdbStore *store, const DconfdbSnapshot *expected, 
         return refuse_lock(store, fault, error);
     bool done = change_if(store, &lock, expected, edits, NULL, count, error);
     folder_unlock(&lock);
+    return done;
+}
+
+bool dconfdb_store_change(DconfdbStore *store, const DconfdbSnapshot *expected, const DconfdbEdit *edits, size_t count,
+                          DconfdbError *error)
+{
+    int cancels = hold_cancellation();
+    bool done = change(store, expected, edits, count, error);
+    cancel_as_before(cancels);
     return done;
 }

@@ -1,0 +1,24 @@
+/* What could end a thread or the process amid a call, held back until it is done. */
+#ifndef HELD_H
+#define HELD_H
+
+#include <signal.h>
+#include <stdbool.h>
+
+/* Lets no cancellation act on this thread, and gives what was so before, for cancel_as_before(). Calls may be nested. */
+int hold_cancellation(void);
+void cancel_as_before(int state);
+
+/* SIGXFSZ, which a write beyond RLIMIT_FSIZE sends, and ends a process that doesn't heed it. */
+typedef struct {
+    sigset_t blocked;
+    bool is_held, was_pending;
+} HeldSignal;
+
+/* This thread gets it no longer: such a write is refused by EFBIG. */
+void hold_limit_signal(HeldSignal *held);
+
+/* What came of it meanwhile is taken, so that it isn't got later. */
+void release_limit_signal(const HeldSignal *held);
+
+#endif
