@@ -9,12 +9,13 @@
 #include <fcntl.h>
 #include <limits.h>
 #include <stdbool.h>
+#include <stdio.h>
 #include <stdlib.h>
 #include <string.h>
 #include <sys/stat.h>
 #include <unistd.h>
 
-enum { OWN = 0700, WRITE_OF_OTHERS = 022, MOST_LINKS = 40 };
+enum { OWN = 0700, WRITE_OF_OTHERS = 022, MOST_LINKS = 40, MOST_TRIES = 100 };
 
 /* Only gone through, not read. */
 enum { ON_THE_WAY = O_PATH | O_NOFOLLOW | O_CLOEXEC, TO_READ = O_RDONLY | O_DIRECTORY | O_CLOEXEC };
@@ -70,8 +71,6 @@ static bool is_empty(int folder)
 static int hand_over(int made, const struct stat *above)
 {
     struct stat found;
-    if (!is_root() || above->st_uid == 0)
-        return 0;
     if (fstat(made, &found) != 0)
         return errno;
     if (found.st_uid != 0 || found.st_dev != above->st_dev || !is_empty(made))
@@ -79,19 +78,45 @@ static int hand_over(int made, const struct stat *above)
     return fchownat(made, "", above->st_uid, above->st_gid, AT_EMPTY_PATH) != 0 ? errno : 0;
 }
 
-/* Opens what was just made, once its name is on the disk. */
-static int take_made(int above, const char *name, int *made)
+/* Makes a folder with a name that nobody has. */
+static int make_unnamed(int above, char *name, size_t size)
+{
+    int fault = EEXIST;
+    for (int n = 0; fault == EEXIST && n < MOST_TRIES; n++) {
+        snprintf(name, size, ".dconfdb-%ld-%d", (long)getpid(), n);
+        fault = mkdirat(above, name, OWN) != 0 ? errno : 0;
+    }
+    return fault;
+}
+
+/* Makes one of another's, which has its name only once it is his: who is killed before keeps nobody from it. */
+static int make_theirs(int above, const struct stat *found, const char *name)
+{
+    char unnamed[64];
+    int made, fault = make_unnamed(above, unnamed, sizeof unnamed);
+    if (fault != 0)
+        return fault;
+    made = openat(above, unnamed, ON_THE_WAY | O_DIRECTORY);
+    fault = made < 0 ? errno : hand_over(made, found);
+    if (made >= 0)
+        close(made);
+    if (fault == 0 && renameat2(above, unnamed, above, name, RENAME_NOREPLACE) != 0)
+        fault = errno;
+    if (fault != 0)
+        unlinkat(above, unnamed, AT_REMOVEDIR);
+    return fault;
+}
+
+/* Makes a folder that is missing, so that its name is on the disk. Another program may do so at the same time. */
+static int make_one(int above, const char *name)
 {
     struct stat found;
-    *made = openat(above, name, ON_THE_WAY | O_DIRECTORY);
-    if (*made < 0)
+    if (fstat(above, &found) != 0)
         return errno;
-    int fault = fstat(above, &found) != 0 ? errno : sync_folder(above);
-    if (fault == 0)
-        fault = hand_over(*made, &found);
+    int fault = is_root() && found.st_uid != 0 ? make_theirs(above, &found, name) : mkdirat(above, name, OWN) != 0 ? errno : 0;
     if (fault != 0)
-        close(*made);
-    return fault;
+        return fault == EEXIST ? 0 : fault;
+    return sync_folder(above);
 }
 
 /* ---- a path */
@@ -146,11 +171,12 @@ static int enter_link(Way way, int from, const char *name, int *to)
 static int enter(Way way, int from, const char *name, int *to)
 {
     *to = openat(from, name, ON_THE_WAY | O_DIRECTORY);
-    if (*to < 0 && errno == ENOENT && way.makes && mkdirat(from, name, OWN) == 0)
-        return take_made(from, name, to);
-    /* Another program may have made it meanwhile. */
-    if (*to < 0 && errno == EEXIST)
+    if (*to < 0 && errno == ENOENT && way.makes) {
+        int fault = make_one(from, name);
+        if (fault != 0)
+            return fault;
         *to = openat(from, name, ON_THE_WAY | O_DIRECTORY);
+    }
     if (*to >= 0)
         return 0;
     return errno == ENOTDIR ? enter_link(way, from, name, to) : errno;

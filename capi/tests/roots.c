@@ -23,10 +23,12 @@ int __wrap_mkdirat(int folder, const char *path, mode_t mode);
 int __wrap_fstatat64(int folder, const char *path, struct stat *found, int flags);
 
 static DconfdbError error = DCONFDB_ERROR_INIT;
+static int here;
 
 /* What the other one does as soon as a folder is made, or before the user's file is looked at for so often. */
 static void (*once_made)(void), (*before_look)(void);
 static int looks;
+static char made[PATH_MAX]; /* the last name of the folder that was */
 
 static void acts(void (**what)(void))
 {
@@ -39,6 +41,7 @@ static void acts(void (**what)(void))
 int __wrap_mkdir(const char *path, mode_t mode)
 {
     int done = __real_mkdir(path, mode);
+    snprintf(made, sizeof made, "u/.config/%s", strrchr(path, '/') + 1);
     acts(&once_made);
     return done;
 }
@@ -46,6 +49,7 @@ int __wrap_mkdir(const char *path, mode_t mode)
 int __wrap_mkdirat(int folder, const char *path, mode_t mode)
 {
     int done = __real_mkdirat(folder, path, mode);
+    snprintf(made, sizeof made, "u/.config/%s", path);
     acts(&once_made);
     return done;
 }
@@ -96,10 +100,7 @@ static bool sets(const char *folder)
 
 static void moves(void)
 {
-    char here[PATH_MAX], path[PATH_MAX + 16];
-    TRY(getcwd(here, sizeof here));
-    snprintf(path, sizeof path, "%s/elsewhere", here);
-    TRY(rename("u/.config", "u/.moved") == 0 && symlink(path, "u/.config") == 0 && lchown("u/.config", NOBODY, NOBODY) == 0);
+    TRY(rename("u/.config", "u/.moved") == 0 && symlink("../elsewhere", "u/.config") == 0 && lchown("u/.config", NOBODY, NOBODY) == 0);
 }
 
 static void tries_moved(void)
@@ -113,7 +114,7 @@ static void tries_moved(void)
 /* A folder of root's, with what is in it, takes the place of the one that was just made. */
 static void puts_roots(void)
 {
-    TRY(rename("u/.config/dconfdb", "u/.config/made") == 0 && rename("u/.config/roots", "u/.config/dconfdb") == 0);
+    TRY(rename(made, "u/.config/new") == 0 && rename("u/.config/roots", made) == 0);
 }
 
 static void tries_another(void)
@@ -122,7 +123,7 @@ static void tries_another(void)
     runs("mkdir -m 700 u/.config/roots && echo secret > u/.config/roots/letter");
     once_made = puts_roots;
     TRY(!sets("u/.config/dconfdb") && error.code == DCONFDB_ERROR_FILE);
-    TRY(is_of("u/.config/dconfdb", 0) && is_of("u/.config/dconfdb/letter", 0) && access("u/.config/dconfdb/user.user", F_OK) != 0);
+    TRY(is_of(made, 0) && chdir(made) == 0 && is_of("letter", 0) && access("user.user", F_OK) != 0 && fchdir(here) == 0);
 }
 
 /* A link in a folder of another's, or one where others may write, is not followed; another one is. */
@@ -221,7 +222,8 @@ int main(int argc, char **argv)
         puts("nothing of root's is tried, since nobody here is root");
         return 0;
     }
-    TRY(chmod(".", 0755) == 0);
+    here = open(".", O_RDONLY | O_CLOEXEC);
+    TRY(here >= 0 && chmod(".", 0755) == 0);
     tries_moved();
     tries_another();
     tries_links();
