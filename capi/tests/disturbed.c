@@ -7,6 +7,7 @@
 #include <fcntl.h>
 #include <pthread.h>
 #include <signal.h>
+#include <stdatomic.h>
 #include <sys/file.h>
 #include <sys/resource.h>
 #include <sys/wait.h>
@@ -14,7 +15,7 @@
 
 static DconfdbError error = DCONFDB_ERROR_INIT;
 static DconfdbStore *store;
-static volatile bool is_made, has_returned;
+static atomic_bool is_made, has_returned;
 
 static bool changes(const char *text)
 {
@@ -41,14 +42,15 @@ static void *scribbles(void *unused)
     return unused;
 }
 
+/* It ends itself by a signal that a fault is not. */
 static void child_lives(void)
 {
     int status;
     pid_t child = fork();
     TRY(child >= 0);
     if (child == 0)
-        _exit(0);
-    TRY(waitpid(child, &status, 0) == child && status == 0);
+        raise(SIGKILL);
+    TRY(waitpid(child, &status, 0) == child && WIFSIGNALED(status) && WTERMSIG(status) == SIGKILL);
 }
 
 static int locks(void)
