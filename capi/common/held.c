@@ -2,21 +2,7 @@
 #define _POSIX_C_SOURCE 200809L
 #include "held.h"
 
-#include <pthread.h>
 #include <time.h>
-
-int hold_cancellation(void)
-{
-    int state = PTHREAD_CANCEL_ENABLE;
-    pthread_setcancelstate(PTHREAD_CANCEL_DISABLE, &state);
-    return state;
-}
-
-void cancel_as_before(int state)
-{
-    int ours;
-    pthread_setcancelstate(state, &ours);
-}
 
 static sigset_t limit_signal(void)
 {

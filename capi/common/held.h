@@ -2,12 +2,23 @@
 #ifndef HELD_H
 #define HELD_H
 
+#include <pthread.h>
 #include <signal.h>
 #include <stdbool.h>
 
-/* Lets no cancellation act on this thread, and gives what was so before, for cancel_as_before(). Calls may be nested. */
-int hold_cancellation(void);
-void cancel_as_before(int state);
+/* Lets no cancellation act on this thread, and gives what was so before, for cancel_as_before(). It may be held already. */
+static inline int hold_cancellation(void)
+{
+    int state = PTHREAD_CANCEL_ENABLE;
+    pthread_setcancelstate(PTHREAD_CANCEL_DISABLE, &state);
+    return state;
+}
+
+static inline void cancel_as_before(int state)
+{
+    int ours;
+    pthread_setcancelstate(state, &ours);
+}
 
 /* SIGXFSZ, which a write beyond RLIMIT_FSIZE sends, and ends a process that doesn't heed it. */
 typedef struct {

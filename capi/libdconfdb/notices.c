@@ -117,8 +117,10 @@ static bool take(Notices *it, const DconfdbStore *store, DconfdbError *error)
     bool was_late = is_late(it);
     if (!set_clock(it, later))
         return refuse_file(error, errno, dconfdb_store_folder(store), nowhere);
+    int cancels = hold_cancellation();
     if (watch_read(it->watch) == WATCHED_FOLDER || was_late)
         watch_anew(it, store);
+    cancel_as_before(cancels);
     return true;
 }
 
@@ -138,7 +140,6 @@ static char *differences(Notices *it, DconfdbStore *store, size_t *size, Dconfdb
 char *dconfdb_store_dispatch(DconfdbStore *store, size_t *size, DconfdbError *error)
 {
     Notices *it = notices_of(store);
-    int cancels = hold_cancellation();
     pthread_mutex_lock(&it->lock);
     if (!it->told)
         it->told = dconfdb_store_snapshot(store);
@@ -147,6 +148,5 @@ char *dconfdb_store_dispatch(DconfdbStore *store, size_t *size, DconfdbError *er
     if (it->watch && paths && is_whole(it))
         (void)set_clock(it, never);
     pthread_mutex_unlock(&it->lock);
-    cancel_as_before(cancels);
     return paths;
 }

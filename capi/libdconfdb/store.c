@@ -742,13 +742,16 @@ static bool is_as_said(const Look *look, const Part *old, size_t at)
     return file_look(look->store->files[at], &state) == 0 && is_as_it_was_read(old, &state);
 }
 
-/* In a lenient store a file counts as nothing if it is its own fault that it can't be read. */
+/* In a lenient store a file counts as nothing if it is its own fault that it can't be read. A look that reads none is no cancellation
+ * point, and needn't hold anything back. */
 static bool read_at(Look *look, size_t at, DconfdbError *error)
 {
     Asked asked = asked_of(look, at);
     bool is_in_turn = asked.turn != NO_FOLDER;
+    int cancels = hold_cancellation();
     int fault = file_read(asked.turn, is_in_turn ? strrchr(asked.name, '/') + 1 : asked.name, asked.maps, may_be_database,
                           LARGEST_FILE, &look->bytes, &look->state);
+    cancel_as_before(cancels);
     look->fault.code = DCONFDB_ERROR_NONE;
     if (fault == 0)
         return true;
@@ -1061,7 +1064,6 @@ static bool refresh(DconfdbStore *store, int turn, DconfdbError *error)
 
 bool dconfdb_store_refresh(DconfdbStore *store, bool *changed, DconfdbError *error)
 {
-    int cancels = hold_cancellation();
     pthread_mutex_lock(&store->refreshing);
     bool done = refresh(store, NO_FOLDER, error);
     if (done && changed) {
@@ -1069,7 +1071,6 @@ bool dconfdb_store_refresh(DconfdbStore *store, bool *changed, DconfdbError *err
         store->has_news = false;
     }
     pthread_mutex_unlock(&store->refreshing);
-    cancel_as_before(cancels);
     return done;
 }
 
