@@ -742,16 +742,17 @@ static bool is_as_said(const Look *look, const Part *old, size_t at)
     return file_look(look->store->files[at], &state) == 0 && is_as_it_was_read(old, &state);
 }
 
-/* In a lenient store a file counts as nothing if it is its own fault that it can't be read. A look that reads none is no cancellation
- * point, and needn't hold anything back. */
+/* In a lenient store a file counts as nothing if it is its own fault that it can't be read. Cancellation is held back here, since a look
+ * that reads nothing is no cancellation point; and who opens a store has held it back. */
 static bool read_at(Look *look, size_t at, DconfdbError *error)
 {
     Asked asked = asked_of(look, at);
-    bool is_in_turn = asked.turn != NO_FOLDER;
-    int cancels = hold_cancellation();
+    bool is_in_turn = asked.turn != NO_FOLDER, is_held = !look->store->now;
+    int cancels = is_held ? 0 : hold_cancellation();
     int fault = file_read(asked.turn, is_in_turn ? strrchr(asked.name, '/') + 1 : asked.name, asked.maps, may_be_database,
                           LARGEST_FILE, &look->bytes, &look->state);
-    cancel_as_before(cancels);
+    if (!is_held)
+        cancel_as_before(cancels);
     look->fault.code = DCONFDB_ERROR_NONE;
     if (fault == 0)
         return true;
