@@ -208,11 +208,11 @@ static int hand_over(int file, mode_t mode, uid_t user, gid_t group)
 /* Root gives a file only to whom it was read from: in a folder of another's the name may be a link, and another's file by now. */
 static int fault_of_look(const struct stat *old, bool keeps, const FileState *read)
 {
-    if (geteuid() != 0)
+    if (geteuid() != 0 || !read->is_there)
         return 0;
-    if (keeps)
-        return S_ISLNK(old->st_mode) && old->st_uid != 0 ? EACCES : 0;
-    return read->is_there && (read->device != old->st_dev || read->inode != old->st_ino) ? EAGAIN : 0;
+    if (keeps && S_ISLNK(old->st_mode))
+        return old->st_uid != 0 ? EACCES : 0;
+    return read->device != old->st_dev || read->inode != old->st_ino ? EAGAIN : 0;
 }
 
 /* Whose the new file is, and its permission bits: those of the old one, if that is a file. What is kept

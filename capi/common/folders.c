@@ -89,6 +89,18 @@ static int make_unnamed(int above, char *name, size_t size)
     return fault;
 }
 
+/* What has the name keeps it, but for an empty folder, if the file system has no such rename. */
+static int give_name(int above, const char *unnamed, const char *name)
+{
+    if (renameat2(above, unnamed, above, name, RENAME_NOREPLACE) == 0)
+        return 0;
+    if (errno != EINVAL && errno != ENOSYS)
+        return errno;
+    if (renameat(above, unnamed, above, name) == 0)
+        return 0;
+    return errno == ENOTEMPTY ? EEXIST : errno;
+}
+
 /* Makes one of another's, which has its name only once it is his: who is killed before keeps nobody from it. */
 static int make_theirs(int above, const struct stat *found, const char *name)
 {
@@ -100,8 +112,8 @@ static int make_theirs(int above, const struct stat *found, const char *name)
     fault = made < 0 ? errno : hand_over(made, found);
     if (made >= 0)
         close(made);
-    if (fault == 0 && renameat2(above, unnamed, above, name, RENAME_NOREPLACE) != 0)
-        fault = errno;
+    if (fault == 0)
+        fault = give_name(above, unnamed, name);
     if (fault != 0)
         unlinkat(above, unnamed, AT_REMOVEDIR);
     return fault;

@@ -243,9 +243,8 @@ static uint32_t take_name(Awaited *awaited, int *fault)
     return *fault != 0 ? DCONFDB_WAIT_FAILED : DCONFDB_WAIT_MOVED;
 }
 
-static uint32_t try_it(void *it, int *fault)
+static uint32_t try_once(Awaited *awaited, int *fault)
 {
-    Awaited *awaited = it;
     nlink_t links = 0;
     *fault = awaited->is_open ? 0 : open_awaited(awaited);
     if (*fault == 0)
@@ -256,6 +255,13 @@ static uint32_t try_it(void *it, int *fault)
         return links > 1 ? take_name(awaited, fault) : DCONFDB_WAIT_GOT;
     close_awaited(awaited);
     return DCONFDB_WAIT_MOVED;
+}
+
+/* What has moved is tried once more at once: in a wait of no time there is no other try. */
+static uint32_t try_it(void *it, int *fault)
+{
+    uint32_t answer = try_once(it, fault);
+    return answer == DCONFDB_WAIT_MOVED ? try_once(it, fault) : answer;
 }
 
 int folder_lock(const char *folder, int milliseconds, FolderLock *lock)

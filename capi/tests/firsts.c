@@ -97,12 +97,12 @@ static bool is_letter(const char *file)
     return strcmp(text, "a letter\n") == 0;
 }
 
-static bool sets_soon(const char *folder)
+static bool sets_soon(const char *folder, int wait)
 {
     DconfdbOptions options = DCONFDB_OPTIONS_INIT;
-    options.longest_wait = 200;
+    options.longest_wait = wait;
     DconfdbStore *store = dconfdb_store_open_with(folder, &options, &error);
-    DconfdbEdit edit = sets_text("/soon", "value");
+    DconfdbEdit edit = sets_text("/soon", wait > 0 ? "value" : "at once");
     bool done = store && dconfdb_store_change(store, NULL, &edit, 1, &error);
     dconfdb_store_close(store);
     return done;
@@ -115,9 +115,10 @@ static void tries_second_names(void)
     int file = open("letter", O_RDONLY | O_CLOEXEC);
     TRY(file >= 0 && (unlink(".lock") == 0 || errno == ENOENT) && link("letter", ".lock") == 0);
     /* Others may have their turn by it. */
-    TRY(flock(file, LOCK_EX) == 0 && !sets_soon(".") && error.code == DCONFDB_ERROR_BUSY && is_letter("letter"));
+    TRY(flock(file, LOCK_EX) == 0 && !sets_soon(".", 200) && error.code == DCONFDB_ERROR_BUSY && is_letter("letter"));
     TRY(flock(file, LOCK_UN) == 0 && sets(".") && is_letter("letter") && flock(file, LOCK_EX | LOCK_NB) == 0);
-    TRY(is_there(".lock").st_nlink == 1 && is_there(".lock").st_ino != is_there("letter").st_ino && sets_soon("."));
+    TRY(is_there(".lock").st_nlink == 1 && is_there(".lock").st_ino != is_there("letter").st_ino && sets_soon(".", 200));
+    TRY(link(".lock", "backup") == 0 && sets_soon(".", 0) && is_there("backup").st_nlink == 1 && unlink("backup") == 0);
     TRY(close(file) == 0 && unlink("letter") == 0);
     unlink("me.user");
 }

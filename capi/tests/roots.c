@@ -24,6 +24,7 @@ int __wrap_fstatat64(int folder, const char *path, struct stat *found, int flags
 
 static DconfdbError error = DCONFDB_ERROR_INIT;
 static int here;
+static bool is_lenient;
 
 /* What the other one does as soon as a folder is made, or before the user's file is looked at for so often. */
 static void (*once_made)(void), (*before_look)(void);
@@ -85,15 +86,21 @@ static bool is_untouched(void)
     return is_of("elsewhere/dconfdb", 0) && rmdir("elsewhere/dconfdb") == 0;
 }
 
-static bool sets(const char *folder)
+static bool sets_key(const char *folder, const char *path)
 {
     DconfdbOptions options = DCONFDB_OPTIONS_INIT;
     options.is_unsynced = true;
+    options.is_lenient = is_lenient;
     DconfdbStore *store = dconfdb_store_open_with(folder, &options, &error);
-    DconfdbEdit edit = sets_text("/key", "value");
+    DconfdbEdit edit = sets_text(path, "value");
     bool done = store && dconfdb_store_change(store, NULL, &edit, 1, &error);
     dconfdb_store_close(store);
     return done;
+}
+
+static bool sets(const char *folder)
+{
+    return sets_key(folder, "/key");
 }
 
 /* ---- one after another */
@@ -169,13 +176,17 @@ static void puts_own(void)
     runs("rm u/.config/user.user && cp own u/.config/user.user && chown 65534:65534 u/.config/user.user");
 }
 
-static void tries_file(void)
+/* `torn`: root's own can be repaired only. */
+static void tries_file(bool torn)
 {
+    is_lenient = torn;
     for (looks = 1; looks <= 4; looks++) {
         int count = looks;
         begins();
-        TRY(sets("elsewhere") && sets("other"));
+        TRY(sets_key("elsewhere", "/secret") && sets_key("other", "/other"));
         runs("cp other/user.user own && sed -i s/value/OTHER/ elsewhere/user.user && ln -s ../../elsewhere/user.user u/.config/user.user");
+        if (torn)
+            runs("printf '\\0' | dd of=elsewhere/user.user bs=1 seek=33 conv=notrunc 2> /dev/null");
         before_look = puts_own;
         (void)sets("u/.config");
         before_look = NULL;
@@ -228,7 +239,9 @@ int main(int argc, char **argv)
     tries_another();
     tries_links();
     tries_others();
-    tries_file();
+    tries_file(false);
+    tries_file(true);
+    is_lenient = false;
     tries_races();
     printf("in %d races, and where links and folders are exchanged, nothing of root's is given away\n", ROUNDS);
     return 0;
