@@ -2,6 +2,8 @@
 #define _GNU_SOURCE
 #define _FILE_OFFSET_BITS 64
 #include "files.h"
+#include "dconfdb_calls.h"
+#include "tries.h"
 
 #include <errno.h>
 #include <fcntl.h>
@@ -15,7 +17,10 @@
 /* No more than so many bytes are read at once, whatever they begin with. */
 enum { SMALL = 65536 };
 
-enum { PERMISSION_BITS = 0777, READ_AND_WRITE = 0600, HEAD = 24, MOST_ASIDE = 999 };
+enum { PERMISSION_BITS = 0777, GROUPS_BITS = 070, READ_AND_WRITE = 0600, HEAD = 24, MOST_ASIDE = 999 };
+
+/* For so many milliseconds a file is waited for that another program has a lease on, which it is asked to give back. */
+enum { LONGEST_LEASE = 1000 };
 
 static FileState state_of(const struct stat *found)
 {
@@ -93,35 +98,74 @@ static int take(int file, bool maps, FileWanted *is_wanted, size_t len, FileByte
     return bytes->at ? fill(file, bytes, len) : ENOMEM;
 }
 
-int file_read(int folder, const char *name, bool maps, FileWanted *is_wanted, size_t most, FileBytes *bytes, FileState *state)
+/* A file that is opened to be read. */
+typedef struct {
+    int folder, file;
+    const char *name;
+} Opening;
+
+/* O_NONBLOCK: a pipe without a writer, that took the file's place since the look at it, is not waited for. */
+static uint32_t try_open(void *it, int *fault)
+{
+    Opening *opening = it;
+    opening->file = openat(opening->folder, opening->name, O_RDONLY | O_CLOEXEC | O_NONBLOCK | O_NOCTTY);
+    *fault = opening->file < 0 ? errno : 0;
+    if (*fault == 0)
+        return DCONFDB_WAIT_GOT;
+    return *fault == EWOULDBLOCK ? DCONFDB_WAIT_TAKEN : DCONFDB_WAIT_FAILED;
+}
+
+static int fault_of_kind(const struct stat *found)
+{
+    if (S_ISREG(found->st_mode))
+        return 0;
+    return S_ISDIR(found->st_mode) ? EISDIR : EINVAL;
+}
+
+/* Opens a regular file. What has the name is looked at before: a state of later might be that of a newer file, which would never be
+ * read; and a pipe or a device is not opened, since who writes into it would notice. */
+static int open_file(Opening *opening, FileState *state)
 {
     struct stat found;
     int fault = 0;
-    *bytes = (FileBytes){NULL, 0, false};
     *state = (FileState){.is_there = false};
-    /* Before the file is opened: a state of later might be that of a newer file, which would never be read. */
-    if (fstatat(folder, name, &found, 0) == 0)
+    if (fstatat(opening->folder, opening->name, &found, 0) == 0) {
         *state = state_of(&found);
-    /* O_NONBLOCK: a pipe without a writer is not waited for. */
-    int file = openat(folder, name, O_RDONLY | O_CLOEXEC | O_NONBLOCK | O_NOCTTY);
-    if (file < 0) {
-        fault = errno == ENOENT ? 0 : errno;
-        state->is_there = state->is_there && fault != 0;
-        return fault;
+        fault = fault_of_kind(&found);
     }
-    if (fstat(file, &found) != 0) {
-        fault = errno;
-        close(file);
-        return fault;
-    }
+    if (fault == 0 && try_open(opening, &fault) == DCONFDB_WAIT_TAKEN)
+        fault = try_for(LONGEST_LEASE, true, try_open, opening);
+    return fault;
+}
+
+/* The bytes and the state of an open file. */
+static int take_file(int file, bool maps, FileWanted *is_wanted, size_t most, FileBytes *bytes, FileState *state)
+{
+    struct stat found;
+    if (fstat(file, &found) != 0)
+        return errno;
     *state = state_of(&found);
-    if (!S_ISREG(found.st_mode))
-        fault = S_ISDIR(found.st_mode) ? EISDIR : EINVAL;
-    else if ((uintmax_t)found.st_size > most)
-        fault = EOVERFLOW;
-    else if (found.st_size > 0)
-        fault = take(file, maps, is_wanted, (size_t)found.st_size, bytes);
-    close(file);
+    int fault = fault_of_kind(&found);
+    if (fault != 0)
+        return fault;
+    if ((uintmax_t)found.st_size > most)
+        return EOVERFLOW;
+    return found.st_size > 0 ? take(file, maps, is_wanted, (size_t)found.st_size, bytes) : 0;
+}
+
+int file_read(int folder, const char *name, bool maps, FileWanted *is_wanted, size_t most, FileBytes *bytes, FileState *state)
+{
+    Opening opening = {folder, -1, name};
+    *bytes = (FileBytes){NULL, 0, false};
+    int fault = open_file(&opening, state);
+    if (fault == ENOENT) {
+        state->is_there = false;
+        return 0;
+    }
+    if (fault != 0)
+        return fault;
+    fault = take_file(opening.file, maps, is_wanted, most, bytes, state);
+    close(opening.file);
     if (fault != 0)
         file_release(bytes);
     return fault;
@@ -136,84 +180,44 @@ void file_release(FileBytes *bytes)
     *bytes = (FileBytes){NULL, 0, false};
 }
 
-static int sync_folder(const char *name)
+/* Gives the file its owner and group: root must, and others may give it a group that they are in. The rights of that group are no
+ * other group's: one in its place has no more of them than all have. */
+static int give(int file, const struct stat *made, uid_t user, gid_t group, mode_t *mode)
 {
-    int fault = 0;
-    int folder = open(name, O_RDONLY | O_DIRECTORY | O_CLOEXEC);
-    if (folder < 0)
-        return errno;
-    if (fsync(folder) != 0)
-        fault = errno;
-    close(folder);
-    return fault;
-}
-
-/* The folder that root made in another user's is that user's. It is asked for as a folder, and no
- * link is followed, since that user may have put one there meanwhile. */
-static int hand_over_folder(const char *folder, const struct stat *above)
-{
-    if (geteuid() != 0 || above->st_uid == 0)
+    if (made->st_uid == user && made->st_gid == group)
         return 0;
-    int made = open(folder, O_RDONLY | O_DIRECTORY | O_NOFOLLOW | O_CLOEXEC);
-    if (made < 0)
-        return errno;
-    int fault = fchown(made, above->st_uid, above->st_gid) != 0 ? errno : 0;
-    close(made);
-    return fault;
+    if (geteuid() == 0)
+        return fchown(file, user, group) != 0 ? errno : 0;
+    if (made->st_gid != group && fchown(file, (uid_t)-1, group) != 0)
+        *mode &= (mode_t)~GROUPS_BITS | (*mode & (GROUPS_BITS >> 3)) << 3;
+    return 0;
 }
 
-/* Makes one folder of an absolute path, so that its name is on the disk. */
-static int make_one(char *folder)
-{
-    struct stat above;
-    char *last = strrchr(folder, '/');
-    if (mkdir(folder, 0700) != 0)
-        return errno == EEXIST ? 0 : errno;
-    if (last == folder)
-        return sync_folder("/");
-    *last = 0;
-    int fault = stat(folder, &above) != 0 ? errno : sync_folder(folder);
-    *last = '/';
-    return fault == 0 ? hand_over_folder(folder, &above) : fault;
-}
-
-int folder_make(const char *folder)
-{
-    struct stat found;
-    int fault = 0;
-    if (stat(folder, &found) == 0)
-        return 0;
-    char *path = malloc(strlen(folder) + 1);
-    if (!path)
-        return ENOMEM;
-    strcpy(path, folder);
-    for (char *at = path + 1; fault == 0 && (at = strchr(at, '/')) != NULL; at++) {
-        *at = 0;
-        if (stat(path, &found) != 0)
-            fault = make_one(path);
-        *at = '/';
-    }
-    if (fault == 0)
-        fault = make_one(path);
-    free(path);
-    return fault;
-}
-
-/* Gives the file the permission bits, whatever the umask. What root writes is the owner's. */
+/* Gives the file the permission bits, too, whatever the umask: after its group, so that no other has them for a moment. */
 static int hand_over(int file, mode_t mode, uid_t user, gid_t group)
 {
     struct stat made;
     if (fstat(file, &made) != 0)
         return errno;
-    bool is_others = made.st_uid != user || made.st_gid != group;
-    if (is_others && geteuid() == 0 && fchown(file, user, group) != 0)
-        return errno;
+    int fault = give(file, &made, user, group, &mode);
+    if (fault != 0)
+        return fault;
     return (made.st_mode & PERMISSION_BITS) != mode && fchmod(file, mode) != 0 ? errno : 0;
+}
+
+/* Root gives a file only to whom it was read from: in a folder of another's the name may be a link, and another's file by now. */
+static int fault_of_look(const struct stat *old, bool keeps, const FileState *read)
+{
+    if (geteuid() != 0 || !read->is_there)
+        return 0;
+    if (keeps && S_ISLNK(old->st_mode))
+        return old->st_uid != 0 ? EACCES : 0;
+    return read->device != old->st_dev || read->inode != old->st_ino ? EAGAIN : 0;
 }
 
 /* Whose the new file is, and its permission bits: those of the old one, if that is a file. What is kept
  * aside may not even be readable. */
-static int look_at_old(int folder, const char *name, bool keeps, struct stat *old, mode_t *mode)
+static int look_at_old(int folder, const char *name, bool keeps, const FileState *read, struct stat *old, mode_t *mode)
 {
     *mode = READ_AND_WRITE;
     bool is_there = fstatat(folder, name, old, keeps ? AT_SYMLINK_NOFOLLOW : 0) == 0;
@@ -221,7 +225,7 @@ static int look_at_old(int folder, const char *name, bool keeps, struct stat *ol
         return errno != ENOENT || fstat(folder, old) != 0 ? errno : 0;
     if (S_ISREG(old->st_mode))
         *mode = (old->st_mode & PERMISSION_BITS) | (keeps ? READ_AND_WRITE : 0);
-    return 0;
+    return fault_of_look(old, keeps, read);
 }
 
 /* A step to another name, which is refused with EEXIST where that is taken. */
@@ -299,11 +303,11 @@ void replacing_end(Replacing *it)
 }
 
 /* A first file is open to its owner alone, who is the folder's where root makes it. */
-int replacing_look(Replacing *it, bool keeps, size_t *bits)
+int replacing_look(Replacing *it, bool keeps, const FileState *read, size_t *bits)
 {
     struct stat old;
     mode_t mode;
-    int fault = look_at_old(it->folder, it->name, keeps, &old, &mode);
+    int fault = look_at_old(it->folder, it->name, keeps, read, &old, &mode);
     if (fault != 0)
         return fault;
     it->user = old.st_uid;
@@ -312,12 +316,14 @@ int replacing_look(Replacing *it, bool keeps, size_t *bits)
     return 0;
 }
 
+/* It mostly has this process's group, until it is given another one, and then the rights of that. */
 int replacing_create(Replacing *it, size_t bits)
 {
+    mode_t at_first = (mode_t)bits & ~(it->group != getegid() ? (mode_t)GROUPS_BITS : 0);
     int fault = make_room(it->folder, it->new_name);
     if (fault != 0)
         return fault;
-    it->file = openat(it->folder, it->new_name, O_WRONLY | O_CREAT | O_EXCL | O_CLOEXEC, (mode_t)bits);
+    it->file = openat(it->folder, it->new_name, O_WRONLY | O_CREAT | O_EXCL | O_CLOEXEC, at_first);
     return it->file < 0 ? errno : 0;
 }
 

@@ -45,9 +45,6 @@ int file_read(int folder, const char *name, bool maps, FileWanted *is_wanted, si
 
 void file_release(FileBytes *bytes);
 
-/* Makes a folder and its parents. It is not an error if it exists. */
-int folder_make(const char *folder);
-
 /* ---- the steps of a turn to change a file, one call of the system each: which comes when is decided by the proved calls of
  * a turn (dconfdb_calls.h) */
 
@@ -68,8 +65,9 @@ enum { SET_ASIDE = 512 };
 int replacing_begin(Replacing *it, int folder, const char *name);
 void replacing_end(Replacing *it);
 
-/* The permission bits that the new file is to have. What is to be set aside may be no file. */
-int replacing_look(Replacing *it, bool keeps, size_t *bits);
+/* The permission bits that the new file is to have. What is to be set aside may be no file. `read`: the state of what was read of the
+ * old one. EAGAIN: this is root, and another file has the name by now. */
+int replacing_look(Replacing *it, bool keeps, const FileState *read, size_t *bits);
 
 int replacing_create(Replacing *it, size_t bits);
 int replacing_append(const Replacing *it, const uint8_t *bytes, size_t len, size_t *count);

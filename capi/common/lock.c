@@ -4,7 +4,9 @@
 #define _FILE_OFFSET_BITS 64
 #include "lock.h"
 #include "dconfdb_calls.h"
-#include "files.h"
+#include "folders.h"
+#include "held.h"
+#include "tries.h"
 
 #include <errno.h>
 #include <fcntl.h>
@@ -13,27 +15,29 @@
 #include <sys/stat.h>
 #include <unistd.h>
 
-/* Others may wait in the kernel, which hands the lock on to them within some tens of microseconds: who tries seldom
- * hardly ever meets such a moment. So these are 0.2 milliseconds. */
-enum { PAUSE = 200000 };
-
 /* How often others may make or remove the lock's file while it is being opened. */
 enum { MOST_TRIES = 100 };
 
-enum { READ_AND_WRITE = 0600, PERMISSION_BITS = 0777, MILLISECOND = 1000000, SECOND = 1000 };
+/* How often others may fork while it is being opened, until that counts as a moment in which others have the lock. */
+enum { MOST_FORKS = 10 };
+
+enum { READ_AND_WRITE = 0600, PERMISSION_BITS = 0777 };
 
 /* Opened to be written, since a network's file system can lock no other file. No link is followed, and no pipe waited
  * for. */
 enum { HOW = O_RDWR | O_CLOEXEC | O_NOFOLLOW | O_NONBLOCK | O_NOCTTY };
 
-/* ---- a child of fork() has each lock too, and would keep it when its parent is killed: it closes what it has of it */
+/* ---- a child of fork() has each lock too, and would keep it when its parent is killed: it closes what it has of it. Who forks waits
+ * for no file: the list has what is open, and is held for moments. Only what is in it is locked. */
 
 static pthread_mutex_t listing = PTHREAD_MUTEX_INITIALIZER;
 static FolderLock *first;
+static unsigned long forks; /* how many there were */
 
 static void before_fork(void)
 {
     pthread_mutex_lock(&listing);
+    forks++;
 }
 
 static void after_fork(void)
@@ -41,13 +45,17 @@ static void after_fork(void)
     pthread_mutex_unlock(&listing);
 }
 
+static void close_both(const FolderLock *lock)
+{
+    close(lock->file);
+    close(lock->folder);
+}
+
 /* LOCK_UN would take it from the parent. */
 static void after_fork_in_child(void)
 {
-    for (const FolderLock *at = first; at; at = at->next) {
-        close(at->file);
-        close(at->folder);
-    }
+    for (const FolderLock *at = first; at; at = at->next)
+        close_both(at);
     first = NULL;
     pthread_mutex_unlock(&listing);
 }
@@ -57,14 +65,37 @@ static void heed_forks(void)
     pthread_atfork(before_fork, after_fork, after_fork_in_child);
 }
 
-/* `listing` is held. */
+static unsigned long forks_up_to_now(void)
+{
+    pthread_mutex_lock(&listing);
+    unsigned long now = forks;
+    pthread_mutex_unlock(&listing);
+    return now;
+}
+
+/* Lists what was opened since there were so many forks. False: a child that was made meanwhile may have it, unlisted. It is harmless
+ * there as long as it isn't locked here. */
+static bool list(FolderLock *lock, unsigned long before)
+{
+    pthread_mutex_lock(&listing);
+    bool is_ours = forks == before;
+    if (is_ours) {
+        lock->next = first;
+        first = lock;
+    }
+    pthread_mutex_unlock(&listing);
+    return is_ours;
+}
+
 static void unlist(const FolderLock *lock)
 {
+    pthread_mutex_lock(&listing);
     FolderLock **at = &first;
     while (*at && *at != lock)
         at = &(*at)->next;
     if (*at)
         *at = lock->next;
+    pthread_mutex_unlock(&listing);
 }
 
 /* ---- the lock's file */
@@ -128,22 +159,25 @@ static int open_file(int folder, int *file)
     return fault;
 }
 
-/* Opens both. No child of fork() has them unlisted: who forks waits as long as this takes. */
+static int open_unlisted(const char *folder, FolderLock *lock)
+{
+    int fault = folder_open(folder, &lock->folder);
+    if (fault == 0 && (fault = open_file(lock->folder, &lock->file)) != 0)
+        close(lock->folder);
+    return fault;
+}
+
+/* Opens both, and lists them. What a child of fork() may have, too, is opened anew: the lock would be that child's, too. */
 static int open_both(const char *folder, FolderLock *lock)
 {
-    int fault = 0;
-    pthread_mutex_lock(&listing);
-    lock->folder = open(folder, O_RDONLY | O_DIRECTORY | O_CLOEXEC);
-    if (lock->folder < 0)
-        fault = errno;
-    else if ((fault = open_file(lock->folder, &lock->file)) != 0)
-        close(lock->folder);
-    if (fault == 0) {
-        lock->next = first;
-        first = lock;
+    for (int i = 0; i < MOST_FORKS; i++) {
+        unsigned long before = forks_up_to_now();
+        int fault = open_unlisted(folder, lock);
+        if (fault != 0 || list(lock, before))
+            return fault;
+        close_both(lock);
     }
-    pthread_mutex_unlock(&listing);
-    return fault;
+    return EWOULDBLOCK;
 }
 
 /* ---- the wait */
@@ -153,35 +187,25 @@ static bool is_same(const struct stat *one, const struct stat *other)
     return one->st_dev == other->st_dev && one->st_ino == other->st_ino;
 }
 
-/* Whether the names still stand for what was opened: either may be another's after the wait. */
-static bool is_named(const char *folder, const FolderLock *lock)
+/* Whether the names still stand for what was opened: either may be another's after the wait. `links`: how many names the lock's
+ * file has. */
+static bool is_named(const char *folder, const FolderLock *lock, nlink_t *links)
 {
     struct stat named, opened;
     if (stat(folder, &named) != 0 || fstat(lock->folder, &opened) != 0 || !is_same(&named, &opened))
         return false;
-    return fstatat(lock->folder, LOCK_NAME, &named, AT_SYMLINK_NOFOLLOW) == 0 && fstat(lock->file, &opened) == 0
-        && is_same(&named, &opened);
+    if (fstatat(lock->folder, LOCK_NAME, &named, AT_SYMLINK_NOFOLLOW) != 0 || fstat(lock->file, &opened) != 0)
+        return false;
+    *links = opened.st_nlink;
+    return is_same(&named, &opened);
 }
 
 /* A lock that is waited for. */
 typedef struct {
     const char *folder;
     bool has_end, is_open;
-    struct timespec began;
     FolderLock *lock;
 } Awaited;
-
-/* The milliseconds since the wait began; none count where it has no end. */
-static uint64_t passed(const Awaited *awaited)
-{
-    struct timespec now;
-    if (!awaited->has_end)
-        return 0;
-    if (clock_gettime(CLOCK_MONOTONIC, &now) != 0)
-        return UINT64_MAX;
-    int64_t nanoseconds = (int64_t)(now.tv_sec - awaited->began.tv_sec) * SECOND * MILLISECOND + (now.tv_nsec - awaited->began.tv_nsec);
-    return (uint64_t)(nanoseconds / MILLISECOND);
-}
 
 static int open_awaited(Awaited *awaited)
 {
@@ -210,69 +234,55 @@ static void close_awaited(Awaited *awaited)
     awaited->is_open = false;
 }
 
-/* What became of a try, as dconfdb_wait_answered has it. */
-static uint32_t try_it(Awaited *awaited, int *fault)
+/* A file with another name may be anybody's, and what is noted in it would be written there, too: it loses the lock's name, while it is
+ * locked, so that nobody else has his turn by it. */
+static uint32_t take_name(Awaited *awaited, int *fault)
 {
+    *fault = unlinkat(awaited->lock->folder, LOCK_NAME, 0) != 0 && errno != ENOENT ? errno : 0;
+    close_awaited(awaited);
+    return *fault != 0 ? DCONFDB_WAIT_FAILED : DCONFDB_WAIT_MOVED;
+}
+
+static uint32_t try_once(Awaited *awaited, int *fault)
+{
+    nlink_t links = 0;
     *fault = awaited->is_open ? 0 : open_awaited(awaited);
     if (*fault == 0)
         *fault = lock_it(awaited);
     if (*fault != 0)
         return *fault == EWOULDBLOCK ? DCONFDB_WAIT_TAKEN : DCONFDB_WAIT_FAILED;
-    if (is_named(awaited->folder, awaited->lock))
-        return DCONFDB_WAIT_GOT;
+    if (is_named(awaited->folder, awaited->lock, &links))
+        return links > 1 ? take_name(awaited, fault) : DCONFDB_WAIT_GOT;
     close_awaited(awaited);
     return DCONFDB_WAIT_MOVED;
 }
 
-/* Goes by the proved steps. */
-static int await(Awaited *awaited, uint32_t longest)
+/* What has moved is tried once more at once: in a wait of no time there is no other try. */
+static uint32_t try_it(void *it, int *fault)
 {
-    static const struct timespec pause = {0, PAUSE};
-    DconfdbWait wait = {0};
-    DconfdbNext next = {0, 0};
-    uint32_t answer = DCONFDB_WAIT_GOT;
-    int fault = 0;
-    dconfdb_wait_begin(&wait, longest);
-    for (;;) {
-        dconfdb_wait_next(&wait, &next);
-        switch (next.kind) {
-        case DCONFDB_WAIT_TRY:
-            answer = try_it(awaited, &fault);
-            break;
-        case DCONFDB_WAIT_PAUSE:
-            nanosleep(&pause, NULL);
-            break;
-        case DCONFDB_WAIT_HAD:
-            return 0;
-        case DCONFDB_WAIT_BUSY:
-            return EWOULDBLOCK;
-        default:
-            return (int)next.number;
-        }
-        dconfdb_wait_answered(&wait, answer, answer == DCONFDB_WAIT_GOT ? 0 : passed(awaited), (uint32_t)fault);
-    }
+    uint32_t answer = try_once(it, fault);
+    return answer == DCONFDB_WAIT_MOVED ? try_once(it, fault) : answer;
 }
 
 int folder_lock(const char *folder, int milliseconds, FolderLock *lock)
 {
     static pthread_once_t once = PTHREAD_ONCE_INIT;
     Awaited awaited = {.folder = folder, .has_end = milliseconds != WITHOUT_END, .lock = lock};
+    int cancels = hold_cancellation();
     pthread_once(&once, heed_forks);
-    if (clock_gettime(CLOCK_MONOTONIC, &awaited.began) != 0)
-        return errno;
-    int fault = await(&awaited, awaited.has_end ? (uint32_t)milliseconds : UINT32_MAX);
+    int fault = try_for((uint32_t)milliseconds, awaited.has_end, try_it, &awaited);
     if (fault != 0)
         close_awaited(&awaited);
+    cancel_as_before(cancels);
     return fault;
 }
 
 void folder_unlock(FolderLock *lock)
 {
-    pthread_mutex_lock(&listing);
-    unlist(lock);
+    int cancels = hold_cancellation();
     /* Closing is not enough: a child that was made without fork() has the descriptors too. */
     flock(lock->file, LOCK_UN);
-    close(lock->file);
-    close(lock->folder);
-    pthread_mutex_unlock(&listing);
+    unlist(lock);
+    close_both(lock);
+    cancel_as_before(cancels);
 }

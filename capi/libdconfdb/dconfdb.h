@@ -33,27 +33,31 @@
  * /etc/dconfdb/profiles. If that can't be read, no other profile takes its place. A profile names
  * one database per line, the one that is asked first at the top: `user-db:NAME` is the file NAME.user
  * in the folder, `system-db:NAME` is NAME.db in the folder, and `file-db:PATH` is the file PATH,
- * relative to the folder. A NAME has no `/`. A `#` starts a comment, even inside a PATH; blanks at
- * either end of a line are dropped. A database whose file doesn't exist (ENOENT) is empty. The program
+ * relative to the folder. But if no folder is given, a `system-db:NAME` of /etc/dconfdb/profile is
+ * /etc/dconfdb/NAME.db, beside that profile. A NAME has no `/`. A `#` starts a comment, even inside a
+ * PATH; blanks at either end of a line are dropped. A database whose file doesn't exist (ENOENT) is empty. The program
  * dconfdb, run in the folder, sees the same store if the folder has a file `profile` and the
  * environment names none.
  *
  * SNAPSHOTS. A snapshot is what the files held when they were looked at. It never changes. Each
- * file is the old one or the new one, complete; the files are looked at one after another. Everything
+ * file that is replaced by a rename is the old one or the new one, complete; of one that is overwritten
+ * in place it may be something in between. The files are looked at one after another. Everything
  * that a snapshot lends (values, texts) is valid until its last reference is dropped, even after the
  * store is closed, and after the files are replaced or removed.
  *
  * THREADS. Any thread may call anything at any time, on the same store, too. Nothing here starts a
  * thread. An iterator is for one thread at a time. A store must not be closed while another thread
  * uses it. After fork() a child may read and drop snapshots; it must open a store of its own before it
- * does anything else. No call may be made in a signal handler.
+ * does anything else. fork() waits for no file. No call is a cancellation point: a thread that is
+ * cancelled in a call ends after it, even if the call waits. No call may be made in a signal handler.
  *
  * STACK. A call uses up to 256 KiB of its thread's stack, most of it for deeply nested values. A
  * thread with less may die in a call.
  *
  * ERRORS. Calls that may fail take a DconfdbError, or NULL if you don't need it. Make it with
  * DCONFDB_ERROR_INIT. A call that succeeds leaves it as it was. A call that fails leaves everything
- * else it would write to (`changed`, `size`) as it was. Nothing here ends the process, or prints.
+ * else it would write to (`changed`, `size`) as it was. Texts are English in every locale. Nothing here
+ * ends the process, or prints: a change beyond RLIMIT_FSIZE fails with EFBIG, and sends no SIGXFSZ.
  *
  * BAD FILES. dconfdb_store_open refuses a store if a database, or a line of its profile, is bad.
  * dconfdb_store_open_lenient opens it, and a bad file doesn't affect the others. A database that is
@@ -177,7 +181,7 @@ typedef struct DconfdbError {
     int errnum;             /* errno if the code is DCONFDB_ERROR_FILE, else 0 */
     size_t edit;            /* the index of the bad edit, for BAD_PATH to VALUE_TOO_LARGE, BAD_VALUE, CHANGED; else 0 */
     size_t database;        /* the index of the database whose file is bad, else 0 */
-    size_t line;            /* the profile's bad line, from 1, for BAD_LINE to TOO_MANY; else 0 */
+    size_t line;            /* the profile's first bad line, from 1, for NOT_TEXT to TOO_MANY; else 0, also of a text that is parsed */
     char text[512];         /* what failed, and for which file or key; if too long, it ends in "..." */
 } DconfdbError;
 
@@ -456,16 +460,19 @@ typedef struct DconfdbEdit {
  * not bytes. What stands there may be another program's, which did not wait for the disk: the file and its
  * folder are synced then, unless it is known that who wrote it did so.
  *
- * The new file has the permission bits of the old one. A first file is its owner's alone (0600),
+ * The new file has the permission bits of the old one, and its group if the caller is in that; else
+ * its own group has no more rights than all others have. A first file is its owner's alone (0600),
  * whatever the umask. If root makes the change, the file keeps its owner and group; a first file, and
- * each folder that is made, gets those of the folder that it is in.
+ * each folder that is made, gets those of the folder that it is in. Root doesn't follow a link in a
+ * folder that others own or may write, on the way to the store's folder (EACCES).
  *
  * The new file has no locks: a change drops those that the old one had. So a site's database must
  * not be anybody's user-db.
  *
  * A missing folder is made, even if the change is then refused. Programs that change the file take
  * turns with flock() on the file `.lock` in its folder, which is created if it is missing; only those
- * who may write in the folder may open it. This call waits at most ten seconds for that lock, or as long
+ * who may write in the folder may open it. If it has another name, too, it is replaced in a turn, and
+ * the other name's file stays as it was. This call waits at most ten seconds for that lock, or as long
  * as the store's options say; then it waits, without a limit, for threads that refresh the same store. The
  * file says which keys of which database were set last, and when: so a GSettings program, whose sets may
  * wait, never overwrites an edit with an older set.

@@ -1,5 +1,5 @@
 /* Errors: their fields, texts and names; and the library's version. */
-#define _POSIX_C_SOURCE 200809L
+#define _GNU_SOURCE
 #include "errors.h"
 
 #include <errno.h>
@@ -46,10 +46,24 @@ typedef struct {
     char text[128];
 } Words;
 
+/* strerror_r() would ask the environment for a language, which another thread may be changing. */
+static const char *untranslated(int fault)
+{
+#if defined(__GLIBC__) && __GLIBC_PREREQ(2, 32)
+    return strerrordesc_np(fault);
+#else
+    (void)fault;
+    return NULL;
+#endif
+}
+
 static Words words_of(int fault)
 {
     Words words;
-    if (strerror_r(fault, words.text, sizeof words.text) != 0)
+    const char *text = untranslated(fault);
+    if (text)
+        snprintf(words.text, sizeof words.text, "%s", text);
+    else
         snprintf(words.text, sizeof words.text, "error %d", fault);
     return words;
 }

@@ -2,6 +2,7 @@
 #define _GNU_SOURCE
 #include "notices.h"
 #include "errors.h"
+#include "held.h"
 #include "locked.h"
 
 #include <errno.h>
@@ -92,6 +93,7 @@ static bool begin(Notices *it, const DconfdbStore *store)
 int dconfdb_store_fd(DconfdbStore *store, DconfdbError *error)
 {
     Notices *it = notices_of(store);
+    int cancels = hold_cancellation();
     pthread_mutex_lock(&it->lock);
     if (!it->told)
         it->told = dconfdb_store_snapshot(store);
@@ -101,6 +103,7 @@ int dconfdb_store_fd(DconfdbStore *store, DconfdbError *error)
     }
     int polled = it->polled;
     pthread_mutex_unlock(&it->lock);
+    cancel_as_before(cancels);
     return polled;
 }
 

@@ -4,9 +4,11 @@
 
 #include "dconfdb.h"
 
-/* Both are absolute. Without a profile it is the folder's, or that of all users. */
+/* Both are absolute. Without a profile it is the folder's, or that of all users. `is_given`: the caller names the folder, and not the
+ * environment. */
 typedef struct {
     char *folder, *profile;
+    bool is_given;
 } StorePlace;
 
 /* The folder, or that of the environment if NULL is given; and the profile that $DCONFDB_PROFILE names. False: it

@@ -8,6 +8,7 @@
 #include "errors.h"
 #include "faults.h"
 #include "files.h"
+#include "held.h"
 #include "locked.h"
 #include "notices.h"
 #include "order.h"
@@ -55,6 +56,9 @@ struct DconfdbSnapshot {
 
 /* A file and a profile have at most so many bytes, and a profile so many databases. */
 enum { LARGEST_PROFILE = 16777216, MOST_DATABASES = 64, ROOM_OF_PASSWD = 65536, ROOM_OF_FATE = 128 };
+
+/* What dconfdb_profile calls a database of the system. */
+enum { SYSTEMS = 1 };
 #define LARGEST_FILE 4294967295U
 
 static const DconfdbOptions strict = DCONFDB_OPTIONS_INIT, lenient = {sizeof lenient, true, false, DCONFDB_USUAL_WAIT};
@@ -547,13 +551,13 @@ void place_release(StorePlace *place)
 {
     free(place->folder);
     free(place->profile);
-    *place = (StorePlace){NULL, NULL};
+    *place = (StorePlace){NULL, NULL, false};
 }
 
 bool place_find(const char *folder, StorePlace *place, DconfdbError *error)
 {
     const char *of = folder, *name = variable("DCONFDB_PROFILE");
-    *place = (StorePlace){folder ? absolute(folder) : folder_by_default(&of), NULL};
+    *place = (StorePlace){folder ? absolute(folder) : folder_by_default(&of), NULL, folder != NULL};
     if (!place->folder)
         return refuse_folder(error, errno, of);
     place->profile = name ? profile_named(name) : NULL;
@@ -569,7 +573,7 @@ static bool find_place(const char *folder, StorePlace *place, DconfdbError *erro
 {
     if (!folder)
         return place_find(NULL, place, error);
-    *place = (StorePlace){absolute(folder), NULL};
+    *place = (StorePlace){absolute(folder), NULL, true};
     return place->folder || refuse_folder(error, errno, folder);
 }
 
@@ -599,9 +603,18 @@ static bool read_profile(DconfdbStore *store, const char *name, FileBytes *text,
     return true;
 }
 
+static const char everyones[] = "/etc/dconfdb/profile", everyones_folder[] = "/etc/dconfdb";
+
+/* Where a profile's databases of the system are: in the store's folder. But those of the profile of all users stand beside it, and not
+ * in each user's own folder, unless the caller names the folder. */
+static const char *systems_folder(const DconfdbStore *store, const char *profile)
+{
+    return strcmp(profile, everyones) == 0 && !store->place.is_given ? everyones_folder : store->place.folder;
+}
+
 /* The file of a database, or NULL. A name with a zero byte is one of no file. The path of a file-db
  * alone may start with `/`. */
-static char *file_of(const DconfdbStore *store, const DconfdbName *database)
+static char *file_of(const DconfdbStore *store, const char *profile, const DconfdbName *database)
 {
     static const char *const ends[] = {".user", ".db", ""};
     errno = EINVAL;
@@ -612,10 +625,22 @@ static char *file_of(const DconfdbStore *store, const DconfdbName *database)
     if (!name || name[0] == '/')
         return name;
     char *with_end = joined(name, ends[database->kind], "");
-    char *file = with_end ? joined(store->place.folder, "/", with_end) : NULL;
+    const char *folder = database->kind == SYSTEMS ? systems_folder(store, profile) : store->place.folder;
+    char *file = with_end ? joined(folder, "/", with_end) : NULL;
     free(name);
     free(with_end);
     return file;
+}
+
+/* The databases that a profile names, where every line has to be good. Of a text that isn't UTF-8 the first bad line is told, as where bad
+ * lines are passed over. */
+static uint32_t read_all_names(const uint8_t *text, size_t len, DconfdbName *names, size_t *count, size_t *line)
+{
+    uint32_t fault = DCONFDB_OK, number = dconfdb_profile(text, len, names, MOST_DATABASES, count, line);
+    if (number != DCONFDB_NOT_TEXT)
+        return number;
+    number = dconfdb_profile_lines(text, len, names, MOST_DATABASES, count, &fault, line);
+    return number == DCONFDB_OK ? fault : number;
 }
 
 /* The databases that a profile names; of a lenient store those of its good lines, where the first bad one
@@ -625,7 +650,7 @@ static uint32_t read_names(DconfdbStore *store, const char *profile, const uint8
 {
     uint32_t fault = DCONFDB_OK;
     if (!store->options.is_lenient)
-        return dconfdb_profile(text, len, names, MOST_DATABASES, count, line);
+        return read_all_names(text, len, names, count, line);
     uint32_t number = dconfdb_profile_lines(text, len, names, MOST_DATABASES, count, &fault, line);
     if (number == DCONFDB_OK && fault != DCONFDB_OK)
         refuse_call(profile_fault_of(store), fault, profile, (Place){.line = *line});
@@ -642,7 +667,7 @@ static bool name_files(DconfdbStore *store, const char *profile, const uint8_t *
     if (number != DCONFDB_OK)
         return refuse_call(error, number, profile, (Place){.line = line});
     for (size_t i = 0; i < count; i++) {
-        char *file = file_of(store, &names[i]);
+        char *file = file_of(store, profile, &names[i]);
         if (!file)
             return refuse_file(error, errno, profile, (Place){.database = i});
         store->files[store->count++] = file;
@@ -651,8 +676,6 @@ static bool name_files(DconfdbStore *store, const char *profile, const uint8_t *
         store->user_file = store->files[0];
     return true;
 }
-
-static const char everyones[] = "/etc/dconfdb/profile";
 
 /* The databases of the profile that is named. Where that can't be had nothing takes its place. */
 static bool find_files_named(DconfdbStore *store, const char *name, DconfdbError *error)
@@ -718,13 +741,17 @@ static bool is_as_said(const Look *look, const Part *old, size_t at)
     return file_look(look->store->files[at], &state) == 0 && is_as_it_was_read(old, &state);
 }
 
-/* In a lenient store a file counts as nothing if it is its own fault that it can't be read. */
+/* In a lenient store a file counts as nothing if it is its own fault that it can't be read. Cancellation is held back here, since a look
+ * that reads nothing is no cancellation point; and who opens a store has held it back. */
 static bool read_at(Look *look, size_t at, DconfdbError *error)
 {
     Asked asked = asked_of(look, at);
-    bool is_in_turn = asked.turn != NO_FOLDER;
+    bool is_in_turn = asked.turn != NO_FOLDER, is_held = !look->store->now;
+    int cancels = is_held ? 0 : hold_cancellation();
     int fault = file_read(asked.turn, is_in_turn ? strrchr(asked.name, '/') + 1 : asked.name, asked.maps, may_be_database,
                           LARGEST_FILE, &look->bytes, &look->state);
+    if (!is_held)
+        cancel_as_before(cancels);
     look->fault.code = DCONFDB_ERROR_NONE;
     if (fault == 0)
         return true;
@@ -841,7 +868,7 @@ static DconfdbStore *store_at(const StorePlace *place, const DconfdbOptions *opt
     pthread_mutex_init(&store->handing, NULL);
     notices_begin(&store->notices);
     store->options = *options;
-    store->place = (StorePlace){folder, profile};
+    store->place = (StorePlace){folder, profile, place->is_given};
     return store;
 }
 
@@ -857,10 +884,13 @@ static DconfdbStore *open_at(const StorePlace *place, const DconfdbOptions *opti
 DconfdbStore *dconfdb_store_open_with(const char *folder, const DconfdbOptions *options, DconfdbError *error)
 {
     StorePlace place;
-    if (!find_place(folder, &place, error))
-        return NULL;
-    DconfdbStore *store = open_at(&place, options, error);
-    place_release(&place);
+    DconfdbStore *store = NULL;
+    int cancels = hold_cancellation();
+    if (find_place(folder, &place, error)) {
+        store = open_at(&place, options, error);
+        place_release(&place);
+    }
+    cancel_as_before(cancels);
     return store;
 }
 
@@ -942,11 +972,14 @@ char *place_files(const StorePlace *place, bool *are_all, DconfdbError *error)
 char *dconfdb_store_files(const char *folder, size_t *size, DconfdbError *error)
 {
     StorePlace place;
+    char *files = NULL;
     bool are_all = true;
-    if (!find_place(folder, &place, error))
-        return NULL;
-    char *files = files_at(&place, size, &are_all, error);
-    place_release(&place);
+    int cancels = hold_cancellation();
+    if (find_place(folder, &place, error)) {
+        files = files_at(&place, size, &are_all, error);
+        place_release(&place);
+    }
+    cancel_as_before(cancels);
     return files;
 }
 
@@ -964,6 +997,7 @@ void dconfdb_store_close(DconfdbStore *store)
 {
     if (!store)
         return;
+    int cancels = hold_cancellation();
     notices_end(&store->notices);
     forget_seen(store);
     order_end(&store->order);
@@ -975,6 +1009,7 @@ void dconfdb_store_close(DconfdbStore *store)
     pthread_mutex_destroy(&store->refreshing);
     pthread_mutex_destroy(&store->handing);
     free(store);
+    cancel_as_before(cancels);
 }
 
 const StorePlace *place_of(const DconfdbStore *store)
@@ -1540,8 +1575,9 @@ static bool read_old(Changing *it, size_t *bits)
     if (!it->order)
         return false;
     atomic_store(&it->store->is_amid, true);
-    const Fault *bad = it->store->now->parts[0]->fault;
-    int fault = replacing_look(it->replacing, bad && !bad->aside, bits);
+    const Part *old = it->store->now->parts[0];
+    const Fault *bad = old->fault;
+    int fault = replacing_look(it->replacing, bad && !bad->aside, &old->state, bits);
     return fault == 0 || refuse_file(it->error, fault, it->store->user_file, nowhere);
 }
 
@@ -1707,6 +1743,7 @@ static bool end(Changing *it, uint32_t outcome, uint32_t fault)
 static bool change_in_turn(DconfdbStore *store, const FolderLock *lock, Asking *asking, DconfdbError *error)
 {
     Replacing replacing;
+    HeldSignal held;
     Changing it = {.store = store, .lock = lock, .asking = asking, .error = error, .replacing = &replacing};
     DconfdbTurn turn = {.len = 0};
     DconfdbStep step = {.kind = DCONFDB_TURN_LOCK};
@@ -1714,6 +1751,7 @@ static bool change_in_turn(DconfdbStore *store, const FolderLock *lock, Asking *
     if (fault != 0)
         return refuse_file(error, fault, store->user_file, nowhere);
     replacing.is_unsynced = store->options.is_unsynced;
+    hold_limit_signal(&held);
     pthread_mutex_lock(&store->refreshing);
     it.before = dconfdb_snapshot_ref(store->now);
     dconfdb_turn_begin(&turn);
@@ -1726,6 +1764,7 @@ static bool change_in_turn(DconfdbStore *store, const FolderLock *lock, Asking *
     atomic_store(&store->is_amid, false);
     dconfdb_snapshot_unref(it.before);
     pthread_mutex_unlock(&store->refreshing);
+    release_limit_signal(&held);
     replacing_end(&replacing);
     return done;
 }
@@ -1825,7 +1864,10 @@ static bool change_if(DconfdbStore *store, const FolderLock *lock, const Dconfdb
 bool locked_change(DconfdbStore *store, const FolderLock *lock, const DconfdbEdit *edits, const Made *made, size_t count,
                    DconfdbError *error)
 {
-    return change_if(store, lock, NULL, edits, made, count, error);
+    int cancels = hold_cancellation();
+    bool done = change_if(store, lock, NULL, edits, made, count, error);
+    cancel_as_before(cancels);
+    return done;
 }
 
 /* Whether there is nothing that could be changed: no user's database, or no file of it, and nothing is set. So no
@@ -1842,8 +1884,7 @@ static bool has_nothing(const DconfdbStore *store, const DconfdbEdit *edits, siz
     return file_look(store->user_file, &state) == 0 && !state.is_there;
 }
 
-bool dconfdb_store_change(DconfdbStore *store, const DconfdbSnapshot *expected, const DconfdbEdit *edits, size_t count,
-                          DconfdbError *error)
+static bool change(DconfdbStore *store, const DconfdbSnapshot *expected, const DconfdbEdit *edits, size_t count, DconfdbError *error)
 {
     FolderLock lock;
     int wait = store->options.longest_wait;
@@ -1854,5 +1895,14 @@ bool dconfdb_store_change(DconfdbStore *store, const DconfdbSnapshot *expected, 
         return refuse_lock(store, fault, error);
     bool done = change_if(store, &lock, expected, edits, NULL, count, error);
     folder_unlock(&lock);
+    return done;
+}
+
+bool dconfdb_store_change(DconfdbStore *store, const DconfdbSnapshot *expected, const DconfdbEdit *edits, size_t count,
+                          DconfdbError *error)
+{
+    int cancels = hold_cancellation();
+    bool done = change(store, expected, edits, count, error);
+    cancel_as_before(cancels);
     return done;
 }

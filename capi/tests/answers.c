@@ -1,6 +1,6 @@
 /* Answers as the program does, for values of the types s, i, u and b. `answers FOLDER ask` reads
  * lines `WORD PATH`, of the words below. `answers FOLDER edit` reads edits, a line each, and makes
- * all or none: `s PATH TEXT`, `i PATH NUMBER`, `reset PATH`. */
+ * all or none: `s PATH TEXT`, `i PATH NUMBER`, `reset PATH`. An empty FOLDER is the environment's. */
 #include "try.h"
 
 #include <stdint.h>
@@ -139,7 +139,7 @@ int main(int argc, char **argv)
 {
     int status = 0;
     TRY(argc == 3);
-    DconfdbStore *store = dconfdb_store_open(argv[1], &error);
+    DconfdbStore *store = dconfdb_store_open(argv[1][0] ? argv[1] : NULL, &error);
     if (!store) {
         printf("%s\n", error.text);
         return 2;

@@ -1,10 +1,14 @@
 /* Opens a store again and again, and names its files, while another thread changes the environment:
  * environment FOLDER COUNT. It is linked with the static library, and with --wrap of getenv: where a folder
  * is given that is never called, and where none is it is, so that the count is seen to work. */
+#define _GNU_SOURCE
 #include "try.h"
 
+#include <errno.h>
+#include <locale.h>
 #include <pthread.h>
 #include <stdatomic.h>
+#include <sys/mman.h>
 #include <unistd.h>
 
 char *__real_getenv(const char *name);
@@ -44,10 +48,25 @@ static void uses(const char *folder)
     dconfdb_store_close(store);
 }
 
+/* Whoever looks at the environment now dies of it, the C library too: it would look for the language of an error's text. */
+static void tries_without(const char *folder)
+{
+    static DconfdbError error = DCONFDB_ERROR_INIT;
+    char **kept = environ, **none = mmap(NULL, 4096, PROT_NONE, MAP_PRIVATE | MAP_ANONYMOUS, -1, 0);
+    TRY(setlocale(LC_ALL, "C.UTF-8") && none != MAP_FAILED);
+    environ = none;
+    uses(folder);
+    DconfdbStore *store = dconfdb_store_open("/etc/passwd/no/folder", &error);
+    environ = kept;
+    TRY(!store && error.errnum == ENOTDIR && strstr(error.text, ": Not a directory"));
+}
+
 int main(int argc, char **argv)
 {
     pthread_t thread;
-    TRY(argc == 3 && setenv("DCONFDB_STORE", argv[1], 1) == 0);
+    TRY(argc == 3);
+    tries_without(argv[1]);
+    TRY(setenv("DCONFDB_STORE", argv[1], 1) == 0);
     uses(NULL);
     TRY(atomic_exchange(&asked, 0) > 0);
     TRY(pthread_create(&thread, NULL, sets, NULL) == 0);

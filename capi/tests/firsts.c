@@ -1,11 +1,15 @@
 /* Whose a file is that the library makes, who may open its lock, and what it reads of one that is no
  * database: firsts FOLDER. It is tests/library's store, as capi/tests/calls.c says. */
+#define _GNU_SOURCE
 #define _FILE_OFFSET_BITS 64
 #include "try.h"
 
 #include <errno.h>
 #include <fcntl.h>
+#include <grp.h>
+#include <sys/file.h>
 #include <sys/stat.h>
+#include <sys/wait.h>
 #include <time.h>
 #include <unistd.h>
 
@@ -13,11 +17,13 @@ enum { NOBODY = 65534 };
 
 static DconfdbError error = DCONFDB_ERROR_INIT;
 
-/* Sets a key in the store of a folder. */
+/* Sets a key in the store of a folder to what it wasn't. */
 static bool sets(const char *folder)
 {
+    static char text[] = "value 0";
+    text[sizeof text - 2]++;
     DconfdbStore *store = dconfdb_store_open(folder, &error);
-    DconfdbEdit edit = sets_text("/key", "value");
+    DconfdbEdit edit = sets_text("/key", text);
     bool done = store && dconfdb_store_change(store, NULL, &edit, 1, &error);
     dconfdb_store_close(store);
     return done;
@@ -81,6 +87,79 @@ static void tries_locks(void)
     TRY(chmod("theirs", 0770) == 0 && unlink("theirs/.lock") == 0 && sets("theirs") && is_of("theirs/.lock", NOBODY, 0660));
 }
 
+/* ---- `.lock` with another name is anybody's file: nothing is written into it, and its lock is not held. */
+
+static bool is_letter(const char *file)
+{
+    char text[64] = "";
+    FILE *letter = fopen(file, "r");
+    TRY(letter && fread(text, 1, sizeof text - 1, letter) > 0 && fclose(letter) == 0);
+    return strcmp(text, "a letter\n") == 0;
+}
+
+static bool sets_soon(const char *folder, int wait)
+{
+    DconfdbOptions options = DCONFDB_OPTIONS_INIT;
+    options.longest_wait = wait;
+    DconfdbStore *store = dconfdb_store_open_with(folder, &options, &error);
+    DconfdbEdit edit = sets_text("/soon", wait > 0 ? "value" : "at once");
+    bool done = store && dconfdb_store_change(store, NULL, &edit, 1, &error);
+    dconfdb_store_close(store);
+    return done;
+}
+
+static void tries_second_names(void)
+{
+    FILE *letter = fopen("letter", "w");
+    TRY(letter && fputs("a letter\n", letter) >= 0 && fclose(letter) == 0);
+    int file = open("letter", O_RDONLY | O_CLOEXEC);
+    TRY(file >= 0 && (unlink(".lock") == 0 || errno == ENOENT) && link("letter", ".lock") == 0);
+    /* Others may have their turn by it. */
+    TRY(flock(file, LOCK_EX) == 0 && !sets_soon(".", 200) && error.code == DCONFDB_ERROR_BUSY && is_letter("letter"));
+    TRY(flock(file, LOCK_UN) == 0 && sets(".") && is_letter("letter") && flock(file, LOCK_EX | LOCK_NB) == 0);
+    TRY(is_there(".lock").st_nlink == 1 && is_there(".lock").st_ino != is_there("letter").st_ino && sets_soon(".", 200));
+    TRY(link(".lock", "backup") == 0 && sets_soon(".", 0) && is_there("backup").st_nlink == 1 && unlink("backup") == 0);
+    TRY(close(file) == 0 && unlink("letter") == 0);
+    unlink("me.user");
+}
+
+/* ---- the group is kept if the caller is in it; if he isn't, no other one has its rights */
+
+static void sets_as(uid_t user, gid_t group, gid_t more)
+{
+    pid_t child = fork();
+    int status;
+    TRY(child >= 0);
+    if (child == 0) {
+        TRY(setgroups(1, &more) == 0 && setgid(group) == 0 && setuid(user) == 0 && sets("shared"));
+        _exit(0);
+    }
+    TRY(waitpid(child, &status, 0) == child && status == 0);
+}
+
+static void tries_groups(void)
+{
+    static const struct {
+        uid_t owner;
+        gid_t more;
+        mode_t mode, made;
+        gid_t group;
+    } rows[] = {
+        {2000, 5000, 0660, 0660, 5000}, {2000, 5000, 0640, 0640, 5000}, {2001, 5000, 0666, 0666, 5000},
+        {2001, 5001, 0660, 0600, 100},  {2001, 5001, 0664, 0644, 100},  {2001, 5001, 0646, 0646, 100},
+    };
+    if (geteuid() != 0)
+        return;
+    TRY(chmod(".", 0755) == 0 && mkdir("shared", 0700) == 0 && chmod("shared", 0777) == 0 && sets("shared"));
+    for (size_t i = 0; i < sizeof rows / sizeof rows[0]; i++) {
+        TRY(chown("shared/user.user", rows[i].owner, 5000) == 0 && chmod("shared/user.user", rows[i].mode) == 0);
+        TRY(sets("shared") && is_there("shared/user.user").st_gid == 5000 && (is_there("shared/user.user").st_mode & 07777) == rows[i].mode);
+        sets_as(2001, 100, rows[i].more);
+        struct stat found = is_there("shared/user.user");
+        TRY(found.st_uid == 2001 && found.st_gid == rows[i].group && (found.st_mode & 07777) == rows[i].made);
+    }
+}
+
 static double seconds(void)
 {
     struct timespec now;
@@ -107,6 +186,8 @@ int main(int argc, char **argv)
     tries_modes();
     tries_owners();
     tries_locks();
+    tries_second_names();
+    tries_groups();
     tries_long("", 0, DCONFDB_ERROR_BAD_SIGNATURE);
     tries_long("GVariant\1\0\0", 12, DCONFDB_ERROR_BAD_VERSION);
     puts(geteuid() == 0 ? "what root writes is its owner's" : "what root writes isn't tried, since nobody here is root");

@@ -435,7 +435,10 @@ static void tries_profile(const char *text, DconfdbErrorCode code, size_t line, 
     DconfdbSnapshot *now = dconfdb_store_snapshot(store);
     bool is = dconfdb_store_profile_fault(store, &error), too = dconfdb_store_profile_fault(store, NULL);
     TRY(is == (code != 0) && too == is && (!is || (error.code == code && error.line == line)));
-    TRY(dconfdb_snapshot_databases(now) == count && (code == 0 || !dconfdb_store_open(".", NULL)));
+    /* A strict store says the same. */
+    DconfdbStore *as_well = dconfdb_store_open(".", &error);
+    TRY(dconfdb_snapshot_databases(now) == count && (as_well != NULL) == (code == 0) && (as_well || (error.code == code && error.line == line)));
+    dconfdb_store_close(as_well);
     TRY(locks(store, "/org/desk/size") && dconfdb_snapshot_is_writable(now, "/k"));
     dconfdb_snapshot_unref(now);
     dconfdb_store_close(store);

@@ -292,7 +292,8 @@ static void tries_profiles(void)
         size_t line;
         const char *words;
     } profiles[] = {
-        {"user-db:me\n\xff\n", DCONFDB_ERROR_NOT_TEXT, 0, "not UTF-8"},
+        {"user-db:me\n\xff\n", DCONFDB_ERROR_NOT_TEXT, 2, "not UTF-8"},
+        {"user-db:me\nsystem\n\xff\n", DCONFDB_ERROR_BAD_LINE, 2, "names no database"},
         {"user-db:me\n\nsystem\n", DCONFDB_ERROR_BAD_LINE, 3, "names no database"},
         {"user-db:/home/me\n", DCONFDB_ERROR_BAD_LINE, 1, "names no database"},
         {"service-db:keyfile/user\n", DCONFDB_ERROR_SERVICE_DB, 1, "service-db"},

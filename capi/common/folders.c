@@ -1,0 +1,243 @@
+/* Folders, opened and made. A path is gone through name by name, each below the descriptor of the folder before it: so what is
+ * made, synced and handed over is never another folder, which has its name by then. */
+#define _GNU_SOURCE
+#define _FILE_OFFSET_BITS 64
+#include "folders.h"
+
+#include <dirent.h>
+#include <errno.h>
+#include <fcntl.h>
+#include <limits.h>
+#include <stdbool.h>
+#include <stdio.h>
+#include <stdlib.h>
+#include <string.h>
+#include <sys/stat.h>
+#include <unistd.h>
+
+enum { OWN = 0700, WRITE_OF_OTHERS = 022, MOST_LINKS = 40, MOST_TRIES = 100 };
+
+/* Only gone through, not read. */
+enum { ON_THE_WAY = O_PATH | O_NOFOLLOW | O_CLOEXEC, TO_READ = O_RDONLY | O_DIRECTORY | O_CLOEXEC };
+
+static bool is_root(void)
+{
+    return geteuid() == 0;
+}
+
+/* ---- what is made */
+
+/* Opens what a descriptor is of, to be read or synced. */
+static int reopen(int folder, int *opened)
+{
+    *opened = openat(folder, ".", TO_READ);
+    return *opened < 0 ? errno : 0;
+}
+
+static int sync_folder(int folder)
+{
+    int opened, fault = reopen(folder, &opened);
+    if (fault != 0)
+        return fault;
+    if (fsync(opened) != 0)
+        fault = errno;
+    close(opened);
+    return fault;
+}
+
+/* A name that is none of its own, or that can't be told, counts. */
+static bool is_empty(int folder)
+{
+    int opened;
+    const struct dirent *name = NULL;
+    if (reopen(folder, &opened) != 0)
+        return false;
+    DIR *names = fdopendir(opened);
+    if (!names) {
+        close(opened);
+        return false;
+    }
+    errno = 0;
+    do
+        name = readdir(names);
+    while (name && (strcmp(name->d_name, ".") == 0 || strcmp(name->d_name, "..") == 0));
+    bool is = !name && errno == 0;
+    closedir(names);
+    return is;
+}
+
+/* The folder that root made in another's is that one's. He may have put another one in its place meanwhile, which root keeps, unless it
+ * is as the new one: root's, there, and empty. Such a one he could have removed and made himself. */
+static int hand_over(int made, const struct stat *above)
+{
+    struct stat found;
+    if (fstat(made, &found) != 0)
+        return errno;
+    if (found.st_uid != 0 || found.st_dev != above->st_dev || !is_empty(made))
+        return EACCES;
+    return fchownat(made, "", above->st_uid, above->st_gid, AT_EMPTY_PATH) != 0 ? errno : 0;
+}
+
+/* Makes a folder with a name that nobody has. */
+static int make_unnamed(int above, char *name, size_t size)
+{
+    int fault = EEXIST;
+    for (int n = 0; fault == EEXIST && n < MOST_TRIES; n++) {
+        snprintf(name, size, ".dconfdb-%ld-%d", (long)getpid(), n);
+        fault = mkdirat(above, name, OWN) != 0 ? errno : 0;
+    }
+    return fault;
+}
+
+/* What has the name keeps it, but for an empty folder, if the file system has no such rename. */
+static int give_name(int above, const char *unnamed, const char *name)
+{
+    if (renameat2(above, unnamed, above, name, RENAME_NOREPLACE) == 0)
+        return 0;
+    if (errno != EINVAL && errno != ENOSYS)
+        return errno;
+    if (renameat(above, unnamed, above, name) == 0)
+        return 0;
+    return errno == ENOTEMPTY ? EEXIST : errno;
+}
+
+/* Makes one of another's, which has its name only once it is his: who is killed before keeps nobody from it. */
+static int make_theirs(int above, const struct stat *found, const char *name)
+{
+    char unnamed[64];
+    int made, fault = make_unnamed(above, unnamed, sizeof unnamed);
+    if (fault != 0)
+        return fault;
+    made = openat(above, unnamed, ON_THE_WAY | O_DIRECTORY);
+    fault = made < 0 ? errno : hand_over(made, found);
+    if (made >= 0)
+        close(made);
+    if (fault == 0)
+        fault = give_name(above, unnamed, name);
+    if (fault != 0)
+        unlinkat(above, unnamed, AT_REMOVEDIR);
+    return fault;
+}
+
+/* Makes a folder that is missing, so that its name is on the disk. Another program may do so at the same time. */
+static int make_one(int above, const char *name)
+{
+    struct stat found;
+    if (fstat(above, &found) != 0)
+        return errno;
+    int fault = is_root() && found.st_uid != 0 ? make_theirs(above, &found, name) : mkdirat(above, name, OWN) != 0 ? errno : 0;
+    if (fault != 0)
+        return fault == EEXIST ? 0 : fault;
+    return sync_folder(above);
+}
+
+/* ---- a path */
+
+/* How a path is gone through. */
+typedef struct {
+    bool makes; /* what is missing */
+    int links;  /* how many were followed */
+} Way;
+
+static int walk(Way way, int from, char *path, int *end);
+
+/* Root follows a link only if nobody else can have put it there. */
+static bool may_follow(int folder)
+{
+    struct stat found;
+    return !is_root() || (fstat(folder, &found) == 0 && found.st_uid == 0 && (found.st_mode & WRITE_OF_OTHERS) == 0);
+}
+
+/* Where a link leads, nothing is made. */
+static int follow(Way way, int from, int link, int *to)
+{
+    if (!may_follow(from))
+        return EACCES;
+    if (way.links == MOST_LINKS)
+        return ELOOP;
+    char *target = malloc(PATH_MAX);
+    if (!target)
+        return ENOMEM;
+    ssize_t len = readlinkat(link, "", target, PATH_MAX - 1);
+    int fault = len < 0 ? errno : 0;
+    if (fault == 0) {
+        target[len] = 0;
+        fault = walk((Way){false, way.links + 1}, from, target, to);
+    }
+    free(target);
+    return fault;
+}
+
+static int enter_link(Way way, int from, const char *name, int *to)
+{
+    struct stat found;
+    int link = openat(from, name, ON_THE_WAY);
+    if (link < 0)
+        return errno;
+    int fault = fstat(link, &found) != 0 ? errno : S_ISLNK(found.st_mode) ? follow(way, from, link, to) : ENOTDIR;
+    close(link);
+    return fault;
+}
+
+/* Opens a folder of this name. */
+static int enter(Way way, int from, const char *name, int *to)
+{
+    *to = openat(from, name, ON_THE_WAY | O_DIRECTORY);
+    if (*to < 0 && errno == ENOENT && way.makes) {
+        int fault = make_one(from, name);
+        if (fault != 0)
+            return fault;
+        *to = openat(from, name, ON_THE_WAY | O_DIRECTORY);
+    }
+    if (*to >= 0)
+        return 0;
+    return errno == ENOTDIR ? enter_link(way, from, name, to) : errno;
+}
+
+/* Opens the folder at the end of a path, which is cut into its names. */
+static int walk(Way way, int from, char *path, int *end)
+{
+    int at = openat(from, *path == '/' ? "/" : ".", O_PATH | O_DIRECTORY | O_CLOEXEC), fault = at < 0 ? errno : 0;
+    char *left = NULL;
+    for (char *name = strtok_r(path, "/", &left); fault == 0 && name; name = strtok_r(NULL, "/", &left)) {
+        int above = at;
+        fault = enter(way, above, name, &at);
+        close(above);
+    }
+    *end = at;
+    return fault;
+}
+
+static int walk_to(bool makes, const char *folder, int *end)
+{
+    char *path = strdup(folder);
+    if (!path)
+        return ENOMEM;
+    int fault = walk((Way){makes, 0}, AT_FDCWD, path, end);
+    free(path);
+    return fault;
+}
+
+int folder_open(const char *folder, int *opened)
+{
+    int end;
+    if (!is_root()) {
+        *opened = open(folder, TO_READ);
+        return *opened < 0 ? errno : 0;
+    }
+    int fault = walk_to(false, folder, &end);
+    if (fault != 0)
+        return fault;
+    fault = reopen(end, opened);
+    close(end);
+    return fault;
+}
+
+int folder_make(const char *folder)
+{
+    int end;
+    int fault = walk_to(true, folder, &end);
+    if (fault == 0)
+        close(end);
+    return fault;
+}
