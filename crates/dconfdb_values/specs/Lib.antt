@@ -2,4 +2,4 @@ pub mod Numbers
 pub mod Texts
 pub mod Parts
 pub mod Parsed
-pub mod Walks
+pub mod Listing

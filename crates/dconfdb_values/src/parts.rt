@@ -68,7 +68,7 @@ fn entry_at<'a>(view: View<'a>, key: &str) -> Option<View<'a>>
 }
 
 /// What a view shows, as C takes it.
-pub(crate) fn part_of<'a>(view: View<'a>) -> DconfdbPart<'a>
+fn part_of<'a>(view: View<'a>) -> DconfdbPart<'a>
     ensures shown { shown_part result ≡ shown view.entry }
     ensures value { result.value.now ≡ view_bytes view.entry }
     ensures type_text { result.type_text.now ≡ spelling (view_ty view.entry) }
