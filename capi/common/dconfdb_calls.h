@@ -252,6 +252,11 @@ bool dconfdb_is_writable(const DconfdbLayer *layers, size_t n, bool writable, co
 uint32_t dconfdb_list(const DconfdbLayer *layers, size_t n, const uint8_t *directory, size_t directory_len, uint8_t *room,
                       size_t room_len, size_t *len);
 
+/* The paths of the keys below a directory that any layer has, in the same form. It names each item of the layers once, and
+ * searches for nothing. */
+uint32_t dconfdb_paths_below(const DconfdbLayer *layers, size_t n, const uint8_t *directory, size_t directory_len, uint8_t *room,
+                             size_t room_len, size_t *len);
+
 /* The paths of the locks that start with a directory, of keys and of directories, of the layers
  * after the first, in the same form. */
 uint32_t dconfdb_locks(const DconfdbLayer *layers, size_t n, const uint8_t *directory, size_t directory_len, uint8_t *room,

@@ -42,9 +42,9 @@ filled_next o all old new i left more x c h e is room =
     let one : suc i ≡ i + 1 = omega arith in
     record {
       put = ap (map told_child) (take_more_set new i c room)
-      ∙ (map-append told_child (take i new) (c ∷ [])
-      ∙ (ap₂ (λ xs y. xs ++ y ∷ []) h.put is
-      ∙ (sym (told_next o all more x i at) ∙ ap (λ n. take n (map (told o) all)) one)));
+          ∙ (map-append told_child (take i new) (c ∷ [])
+          ∙ (ap₂ (λ xs y. xs ++ y ∷ []) h.put is
+          ∙ (sym (told_next o all more x i at) ∙ ap (λ n. take n (map (told o) all)) one)));
       rest = drop-set-lt (i + 1) new i c (omega arith) ∙ on;
       left_is = drop_next all more x i at;
     }

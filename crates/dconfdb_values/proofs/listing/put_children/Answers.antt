@@ -11,8 +11,8 @@ returns-clause-put c =
     let all = parts (type_at c.args.type_text.now) c.args.bytes.now in
     elim c.match-view_of.branch [
       | in-Some w ↦
-        let typed = w.in-Some.ensures in
-        subst (λ new. ArePut c.args.origin all c.args.room.now new) (sym w.room-is) (put_alike c.args.origin _ _ _ _ _ _ _ w.children.ensures typed.at_type typed.bytes w.fill.ensures)
+          let typed = w.in-Some.ensures in
+          subst (λ new. ArePut c.args.origin all c.args.room.now new) (sym w.room-is) (put_alike c.args.origin _ _ _ _ _ _ _ w.children.ensures typed.at_type typed.bytes w.fill.ensures)
       | in_default w ↦
-        subst (λ new. ArePut c.args.origin all c.args.room.now new) (sym w.room-is) (put_nothing c.args.origin _ _ _ w.in_default.ensures.nothing)
+          subst (λ new. ArePut c.args.origin all c.args.room.now new) (sym w.room-is) (put_nothing c.args.origin _ _ _ w.in_default.ensures.nothing)
     ]

@@ -59,9 +59,9 @@ build-in_maybes-requires t c =
     let inside = c.bare-inside.ensures in
     elim c.match-node.branch [
       | build-in-Truth w ↦
-        let fits = subst (λ x. Admits x (ty c.args.of)) (sym c.node.view_is ∙ ap syntax_of w.in-Truth.is) c.requires.fits in
-        let type = fits_bare (λ u. u ≡ basic boolean) (ty c.args.of) bare fits refl in
-        rw w.built-is (subst (λ u. IsOfType u w.truth_tree-built.result) (sym type) w.truth_tree-built.ensures.typed)
+          let fits = subst (λ x. Admits x (ty c.args.of)) (sym c.node.view_is ∙ ap syntax_of w.in-Truth.is) c.requires.fits in
+          let type = fits_bare (λ u. u ≡ basic boolean) (ty c.args.of) bare fits refl in
+          rw w.built-is (subst (λ u. IsOfType u w.truth_tree-built.result) (sym type) w.truth_tree-built.ensures.typed)
       | build-in-Integer w ↦ rw w.built-is (subst (λ u. IsOfType u w.number_tree-built.result) inside w.number_tree-built.ensures.typed)
       | build-in-Text w ↦ rw w.built-is (subst (λ u. IsOfType u w.text_tree-built.result) inside w.text_tree-built.ensures.typed)
       | build-in-ByteString w ↦ rw w.built-is (subst (λ u. IsOfType u w.byte_string_at-built.result) inside w.byte_string_at-built.ensures.typed)
@@ -70,9 +70,9 @@ build-in_maybes-requires t c =
       | build-in-Dictionary w ↦ rw w.built-is (subst (λ u. IsOfType u w.build_dictionary-built.result) inside w.build_dictionary-built.ensures.typed)
       | build-in-Entry w ↦ rw w.built-is (subst (λ u. IsOfType u w.build_entry-built.result) inside w.build_entry-built.ensures.typed)
       | build-in-Variant w ↦
-        let fits = subst (λ x. Admits x (ty c.args.of)) (sym c.node.view_is ∙ ap syntax_of w.in-Variant.is) c.requires.fits in
-        let type = fits_bare (λ u. u ≡ variant) (ty c.args.of) bare fits refl in
-        rw w.built-is (subst (λ u. IsOfType u w.build_variant-built.result) (sym type) w.build_variant-built.ensures.typed)
+          let fits = subst (λ x. Admits x (ty c.args.of)) (sym c.node.view_is ∙ ap syntax_of w.in-Variant.is) c.requires.fits in
+          let type = fits_bare (λ u. u ≡ variant) (ty c.args.of) bare fits refl in
+          rw w.built-is (subst (λ u. IsOfType u w.build_variant-built.result) (sym type) w.build_variant-built.ensures.typed)
     ]
 
 pub build-returns-clause-built : goal.build-returns-clause-built
@@ -84,66 +84,66 @@ build-returns-clause-built t c =
     let r = c.in_maybes.result in
     elim c.match-node.branch [
       | build-in-Truth w ↦
-        let is = sym c.node.view_is ∙ ap syntax_of w.in-Truth.is in
-        let f = at_basic (λ k. Ok (number k (truth_bits w.in-Truth.truth))) in
-        let fits = subst (λ x. Admits x of) is c.requires.fits in
-        let type = fits_bare (λ u. u ≡ basic boolean) of bare fits refl in
-        let held = subst (λ u. IsBuilt (f u) w.truth_tree-built.result) (sym type) w.truth_tree-built.ensures.built in
-        subst (λ v. IsBuilt v r) (sym (ap (λ x. literal_value choice x of) is ∙ truth_value choice w.in-Truth.truth of))
-        (c.in_maybes.ensures.built f (subst (λ b. IsBuilt (f bare) b) (sym w.built-is) held))
+          let is = sym c.node.view_is ∙ ap syntax_of w.in-Truth.is in
+          let f = at_basic (λ k. Ok (number k (truth_bits w.in-Truth.truth))) in
+          let fits = subst (λ x. Admits x of) is c.requires.fits in
+          let type = fits_bare (λ u. u ≡ basic boolean) of bare fits refl in
+          let held = subst (λ u. IsBuilt (f u) w.truth_tree-built.result) (sym type) w.truth_tree-built.ensures.built in
+          subst (λ v. IsBuilt v r) (sym (ap (λ x. literal_value choice x of) is ∙ truth_value choice w.in-Truth.truth of))
+          (c.in_maybes.ensures.built f (subst (λ b. IsBuilt (f bare) b) (sym w.built-is) held))
       | build-in-Integer w ↦
-        let is = sym c.node.view_is ∙ ap syntax_of w.in-Integer.is in
-        let f = at_basic (λ k. integer_at k w.in-Integer.negative w.in-Integer.magnitude) in
-        let held = subst (λ u. IsBuilt (f u) w.number_tree-built.result) inside w.number_tree-built.ensures.built in
-        subst (λ x. IsBuilt (literal_value choice x of) r) (sym is) (c.in_maybes.ensures.built f (subst (λ b. IsBuilt (f bare) b) (sym w.built-is) held))
+          let is = sym c.node.view_is ∙ ap syntax_of w.in-Integer.is in
+          let f = at_basic (λ k. integer_at k w.in-Integer.negative w.in-Integer.magnitude) in
+          let held = subst (λ u. IsBuilt (f u) w.number_tree-built.result) inside w.number_tree-built.ensures.built in
+          subst (λ x. IsBuilt (literal_value choice x of) r) (sym is) (c.in_maybes.ensures.built f (subst (λ b. IsBuilt (f bare) b) (sym w.built-is) held))
       | build-in-Text w ↦
-        let is = sym c.node.view_is ∙ ap syntax_of w.in-Text.is in
-        let f = at_basic (λ k. text_at k (string_bytes w.in-Text.text)) in
-        let built = subst (λ s. IsBuilt (at_basic (λ k. text_at k s) (ty c.bare-inside.result)) w.text_tree-built.result) w.as_str.ensures.value w.text_tree-built.ensures.built in
-        let held = subst (λ u. IsBuilt (f u) w.text_tree-built.result) inside built in
-        subst (λ x. IsBuilt (literal_value choice x of) r) (sym is) (c.in_maybes.ensures.built f (subst (λ b. IsBuilt (f bare) b) (sym w.built-is) held))
+          let is = sym c.node.view_is ∙ ap syntax_of w.in-Text.is in
+          let f = at_basic (λ k. text_at k (string_bytes w.in-Text.text)) in
+          let built = subst (λ s. IsBuilt (at_basic (λ k. text_at k s) (ty c.bare-inside.result)) w.text_tree-built.result) w.as_str.ensures.value w.text_tree-built.ensures.built in
+          let held = subst (λ u. IsBuilt (f u) w.text_tree-built.result) inside built in
+          subst (λ x. IsBuilt (literal_value choice x of) r) (sym is) (c.in_maybes.ensures.built f (subst (λ b. IsBuilt (f bare) b) (sym w.built-is) held))
       | build-in-ByteString w ↦
-        let is = sym c.node.view_is ∙ ap syntax_of w.in-ByteString.is in
-        let f = at_array (λ u. Ok (byte_string_trees w.in-ByteString.bytes.items)) in
-        let fits = subst (λ x. Admits x of) is c.requires.fits in
-        let kind = fits_bare (λ u. u ≡ array (basic byte)) of _ fits inside in
-        let built = subst (λ s. IsBuilt (Ok (node (ty c.bare-inside.result) (byte_string_trees s))) w.byte_string_at-built.result) w.as_slice.ensures.value w.byte_string_at-built.ensures.built in
-        let at_type = bytes_at (ty c.bare-inside.result) w.in-ByteString.bytes.items w.byte_string_at-built.result kind built in
-        let held = subst (λ u. IsBuilt (f u) w.byte_string_at-built.result) inside at_type in
-        subst (λ x. IsBuilt (literal_value choice x of) r) (sym is) (c.in_maybes.ensures.built f (subst (λ b. IsBuilt (f bare) b) (sym w.built-is) held))
+          let is = sym c.node.view_is ∙ ap syntax_of w.in-ByteString.is in
+          let f = at_array (λ u. Ok (byte_string_trees w.in-ByteString.bytes.items)) in
+          let fits = subst (λ x. Admits x of) is c.requires.fits in
+          let kind = fits_bare (λ u. u ≡ array (basic byte)) of _ fits inside in
+          let built = subst (λ s. IsBuilt (Ok (node (ty c.bare-inside.result) (byte_string_trees s))) w.byte_string_at-built.result) w.as_slice.ensures.value w.byte_string_at-built.ensures.built in
+          let at_type = bytes_at (ty c.bare-inside.result) w.in-ByteString.bytes.items w.byte_string_at-built.result kind built in
+          let held = subst (λ u. IsBuilt (f u) w.byte_string_at-built.result) inside at_type in
+          subst (λ x. IsBuilt (literal_value choice x of) r) (sym is) (c.in_maybes.ensures.built f (subst (λ b. IsBuilt (f bare) b) (sym w.built-is) held))
       | build-in-Array w ↦
-        let is = sym c.node.view_is ∙ ap syntax_of w.in-Array.is in
-        let f = at_array (elements choice (nodes_of w.in-Array.elements.items)) in
-        let built = subst (λ xs. IsBuilt (at_array (elements choice (nodes_of xs)) (ty c.bare-inside.result)) w.build_array-built.result) w.as_slice-in-Array.ensures.value w.build_array-built.ensures.built in
-        let held = subst (λ u. IsBuilt (f u) w.build_array-built.result) inside built in
-        subst (λ x. IsBuilt (literal_value choice x of) r) (sym is) (c.in_maybes.ensures.built f (subst (λ b. IsBuilt (f bare) b) (sym w.built-is) held))
+          let is = sym c.node.view_is ∙ ap syntax_of w.in-Array.is in
+          let f = at_array (elements choice (nodes_of w.in-Array.elements.items)) in
+          let built = subst (λ xs. IsBuilt (at_array (elements choice (nodes_of xs)) (ty c.bare-inside.result)) w.build_array-built.result) w.as_slice-in-Array.ensures.value w.build_array-built.ensures.built in
+          let held = subst (λ u. IsBuilt (f u) w.build_array-built.result) inside built in
+          subst (λ x. IsBuilt (literal_value choice x of) r) (sym is) (c.in_maybes.ensures.built f (subst (λ b. IsBuilt (f bare) b) (sym w.built-is) held))
       | build-in-Tuple w ↦
-        let is = sym c.node.view_is ∙ ap syntax_of w.in-Tuple.is in
-        let f = at_tuple (members_of choice (nodes_of w.in-Tuple.members.items)) in
-        let built = subst (λ xs. IsBuilt (at_tuple (members_of choice (nodes_of xs)) (ty c.bare-inside.result)) w.build_tuple-built.result) w.as_slice-in-Tuple.ensures.value w.build_tuple-built.ensures.built in
-        let held = subst (λ u. IsBuilt (f u) w.build_tuple-built.result) inside built in
-        subst (λ x. IsBuilt (literal_value choice x of) r) (sym is) (c.in_maybes.ensures.built f (subst (λ b. IsBuilt (f bare) b) (sym w.built-is) held))
+          let is = sym c.node.view_is ∙ ap syntax_of w.in-Tuple.is in
+          let f = at_tuple (members_of choice (nodes_of w.in-Tuple.members.items)) in
+          let built = subst (λ xs. IsBuilt (at_tuple (members_of choice (nodes_of xs)) (ty c.bare-inside.result)) w.build_tuple-built.result) w.as_slice-in-Tuple.ensures.value w.build_tuple-built.ensures.built in
+          let held = subst (λ u. IsBuilt (f u) w.build_tuple-built.result) inside built in
+          subst (λ x. IsBuilt (literal_value choice x of) r) (sym is) (c.in_maybes.ensures.built f (subst (λ b. IsBuilt (f bare) b) (sym w.built-is) held))
       | build-in-Dictionary w ↦
-        let is = sym c.node.view_is ∙ ap syntax_of w.in-Dictionary.is in
-        let f = at_array (entries choice (pairs_of w.in-Dictionary.pairs.items)) in
-        let built = subst (λ ps. IsBuilt (at_array (entries choice (pairs_of ps)) (ty c.bare-inside.result)) w.build_dictionary-built.result) w.as_slice-in-Dictionary.ensures.value w.build_dictionary-built.ensures.built in
-        let held = subst (λ u. IsBuilt (f u) w.build_dictionary-built.result) inside built in
-        subst (λ x. IsBuilt (literal_value choice x of) r) (sym is) (c.in_maybes.ensures.built f (subst (λ b. IsBuilt (f bare) b) (sym w.built-is) held))
+          let is = sym c.node.view_is ∙ ap syntax_of w.in-Dictionary.is in
+          let f = at_array (entries choice (pairs_of w.in-Dictionary.pairs.items)) in
+          let built = subst (λ ps. IsBuilt (at_array (entries choice (pairs_of ps)) (ty c.bare-inside.result)) w.build_dictionary-built.result) w.as_slice-in-Dictionary.ensures.value w.build_dictionary-built.ensures.built in
+          let held = subst (λ u. IsBuilt (f u) w.build_dictionary-built.result) inside built in
+          subst (λ x. IsBuilt (literal_value choice x of) r) (sym is) (c.in_maybes.ensures.built f (subst (λ b. IsBuilt (f bare) b) (sym w.built-is) held))
       | build-in-Entry w ↦
-        let is = sym c.node.view_is ∙ ap syntax_of w.in-Entry.is in
-        let f = at_entry (literal_value choice w.in-Entry.key.value) (literal_value choice w.in-Entry.value.value) in
-        let key = subst (λ x. IsBuilt (at_entry (literal_value choice x) (literal_value choice w.deref-in-Entry.result.now) (ty c.bare-inside.result)) w.build_entry-built.result) w.deref.ensures w.build_entry-built.ensures.built in
-        let built = subst (λ x. IsBuilt (at_entry (literal_value choice w.in-Entry.key.value) (literal_value choice x) (ty c.bare-inside.result)) w.build_entry-built.result) w.deref-in-Entry.ensures key in
-        let held = subst (λ u. IsBuilt (f u) w.build_entry-built.result) inside built in
-        subst (λ x. IsBuilt (literal_value choice x of) r) (sym is) (c.in_maybes.ensures.built f (subst (λ b. IsBuilt (f bare) b) (sym w.built-is) held))
+          let is = sym c.node.view_is ∙ ap syntax_of w.in-Entry.is in
+          let f = at_entry (literal_value choice w.in-Entry.key.value) (literal_value choice w.in-Entry.value.value) in
+          let key = subst (λ x. IsBuilt (at_entry (literal_value choice x) (literal_value choice w.deref-in-Entry.result.now) (ty c.bare-inside.result)) w.build_entry-built.result) w.deref.ensures w.build_entry-built.ensures.built in
+          let built = subst (λ x. IsBuilt (at_entry (literal_value choice w.in-Entry.key.value) (literal_value choice x) (ty c.bare-inside.result)) w.build_entry-built.result) w.deref-in-Entry.ensures key in
+          let held = subst (λ u. IsBuilt (f u) w.build_entry-built.result) inside built in
+          subst (λ x. IsBuilt (literal_value choice x of) r) (sym is) (c.in_maybes.ensures.built f (subst (λ b. IsBuilt (f bare) b) (sym w.built-is) held))
       | build-in-Variant w ↦
-        let is = sym c.node.view_is ∙ ap syntax_of w.in-Variant.is in
-        let f = at_variant (only_one (chosen_or (literal_value choice w.in-Variant.content.value) (choice w.in-Variant.content.value))) in
-        let fits = subst (λ x. Admits x of) is c.requires.fits in
-        let type = fits_bare (λ u. u ≡ variant) of bare fits refl in
-        let built = subst (λ x. IsBuilt (at_variant (only_one (chosen_or (literal_value choice x) (choice x))) variant) w.build_variant-built.result) w.deref-in-Variant.ensures w.build_variant-built.ensures.built in
-        let held = subst (λ u. IsBuilt (f u) w.build_variant-built.result) (sym type) built in
-        subst (λ x. IsBuilt (literal_value choice x of) r) (sym is) (c.in_maybes.ensures.built f (subst (λ b. IsBuilt (f bare) b) (sym w.built-is) held))
+          let is = sym c.node.view_is ∙ ap syntax_of w.in-Variant.is in
+          let f = at_variant (only_one (chosen_or (literal_value choice w.in-Variant.content.value) (choice w.in-Variant.content.value))) in
+          let fits = subst (λ x. Admits x of) is c.requires.fits in
+          let type = fits_bare (λ u. u ≡ variant) of bare fits refl in
+          let built = subst (λ x. IsBuilt (at_variant (only_one (chosen_or (literal_value choice x) (choice x))) variant) w.build_variant-built.result) w.deref-in-Variant.ensures w.build_variant-built.ensures.built in
+          let held = subst (λ u. IsBuilt (f u) w.build_variant-built.result) (sym type) built in
+          subst (λ x. IsBuilt (literal_value choice x of) r) (sym is) (c.in_maybes.ensures.built f (subst (λ b. IsBuilt (f bare) b) (sym w.built-is) held))
     ]
 
 pub build-build_array-built-requires : goal.build-build_array-built-requires
