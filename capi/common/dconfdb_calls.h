@@ -64,6 +64,12 @@ typedef struct {
     DconfdbBytes value, type_text;
 } DconfdbPart;
 
+/* The same, with the origin that is handed in. */
+typedef struct {
+    DconfdbBytes value, type_text;
+    size_t origin;
+} DconfdbChild;
+
 /* A database of a profile; the name is lent from the profile's text. */
 typedef struct {
     uint32_t kind; /* 0 user-db, 1 system-db, 2 file-db */
@@ -208,6 +214,11 @@ bool dconfdb_look_up(const uint8_t *type_text, size_t type_text_len, const uint8
 /* How many children it has; 0 where the text spells no type. */
 size_t dconfdb_count_children(const uint8_t *type_text, size_t type_text_len, const uint8_t *value, size_t value_len);
 
+/* Puts the children into the room, in order, as many as it takes, each with that origin, and gives how many there are. What is
+ * behind them stays. Each costs the same: those before a child are not gone through for it, as dconfdb_child_at does. */
+size_t dconfdb_put_children(const uint8_t *type_text, size_t type_text_len, const uint8_t *value, size_t value_len, size_t origin,
+                            DconfdbChild *room, size_t room_len);
+
 /* Opens a layer of a file's bytes, or an empty one if there is no file (is_there false: the
  * bytes are not looked at). Else SHORT to BAD_TABLE, or UNSOUND with what is broken, which is all
  * zeros of the others; the layer is as it was. It asks each rule of each item. */
@@ -246,6 +257,11 @@ bool dconfdb_is_writable(const DconfdbLayer *layers, size_t n, bool writable, co
  * nothing is put into it. MEMORY or BAD_PATH, and then nothing is written. */
 uint32_t dconfdb_list(const DconfdbLayer *layers, size_t n, const uint8_t *directory, size_t directory_len, uint8_t *room,
                       size_t room_len, size_t *len);
+
+/* The paths of the keys below a directory that any layer has, in the same form. It names each item of the layers once, and
+ * searches for nothing. */
+uint32_t dconfdb_paths_below(const DconfdbLayer *layers, size_t n, const uint8_t *directory, size_t directory_len, uint8_t *room,
+                             size_t room_len, size_t *len);
 
 /* The paths of the locks that start with a directory, of keys and of directories, of the layers
  * after the first, in the same form. */

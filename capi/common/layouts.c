@@ -15,6 +15,8 @@ uint32_t dconfdb_open(const uint8_t *file, size_t len, bool is_there, void *laye
 bool dconfdb_read(const void *layers, size_t n, const uint8_t *path, size_t path_len, void *found);
 bool dconfdb_fault_text(uint32_t number, void *text);
 bool dconfdb_child_at(const uint8_t *type_text, size_t type_text_len, const uint8_t *value, size_t value_len, size_t index, void *found);
+size_t dconfdb_put_children(const uint8_t *type_text, size_t type_text_len, const uint8_t *value, size_t value_len, size_t origin, void *room,
+                            size_t room_len);
 uint32_t dconfdb_profile(const uint8_t *text, size_t len, void *room, size_t room_len, size_t *names, size_t *line);
 void dconfdb_turn_begin(void *turn);
 void dconfdb_turn_next(const void *turn, void *step);
@@ -277,6 +279,21 @@ static void finds_part(void)
     finds_lent(&room, "type_text", file + TYPE + 1, TYPE_LEN - 1);
     finds_lent(&room, "value", file + VALUE, VALUE_LEN - 1);
     ends(&room);
+}
+
+/* The two texts of an array: the second child is as far from the first as the struct is long. */
+static void finds_child(void)
+{
+    static const uint8_t texts[] = {'o', 'n', 'e', 0, 't', 'w', 'o', '!', 0, 4, 9}, type[] = "as";
+    Written one = room_of("DconfdbChild"), two = one;
+    is_so(dconfdb_put_children(type, 2, texts, sizeof texts, 77, one.bytes, 1) == 2, "dconfdb_put_children");
+    is_so(dconfdb_put_children(type, 2, texts, sizeof texts, 77, two.bytes, 3) == 2, "dconfdb_put_children");
+    finds_lent(&one, "type_text", type + 1, 1);
+    uint8_t lent[LENT];
+    lends(lent, texts + 4, 5);
+    size_t value = finds_lent(&one, "value", texts, 4), size = place_of(&two, 0, ROOM, lent, LENT) - value;
+    finds_word(&one, "origin", 77);
+    is_so(ends(&one) == size, "DconfdbChild");
 }
 
 /* Two elements of an array: the second is as far from the first as the struct is long. */
@@ -612,6 +629,7 @@ int main(void)
     finds_unsound();
     size_t value = finds_found(layer_size);
     finds_part();
+    finds_child();
     finds_name();
     tries_change(value);
     finds_turn();

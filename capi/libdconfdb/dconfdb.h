@@ -354,11 +354,24 @@ DCONFDB_API bool dconfdb_value_get_variant(const DconfdbValue *value, DconfdbVal
     DCONFDB_NOEXCEPT DCONFDB_NONNULL((1, 2));
 
 /* The elements of an array, the members of a tuple, the key and the value of an entry, what a variant
- * holds, and the value of a maybe that has one: how many there are, and the one at an index. A list is
- * walked fastest by this index from 0 on. */
+ * holds, and the value of a maybe that has one: how many there are, and the one at an index. Elements of a
+ * fixed size, such as numbers, are found at once. For any other child those before it are gone through,
+ * since one that is out of place makes all behind it empty: so a loop over all indices takes time with the
+ * square of their number. dconfdb_value_children takes time with their number. */
 DCONFDB_API size_t dconfdb_value_n_children(const DconfdbValue *value) DCONFDB_NOEXCEPT DCONFDB_NONNULL((1));
 DCONFDB_API bool dconfdb_value_child(const DconfdbValue *value, size_t index, DconfdbValue *child)
     DCONFDB_NOEXCEPT DCONFDB_NONNULL((1, 3));
+
+/* All children at once, in order: puts as many of them into `children` as there is room for, and gives how many
+ * there are. What is behind them stays as it was. Each is the one that dconfdb_value_child gives at its index.
+ *
+ *     size_t count = dconfdb_value_n_children(&list);
+ *     DconfdbValue *children = calloc(count + 1, sizeof *children);
+ *     if (children)
+ *         dconfdb_value_children(&list, children, count);
+ */
+DCONFDB_API size_t dconfdb_value_children(const DconfdbValue *value, DconfdbValue *children, size_t room)
+    DCONFDB_NOEXCEPT DCONFDB_NONNULL((1, 2));
 
 /* The value of the first entry with this key in a dictionary whose keys are strings or object paths, such
  * as `a{sv}`. */

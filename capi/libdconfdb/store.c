@@ -12,6 +12,7 @@
 #include "locked.h"
 #include "notices.h"
 #include "order.h"
+#include "paths.h"
 #include "place.h"
 #include "repair.h"
 
@@ -388,6 +389,11 @@ static uint32_t lists_locks(const DconfdbSnapshot *snapshot, const void *of, uin
     return dconfdb_locks(snapshot->layers, snapshot->count, of, strlen(of), room, room_len, len);
 }
 
+static uint32_t lists_paths(const DconfdbSnapshot *snapshot, const void *of, uint8_t *room, size_t room_len, size_t *len)
+{
+    return dconfdb_paths_below(snapshot->layers, snapshot->count, of, strlen(of), room, room_len, len);
+}
+
 bool have_same_others(const DconfdbSnapshot *one, const DconfdbSnapshot *other)
 {
     bool have = one->count > 0 && one->count == other->count;
@@ -422,11 +428,11 @@ static uint32_t prints_value(const DconfdbSnapshot *snapshot, const void *of, ui
     return dconfdb_print_value(bytes_of(value->type), value->type_size, value->data, value->size, room, room_len, len);
 }
 
-/* Calls with a room that mostly is enough, and else with one that is. */
-static char *listed(Lists *lists, const DconfdbSnapshot *snapshot, const void *of, const char *name, size_t *size,
-                    DconfdbError *error)
+/* Calls with a room of so many bytes, and else with one that is enough. */
+static char *listed_in(size_t len, Lists *lists, const DconfdbSnapshot *snapshot, const void *of, const char *name, size_t *size,
+                       DconfdbError *error)
 {
-    size_t len = 1024, room_len;
+    size_t room_len;
     uint32_t number = DCONFDB_MEMORY;
     do {
         room_len = len;
@@ -448,6 +454,13 @@ static char *listed(Lists *lists, const DconfdbSnapshot *snapshot, const void *o
     return NULL;
 }
 
+/* The same with a room that mostly is enough. */
+static char *listed(Lists *lists, const DconfdbSnapshot *snapshot, const void *of, const char *name, size_t *size,
+                    DconfdbError *error)
+{
+    return listed_in(1024, lists, snapshot, of, name, size, error);
+}
+
 char *dconfdb_snapshot_list(const DconfdbSnapshot *snapshot, const char *directory, size_t *size, DconfdbError *error)
 {
     return listed(lists_names, snapshot, directory, directory, size, error);
@@ -456,6 +469,16 @@ char *dconfdb_snapshot_list(const DconfdbSnapshot *snapshot, const char *directo
 char *dconfdb_snapshot_list_user(const DconfdbSnapshot *snapshot, const char *directory, size_t *size, DconfdbError *error)
 {
     return listed(lists_users_names, snapshot, directory, directory, size, error);
+}
+
+/* Files mostly are longer than their keys' paths. What is not written takes no memory. */
+char *snapshot_paths(const DconfdbSnapshot *snapshot, const char *directory, DconfdbError *error)
+{
+    enum { MOST_AT_FIRST = 64 << 20 };
+    size_t len = 1024;
+    for (size_t i = 0; i < snapshot->count && len < MOST_AT_FIRST; i++)
+        len += snapshot->layers[i].values.file.len;
+    return listed_in(len < MOST_AT_FIRST ? len : MOST_AT_FIRST, lists_paths, snapshot, directory, directory, NULL, error);
 }
 
 char *dconfdb_snapshot_locks(const DconfdbSnapshot *snapshot, const char *directory, size_t *size, DconfdbError *error)

@@ -3,6 +3,7 @@
 #include "dconfdb_calls.h"
 #include "errors.h"
 
+#include <stddef.h>
 #include <stdlib.h>
 #include <string.h>
 
@@ -75,6 +76,20 @@ bool dconfdb_value_child(const DconfdbValue *value, size_t index, DconfdbValue *
     DconfdbPart part;
     bool is_found = dconfdb_child_at((const uint8_t *)value->type, value->type_size, value->data, value->size, index, &part);
     return part_of(value, is_found, &part, child);
+}
+
+_Static_assert(offsetof(DconfdbValue, data) == offsetof(DconfdbChild, value.at)
+                   && offsetof(DconfdbValue, size) == offsetof(DconfdbChild, value.len)
+                   && offsetof(DconfdbValue, type) == offsetof(DconfdbChild, type_text.at)
+                   && offsetof(DconfdbValue, type_size) == offsetof(DconfdbChild, type_text.len)
+                   && offsetof(DconfdbValue, origin) == offsetof(DconfdbChild, origin)
+                   && sizeof(DconfdbValue) == sizeof(DconfdbChild),
+               "a value is what the proved call puts, so that it puts all in place");
+
+size_t dconfdb_value_children(const DconfdbValue *value, DconfdbValue *children, size_t room)
+{
+    return dconfdb_put_children((const uint8_t *)value->type, value->type_size, value->data, value->size, value->origin,
+                                (DconfdbChild *)(void *)children, room);
 }
 
 bool dconfdb_value_get_variant(const DconfdbValue *value, DconfdbValue *child)

@@ -1,6 +1,7 @@
 //! Names and paths that are listed: texts, a zero byte after each.
 ghost use Rattle.std.specs.Prelude.{◌≡◌, ◌≢◌, ◌++◌, ℕ, List, true};
-ghost use Rattle.dconf_model.specs.Layers.{child_names, locks_below};
+ghost use Rattle.dconf_model.specs.Layers.{all_paths, child_names, locks_below};
+ghost use Rattle.dconf_model.specs.Walks.{keys_below};
 ghost use Rattle.std.specs.FinMap.{keys};
 ghost use Rattle.dconf_differences.specs.Differing.{AreDiffering, first_keys, with_first};
 ghost use Rattle.dconf_layers.specs.LayerSettings.{settings_of};
@@ -10,7 +11,7 @@ ghost use Rattle.dconfdb_calls.specs.Seen.{layers_of};
 
 use dconf_layers::Layer;
 use dconfdb_calls::{
-    differing_keys, directory_locks, directory_names, hand_out, keys_differing_first,
+    differing_keys, directory_locks, directory_names, hand_out, keys_differing_first, paths_below,
 };
 use std::alloc::Global;
 
@@ -33,6 +34,30 @@ pub extern "C" fn dconfdb_list(
     match directory_names(alloc, layers, directory) {
         Ok(names) => {
             *len = hand_out(names.as_slice(), room);
+            0
+        }
+        Err(fault) => fault.number(),
+    }
+}
+
+/// The paths of the keys below a directory that any layer has. They are in the order of their bytes, once each,
+/// and handed out as `dconfdb_list` does.
+#[unsafe(no_mangle)]
+pub extern "C" fn dconfdb_paths_below(
+    alloc: Global,
+    layers: &[Layer<'_>],
+    directory: &[u8],
+    room: &mut [u8],
+    len: &mut usize,
+) -> u32
+    ensures done { result ≡ 0 → HandsOut (ended (keys_below (all_paths (layers_of layers.now true).layers) directory.now)) room.old room.new len.new }
+    ensures directory { result ≡ 0 → IsDirectory directory.now }
+    ensures refused { result ≢ 0 → IsNoListingTold directory.now result }
+    ensures kept { result ≢ 0 → (room.new ≡ room.old) × (len.new ≡ len.old) }
+{
+    match paths_below(alloc, layers, directory) {
+        Ok(paths) => {
+            *len = hand_out(paths.as_slice(), room);
             0
         }
         Err(fault) => fault.number(),

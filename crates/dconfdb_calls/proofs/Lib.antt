@@ -3,3 +3,4 @@ mod AfterTurns
 mod LineLaws
 mod KeylessLaws
 mod SinceLaws
+pub mod BelowLaws

@@ -15,6 +15,7 @@
 //! ```
 #![tactic(auto)]
 
+mod below;
 mod changes;
 mod compare;
 mod differences;
@@ -32,6 +33,7 @@ mod salvaged;
 mod since;
 mod values;
 
+pub use below::paths_below;
 pub use changes::{DconfdbChange, Refused, user_file};
 pub use compare::is_stored;
 pub use differences::{differing_keys, keys_differing_first};

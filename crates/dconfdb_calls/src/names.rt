@@ -90,7 +90,7 @@ pub(crate) fn texts_of(alloc: Global, texts: &[String]) -> Result<Vec<u8>, Alloc
 }
 
 /// Adds a text and a zero byte.
-fn add_text(text: &str, all: &mut Vec<u8>) -> Result<(), AllocError>
+pub(crate) fn add_text(text: &str, all: &mut Vec<u8>) -> Result<(), AllocError>
     ensures { OnOk result (all.new.items ≡ all.old.items ++ (text.now ++ 0 ∷ [])) }
 {
     all.extend_from_slice(text.as_bytes())?;

@@ -3,3 +3,4 @@ pub mod PartLaws
 pub mod WrittenLaws
 pub mod NumberLaws
 pub mod PathEntries
+pub mod ListingLaws

@@ -2,3 +2,4 @@ pub mod Numbers
 pub mod Texts
 pub mod Parts
 pub mod Parsed
+pub mod Listing

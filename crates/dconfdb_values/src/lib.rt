@@ -15,12 +15,14 @@
 #![tactic(auto)]
 
 mod entries;
+mod listing;
 mod numbers;
 mod parsing;
 mod parts;
 mod texts;
 mod typed;
 
+pub use listing::{DconfdbChild, put_children};
 pub use numbers::number;
 pub use parsing::{Parsed, Unparsed, value_of_text};
 pub use parts::{DconfdbPart, child, lookup, n_children};

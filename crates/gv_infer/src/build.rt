@@ -37,38 +37,30 @@ pub(crate) fn build(
     ensures typed { IsOfType (ty of.entry) result }
 {
     let inside = bare(of);
-    match &node.kind {
-        SyntaxKind::Truth(truth) => in_maybes(alloc, of, truth_tree(alloc, *truth)),
+    let built = match &node.kind {
+        SyntaxKind::Truth(truth) => truth_tree(alloc, *truth),
         SyntaxKind::Integer {
             negative,
             magnitude,
-        } => in_maybes(alloc, of, number_tree(alloc, inside, *negative, *magnitude)),
-        SyntaxKind::Text(text) => in_maybes(alloc, of, text_tree(alloc, inside, text.as_str())),
-        SyntaxKind::ByteString(bytes) => {
-            in_maybes(alloc, of, byte_string_at(alloc, inside, bytes.as_slice()))
-        }
-        SyntaxKind::Array(elements) => {
-            in_maybes(alloc, of, build_array(alloc, elements.as_slice(), inside))
-        }
-        SyntaxKind::Tuple(members) => {
-            in_maybes(alloc, of, build_tuple(alloc, members.as_slice(), inside))
-        }
-        SyntaxKind::Dictionary(pairs) => {
-            in_maybes(alloc, of, build_dictionary(alloc, pairs.as_slice(), inside))
-        }
-        SyntaxKind::Entry(key, value) => {
-            in_maybes(alloc, of, build_entry(alloc, key, value, inside))
-        }
-        SyntaxKind::Variant(content) => in_maybes(alloc, of, build_variant(alloc, content)),
-        SyntaxKind::Just(child) => build_just(alloc, child, of),
-        SyntaxKind::Nothing => nothing(alloc, of.element().unwrap()),
-        SyntaxKind::OfType(_, inner) => build(alloc, inner, of),
-        SyntaxKind::Keyword(_, inner) => build(alloc, inner, of),
-    }
+        } => number_tree(alloc, inside, *negative, *magnitude),
+        SyntaxKind::Text(text) => text_tree(alloc, inside, text.as_str()),
+        SyntaxKind::ByteString(bytes) => byte_string_at(alloc, inside, bytes.as_slice()),
+        SyntaxKind::Array(elements) => build_array(alloc, elements.as_slice(), inside),
+        SyntaxKind::Tuple(members) => build_tuple(alloc, members.as_slice(), inside),
+        SyntaxKind::Dictionary(pairs) => build_dictionary(alloc, pairs.as_slice(), inside),
+        SyntaxKind::Entry(key, value) => build_entry(alloc, key, value, inside),
+        SyntaxKind::Variant(content) => build_variant(alloc, content),
+        SyntaxKind::Just(child) => return build_just(alloc, child, of),
+        SyntaxKind::Nothing => return nothing(alloc, of.element().unwrap()),
+        SyntaxKind::OfType(_, inner) => return build(alloc, inner, of),
+        SyntaxKind::Keyword(_, inner) => return build(alloc, inner, of),
+    };
+    in_maybes(alloc, of, built)
 }
 
 /// A value after `just`, at a maybe.
 #[cycle(build)]
+#[inline(never)]
 fn build_just(alloc: Global, node: &SyntaxNode, of: TypeStr<'_>) -> Result<Option<Tree>, ValueFault>
     requires fits { IsMaybeOf (Admits node.now) (ty of) }
     requires within { IsWithin node.now }
@@ -82,6 +74,7 @@ fn build_just(alloc: Global, node: &SyntaxNode, of: TypeStr<'_>) -> Result<Optio
 
 /// What is in `<..>`, at the type that is chosen for it.
 #[cycle(build)]
+#[inline(never)]
 fn build_variant(alloc: Global, node: &SyntaxNode) -> Result<Option<Tree>, ValueFault>
     requires { IsWithin node.now }
     ensures built { IsBuilt
@@ -100,6 +93,7 @@ fn build_variant(alloc: Global, node: &SyntaxNode) -> Result<Option<Tree>, Value
 
 /// An array, at an array's type.
 #[cycle(build)]
+#[inline(never)]
 fn build_array(
     alloc: Global,
     nodes: &[SyntaxNode],
@@ -117,6 +111,7 @@ fn build_array(
 
 /// The elements of an array.
 #[cycle(build)]
+#[inline(never)]
 fn build_elements(
     alloc: Global,
     nodes: &[SyntaxNode],
@@ -135,6 +130,7 @@ fn build_elements(
 
 /// A tuple, at a tuple's type.
 #[cycle(build)]
+#[inline(never)]
 fn build_tuple(
     alloc: Global,
     nodes: &[SyntaxNode],
@@ -151,6 +147,7 @@ fn build_tuple(
 
 /// The members of a tuple, each at its own type.
 #[cycle(build)]
+#[inline(never)]
 fn build_members(
     alloc: Global,
     nodes: &[SyntaxNode],
@@ -171,6 +168,7 @@ fn build_members(
 
 /// A dictionary, at the type of an array of entries.
 #[cycle(build)]
+#[inline(never)]
 fn build_dictionary(
     alloc: Global,
     pairs: &[(SyntaxNode, SyntaxNode)],
@@ -188,6 +186,7 @@ fn build_dictionary(
 
 /// The entries of a dictionary.
 #[cycle(build)]
+#[inline(never)]
 fn build_entries(
     alloc: Global,
     pairs: &[(SyntaxNode, SyntaxNode)],
@@ -206,6 +205,7 @@ fn build_entries(
 
 /// An entry, at an entry's type.
 #[cycle(build)]
+#[inline(never)]
 fn build_entry(
     alloc: Global,
     key: &SyntaxNode,

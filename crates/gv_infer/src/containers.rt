@@ -30,6 +30,7 @@ pub(crate) fn shallow(made: Result<Tree, TreeFault>) -> Result<Option<Tree>, Val
 }
 
 /// An array of elements of the type.
+#[inline(never)]
 pub(crate) fn array(
     alloc: Global,
     of: TypeStr<'_>,
@@ -47,6 +48,7 @@ pub(crate) fn array(
 }
 
 /// A tuple of the members.
+#[inline(never)]
 pub(crate) fn tuple(
     alloc: Global,
     of: TypeStr<'_>,
@@ -63,6 +65,7 @@ pub(crate) fn tuple(
 }
 
 /// An entry of the key and the value.
+#[inline(never)]
 pub(crate) fn entry(
     alloc: Global,
     of: TypeStr<'_>,
@@ -83,6 +86,7 @@ pub(crate) fn entry(
 }
 
 /// A variant that holds the value.
+#[inline(never)]
 pub(crate) fn variant(alloc: Global, child: Option<Tree>) -> Result<Option<Tree>, ValueFault>
     ensures built { (v : Value) → BuildsTo child v → IsBuilt (Ok (node variant (first v none))) result }
     ensures typed { IsOfType variant result }
@@ -94,6 +98,7 @@ pub(crate) fn variant(alloc: Global, child: Option<Tree>) -> Result<Option<Tree>
 }
 
 /// A value at a maybe of its type.
+#[inline(never)]
 pub(crate) fn just(
     alloc: Global,
     of: TypeStr<'_>,
@@ -111,6 +116,7 @@ pub(crate) fn just(
 }
 
 /// Nothing, at a maybe of the type.
+#[inline(never)]
 pub(crate) fn nothing(alloc: Global, of: TypeStr<'_>) -> Result<Option<Tree>, ValueFault>
     requires within { IsWithinLimits (maybe (ty of)) }
     ensures built { IsBuilt (Ok (node (maybe (ty of.entry)) none)) result }

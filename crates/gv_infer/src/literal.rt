@@ -76,6 +76,7 @@ fn signed(bits: u32, negative: bool, magnitude: u128) -> Result<u128, ValueFault
 }
 
 /// A truth value, at the type `b`.
+#[inline(never)]
 pub(crate) fn truth_tree(alloc: Global, truth: bool) -> Result<Option<Tree>, ValueFault>
     ensures built { IsBuilt (Ok (number boolean (truth_bits truth))) result }
     ensures typed { IsOfType (basic boolean) result }
@@ -84,6 +85,7 @@ pub(crate) fn truth_tree(alloc: Global, truth: bool) -> Result<Option<Tree>, Val
 }
 
 /// An integer, at a number type.
+#[inline(never)]
 pub(crate) fn number_tree(
     alloc: Global,
     of: TypeStr<'_>,
@@ -101,6 +103,7 @@ pub(crate) fn number_tree(
 }
 
 /// A string, at the type of a string, an object path or a signature.
+#[inline(never)]
 pub(crate) fn text_tree(
     alloc: Global,
     of: TypeStr<'_>,
@@ -120,6 +123,7 @@ pub(crate) fn text_tree(
 }
 
 /// The bytes of a byte string and a zero byte, at the type `ay`.
+#[inline(never)]
 pub(crate) fn byte_string_at(
     alloc: Global,
     of: TypeStr<'_>,

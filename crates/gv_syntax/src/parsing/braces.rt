@@ -79,6 +79,7 @@ fn pairs(
 
 /// Puts the pair of that key and the value that follows behind the others.
 #[cycle(parsing)]
+#[inline(always)]
 fn push_pair(
     alloc: Global,
     pairs: &mut Vec<(SyntaxNode, SyntaxNode)>,

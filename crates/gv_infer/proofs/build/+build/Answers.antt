@@ -29,36 +29,125 @@ use Rattle.gv_infer.proofs.MadeTrees.{within_type}
 use Rattle.gv_infer.proofs.BuiltChildren.{held_none, held_next, held_fault, held_all, elements_typed, entries_typed, all_of_type, are_members, just_built, entry_built, pair_fits}
 use Rattle.gv_infer.proofs.WithinLaws.{list_within, tuple_within, dictionary_within, entry_within, box_within, just_within, of_type_within, keyword_within}
 use Rattle.gv_infer.proofs.ValueLaws.{variant_fault}
+use Rattle.gv_infer.proofs.build.+build.Goals.{build-in-Truth, build-in-Integer, build-in-Text, build-in-ByteString, build-in-Array, build-in-Tuple, build-in-Dictionary, build-in-Entry, build-in-Variant}
 use Rattle.gv_infer.proofs.build.+build.Goals as goal
 
-pub build-in_maybes-requires : goal.build-in_maybes-requires
-build-in_maybes-requires t c =
-    let fits = subst (λ x. Admits x (ty c.args.of)) (sym c.node.view_is ∙ ap syntax_of c.in-Truth.is) c.requires.fits in
-    subst (λ u. IsOfType u c.truth_tree.result) (sym (fits_bare (λ u. u ≡ basic boolean) (ty c.args.of) (bare_type (ty c.args.of)) fits refl)) c.truth_tree.ensures.typed
-
-pub build-number_tree-requires : goal.build-number_tree-requires
-build-number_tree-requires t c =
+pub build-number_tree-built-requires : goal.build-number_tree-built-requires
+build-number_tree-built-requires t c =
     let fits = subst (λ x. Admits x (ty c.args.of)) (sym c.node.view_is ∙ ap syntax_of c.in-Integer.is) c.requires.fits in
     fits_bare IsNumberType (ty c.args.of) _ fits c.bare-inside.ensures
 
-pub build-text_tree-requires-clause-fits : goal.build-text_tree-requires-clause-fits
-build-text_tree-requires-clause-fits t c =
+pub build-text_tree-built-requires-clause-fits : goal.build-text_tree-built-requires-clause-fits
+build-text_tree-built-requires-clause-fits t c =
     let fits = subst (λ x. Admits x (ty c.args.of)) (sym c.node.view_is ∙ ap syntax_of c.in-Text.is) c.requires.fits in
     fits_bare IsTextType (ty c.args.of) _ fits c.bare-inside.ensures
 
-pub build-text_tree-requires-clause-plain : goal.build-text_tree-requires-clause-plain
-build-text_tree-requires-clause-plain t c =
+pub build-text_tree-built-requires-clause-plain : goal.build-text_tree-built-requires-clause-plain
+build-text_tree-built-requires-clause-plain t c =
     let is = sym c.node.view_is ∙ ap syntax_of c.in-Text.is in
     let within = subst IsInLimits is c.requires.within in
     rw c.as_str.ensures.value within.plain
 
-pub build-byte_string_at-requires : goal.build-byte_string_at-requires
-build-byte_string_at-requires t c =
+pub build-byte_string_at-built-requires : goal.build-byte_string_at-built-requires
+build-byte_string_at-built-requires t c =
     let fits = subst (λ x. Admits x (ty c.args.of)) (sym c.node.view_is ∙ ap syntax_of c.in-ByteString.is) c.requires.fits in
     fits_bare (λ u. u ≡ array (basic byte)) (ty c.args.of) _ fits c.bare-inside.ensures
 
-pub build-build_array-requires : goal.build-build_array-requires
-build-build_array-requires t c =
+pub build-in_maybes-requires : goal.build-in_maybes-requires
+build-in_maybes-requires t c =
+    let bare = bare_type (ty c.args.of) in
+    let inside = c.bare-inside.ensures in
+    elim c.match-node.branch [
+      | build-in-Truth w ↦
+          let fits = subst (λ x. Admits x (ty c.args.of)) (sym c.node.view_is ∙ ap syntax_of w.in-Truth.is) c.requires.fits in
+          let type = fits_bare (λ u. u ≡ basic boolean) (ty c.args.of) bare fits refl in
+          rw w.built-is (subst (λ u. IsOfType u w.truth_tree-built.result) (sym type) w.truth_tree-built.ensures.typed)
+      | build-in-Integer w ↦ rw w.built-is (subst (λ u. IsOfType u w.number_tree-built.result) inside w.number_tree-built.ensures.typed)
+      | build-in-Text w ↦ rw w.built-is (subst (λ u. IsOfType u w.text_tree-built.result) inside w.text_tree-built.ensures.typed)
+      | build-in-ByteString w ↦ rw w.built-is (subst (λ u. IsOfType u w.byte_string_at-built.result) inside w.byte_string_at-built.ensures.typed)
+      | build-in-Array w ↦ rw w.built-is (subst (λ u. IsOfType u w.build_array-built.result) inside w.build_array-built.ensures.typed)
+      | build-in-Tuple w ↦ rw w.built-is (subst (λ u. IsOfType u w.build_tuple-built.result) inside w.build_tuple-built.ensures.typed)
+      | build-in-Dictionary w ↦ rw w.built-is (subst (λ u. IsOfType u w.build_dictionary-built.result) inside w.build_dictionary-built.ensures.typed)
+      | build-in-Entry w ↦ rw w.built-is (subst (λ u. IsOfType u w.build_entry-built.result) inside w.build_entry-built.ensures.typed)
+      | build-in-Variant w ↦
+          let fits = subst (λ x. Admits x (ty c.args.of)) (sym c.node.view_is ∙ ap syntax_of w.in-Variant.is) c.requires.fits in
+          let type = fits_bare (λ u. u ≡ variant) (ty c.args.of) bare fits refl in
+          rw w.built-is (subst (λ u. IsOfType u w.build_variant-built.result) (sym type) w.build_variant-built.ensures.typed)
+    ]
+
+pub build-returns-clause-built : goal.build-returns-clause-built
+unfolding literal_value
+build-returns-clause-built t c =
+    let of = ty c.args.of in
+    let bare = bare_type of in
+    let inside = c.bare-inside.ensures in
+    let r = c.in_maybes.result in
+    elim c.match-node.branch [
+      | build-in-Truth w ↦
+          let is = sym c.node.view_is ∙ ap syntax_of w.in-Truth.is in
+          let f = at_basic (λ k. Ok (number k (truth_bits w.in-Truth.truth))) in
+          let fits = subst (λ x. Admits x of) is c.requires.fits in
+          let type = fits_bare (λ u. u ≡ basic boolean) of bare fits refl in
+          let held = subst (λ u. IsBuilt (f u) w.truth_tree-built.result) (sym type) w.truth_tree-built.ensures.built in
+          subst (λ v. IsBuilt v r) (sym (ap (λ x. literal_value choice x of) is ∙ truth_value choice w.in-Truth.truth of))
+          (c.in_maybes.ensures.built f (subst (λ b. IsBuilt (f bare) b) (sym w.built-is) held))
+      | build-in-Integer w ↦
+          let is = sym c.node.view_is ∙ ap syntax_of w.in-Integer.is in
+          let f = at_basic (λ k. integer_at k w.in-Integer.negative w.in-Integer.magnitude) in
+          let held = subst (λ u. IsBuilt (f u) w.number_tree-built.result) inside w.number_tree-built.ensures.built in
+          subst (λ x. IsBuilt (literal_value choice x of) r) (sym is) (c.in_maybes.ensures.built f (subst (λ b. IsBuilt (f bare) b) (sym w.built-is) held))
+      | build-in-Text w ↦
+          let is = sym c.node.view_is ∙ ap syntax_of w.in-Text.is in
+          let f = at_basic (λ k. text_at k (string_bytes w.in-Text.text)) in
+          let built = subst (λ s. IsBuilt (at_basic (λ k. text_at k s) (ty c.bare-inside.result)) w.text_tree-built.result) w.as_str.ensures.value w.text_tree-built.ensures.built in
+          let held = subst (λ u. IsBuilt (f u) w.text_tree-built.result) inside built in
+          subst (λ x. IsBuilt (literal_value choice x of) r) (sym is) (c.in_maybes.ensures.built f (subst (λ b. IsBuilt (f bare) b) (sym w.built-is) held))
+      | build-in-ByteString w ↦
+          let is = sym c.node.view_is ∙ ap syntax_of w.in-ByteString.is in
+          let f = at_array (λ u. Ok (byte_string_trees w.in-ByteString.bytes.items)) in
+          let fits = subst (λ x. Admits x of) is c.requires.fits in
+          let kind = fits_bare (λ u. u ≡ array (basic byte)) of _ fits inside in
+          let built = subst (λ s. IsBuilt (Ok (node (ty c.bare-inside.result) (byte_string_trees s))) w.byte_string_at-built.result) w.as_slice.ensures.value w.byte_string_at-built.ensures.built in
+          let at_type = bytes_at (ty c.bare-inside.result) w.in-ByteString.bytes.items w.byte_string_at-built.result kind built in
+          let held = subst (λ u. IsBuilt (f u) w.byte_string_at-built.result) inside at_type in
+          subst (λ x. IsBuilt (literal_value choice x of) r) (sym is) (c.in_maybes.ensures.built f (subst (λ b. IsBuilt (f bare) b) (sym w.built-is) held))
+      | build-in-Array w ↦
+          let is = sym c.node.view_is ∙ ap syntax_of w.in-Array.is in
+          let f = at_array (elements choice (nodes_of w.in-Array.elements.items)) in
+          let built = subst (λ xs. IsBuilt (at_array (elements choice (nodes_of xs)) (ty c.bare-inside.result)) w.build_array-built.result) w.as_slice-in-Array.ensures.value w.build_array-built.ensures.built in
+          let held = subst (λ u. IsBuilt (f u) w.build_array-built.result) inside built in
+          subst (λ x. IsBuilt (literal_value choice x of) r) (sym is) (c.in_maybes.ensures.built f (subst (λ b. IsBuilt (f bare) b) (sym w.built-is) held))
+      | build-in-Tuple w ↦
+          let is = sym c.node.view_is ∙ ap syntax_of w.in-Tuple.is in
+          let f = at_tuple (members_of choice (nodes_of w.in-Tuple.members.items)) in
+          let built = subst (λ xs. IsBuilt (at_tuple (members_of choice (nodes_of xs)) (ty c.bare-inside.result)) w.build_tuple-built.result) w.as_slice-in-Tuple.ensures.value w.build_tuple-built.ensures.built in
+          let held = subst (λ u. IsBuilt (f u) w.build_tuple-built.result) inside built in
+          subst (λ x. IsBuilt (literal_value choice x of) r) (sym is) (c.in_maybes.ensures.built f (subst (λ b. IsBuilt (f bare) b) (sym w.built-is) held))
+      | build-in-Dictionary w ↦
+          let is = sym c.node.view_is ∙ ap syntax_of w.in-Dictionary.is in
+          let f = at_array (entries choice (pairs_of w.in-Dictionary.pairs.items)) in
+          let built = subst (λ ps. IsBuilt (at_array (entries choice (pairs_of ps)) (ty c.bare-inside.result)) w.build_dictionary-built.result) w.as_slice-in-Dictionary.ensures.value w.build_dictionary-built.ensures.built in
+          let held = subst (λ u. IsBuilt (f u) w.build_dictionary-built.result) inside built in
+          subst (λ x. IsBuilt (literal_value choice x of) r) (sym is) (c.in_maybes.ensures.built f (subst (λ b. IsBuilt (f bare) b) (sym w.built-is) held))
+      | build-in-Entry w ↦
+          let is = sym c.node.view_is ∙ ap syntax_of w.in-Entry.is in
+          let f = at_entry (literal_value choice w.in-Entry.key.value) (literal_value choice w.in-Entry.value.value) in
+          let key = subst (λ x. IsBuilt (at_entry (literal_value choice x) (literal_value choice w.deref-in-Entry.result.now) (ty c.bare-inside.result)) w.build_entry-built.result) w.deref.ensures w.build_entry-built.ensures.built in
+          let built = subst (λ x. IsBuilt (at_entry (literal_value choice w.in-Entry.key.value) (literal_value choice x) (ty c.bare-inside.result)) w.build_entry-built.result) w.deref-in-Entry.ensures key in
+          let held = subst (λ u. IsBuilt (f u) w.build_entry-built.result) inside built in
+          subst (λ x. IsBuilt (literal_value choice x of) r) (sym is) (c.in_maybes.ensures.built f (subst (λ b. IsBuilt (f bare) b) (sym w.built-is) held))
+      | build-in-Variant w ↦
+          let is = sym c.node.view_is ∙ ap syntax_of w.in-Variant.is in
+          let f = at_variant (only_one (chosen_or (literal_value choice w.in-Variant.content.value) (choice w.in-Variant.content.value))) in
+          let fits = subst (λ x. Admits x of) is c.requires.fits in
+          let type = fits_bare (λ u. u ≡ variant) of bare fits refl in
+          let built = subst (λ x. IsBuilt (at_variant (only_one (chosen_or (literal_value choice x) (choice x))) variant) w.build_variant-built.result) w.deref-in-Variant.ensures w.build_variant-built.ensures.built in
+          let held = subst (λ u. IsBuilt (f u) w.build_variant-built.result) (sym type) built in
+          subst (λ x. IsBuilt (literal_value choice x of) r) (sym is) (c.in_maybes.ensures.built f (subst (λ b. IsBuilt (f bare) b) (sym w.built-is) held))
+    ]
+
+pub build-build_array-built-requires : goal.build-build_array-built-requires
+build-build_array-built-requires t c =
     let is = sym c.node.view_is ∙ ap syntax_of c.in-Array.is in
     let deep = ap levels is ∙ list_levels _ in
     let same = ap (λ xs. greatest_levels (nodes_of xs)) c.as_slice-in-Array.ensures.value in
@@ -73,8 +162,8 @@ build-build_array-requires t c =
       ),
     )
 
-pub build-build_tuple-requires : goal.build-build_tuple-requires
-build-build_tuple-requires t c =
+pub build-build_tuple-built-requires : goal.build-build_tuple-built-requires
+build-build_tuple-built-requires t c =
     let is = sym c.node.view_is ∙ ap syntax_of c.in-Tuple.is in
     let deep = ap levels is ∙ tuple_levels _ in
     let same = ap (λ xs. greatest_levels (nodes_of xs)) c.as_slice-in-Tuple.ensures.value in
@@ -83,8 +172,8 @@ build-build_tuple-requires t c =
     let xs = c.as_slice-in-Tuple.ensures.value in
     (omega (arith, deep, same, c.decreases), (subst (λ ys. IsTupleOf (Admit (nodes_of ys)) (ty c.bare-inside.result)) (sym xs) (fits_bare (IsTupleOf (Admit (nodes_of c.in-Tuple.members.items))) (ty c.args.of) _ fits c.bare-inside.ensures), subst (λ ys. AreWithin (nodes_of ys)) (sym xs) within))
 
-pub build-build_variant-requires : goal.build-build_variant-requires
-build-build_variant-requires t c =
+pub build-build_variant-built-requires : goal.build-build_variant-built-requires
+build-build_variant-built-requires t c =
     let is = sym c.node.view_is ∙ ap syntax_of c.in-Variant.is in
     let content = c.deref-in-Variant.ensures in
     let within = box_within _ (subst IsInLimits is c.requires.within) in
@@ -114,41 +203,8 @@ build-build-requires-in-Keyword t c =
     let within = keyword_within _ _ (subst IsInLimits is c.requires.within) in
     (omega (arith, ap levels is ∙ keyword_levels _ _, ap levels inner, c.decreases), (rw inner fits.1, rw inner within))
 
-pub build-returns-in-Truth-clause-built : goal.build-returns-in-Truth-clause-built
-build-returns-in-Truth-clause-built t c =
-    let is = sym c.node.view_is ∙ ap syntax_of c.in-Truth.is in
-    let f = at_basic (λ k. Ok (number k (truth_bits c.in-Truth.truth))) in
-    let fits = subst (λ x. Admits x (ty c.args.of)) is c.requires.fits in
-    let type = fits_bare (λ u. u ≡ basic boolean) (ty c.args.of) (bare_type (ty c.args.of)) fits refl in
-    subst (λ v. IsBuilt v c.in_maybes.result) (sym (ap (λ x. literal_value choice x (ty c.args.of)) is ∙ truth_value choice c.in-Truth.truth (ty c.args.of)))
-    (c.in_maybes.ensures.built f (subst (λ u. IsBuilt (f u) c.truth_tree.result) (sym type) c.truth_tree.ensures.built))
-
-pub build-returns-in-Integer-clause-built : goal.build-returns-in-Integer-clause-built
-unfolding literal_value
-build-returns-in-Integer-clause-built t c =
-    let is = sym c.node.view_is ∙ ap syntax_of c.in-Integer.is in
-    let f = at_basic (λ k. integer_at k c.in-Integer.negative c.in-Integer.magnitude) in
-    subst (λ x. IsBuilt (literal_value choice x (ty c.args.of)) c.in_maybes-in-Integer.result) (sym is)
-    (c.in_maybes-in-Integer.ensures.built f (subst (λ u. IsBuilt (f u) c.number_tree.result) c.bare-inside.ensures c.number_tree.ensures.built))
-
-pub build-returns-in-Array-clause-built : goal.build-returns-in-Array-clause-built
-unfolding literal_value
-build-returns-in-Array-clause-built t c =
-    let is = sym c.node.view_is ∙ ap syntax_of c.in-Array.is in
-    let built = subst (λ xs. IsBuilt (at_array (elements choice (nodes_of xs)) (ty c.bare-inside.result)) c.build_array.result) c.as_slice-in-Array.ensures.value c.build_array.ensures.built in
-    let bare = subst (λ u. IsBuilt (at_array (elements choice (nodes_of c.in-Array.elements.items)) u) c.build_array.result) c.bare-inside.ensures built in
-    subst (λ x. IsBuilt (literal_value choice x (ty c.args.of)) c.in_maybes-in-Array.result) (sym is) (c.in_maybes-in-Array.ensures.built (at_array (elements choice (nodes_of c.in-Array.elements.items))) bare)
-
-pub build-returns-in-Tuple-clause-built : goal.build-returns-in-Tuple-clause-built
-unfolding literal_value
-build-returns-in-Tuple-clause-built t c =
-    let is = sym c.node.view_is ∙ ap syntax_of c.in-Tuple.is in
-    let built = subst (λ xs. IsBuilt (at_tuple (members_of choice (nodes_of xs)) (ty c.bare-inside.result)) c.build_tuple.result) c.as_slice-in-Tuple.ensures.value c.build_tuple.ensures.built in
-    let bare = subst (λ u. IsBuilt (at_tuple (members_of choice (nodes_of c.in-Tuple.members.items)) u) c.build_tuple.result) c.bare-inside.ensures built in
-    subst (λ x. IsBuilt (literal_value choice x (ty c.args.of)) c.in_maybes-in-Tuple.result) (sym is) (c.in_maybes-in-Tuple.ensures.built (at_tuple (members_of choice (nodes_of c.in-Tuple.members.items))) bare)
-
-pub build-build_dictionary-requires : goal.build-build_dictionary-requires
-build-build_dictionary-requires t c =
+pub build-build_dictionary-built-requires : goal.build-build_dictionary-built-requires
+build-build_dictionary-built-requires t c =
     let is = sym c.node.view_is ∙ ap syntax_of c.in-Dictionary.is in
     let deep = ap levels is ∙ dictionary_levels _ in
     let same = ap (λ ps. pairs_levels (pairs_of ps)) c.as_slice-in-Dictionary.ensures.value in
@@ -164,54 +220,11 @@ build-build_dictionary-requires t c =
       ),
     )
 
-pub build-in_maybes-requires-in-Variant : goal.build-in_maybes-requires-in-Variant
-build-in_maybes-requires-in-Variant t c =
-    let fits = subst (λ x. Admits x (ty c.args.of)) (sym c.node.view_is ∙ ap syntax_of c.in-Variant.is) c.requires.fits in
-    subst (λ u. IsOfType u c.build_variant.result) (sym (fits_bare (λ u. u ≡ variant) (ty c.args.of) (bare_type (ty c.args.of)) fits refl)) c.build_variant.ensures.typed
-
 pub build-nothing-requires : goal.build-nothing-requires
 build-nothing-requires t c =
     let fits = subst (λ x. Admits x (ty c.args.of)) (sym c.node.view_is ∙ ap syntax_of c.in-Nothing.is) c.requires.fits in
     let is = maybe_holds (λ u. Unit {0}) _ _ _ fits c.element.ensures c.unwrap.ensures in
     record { within = subst IsWithinLimits is.is (within_type _ c.args.of.spells_type) }
-
-pub build-returns-in-Text-clause-built : goal.build-returns-in-Text-clause-built
-unfolding literal_value
-build-returns-in-Text-clause-built t c =
-    let is = sym c.node.view_is ∙ ap syntax_of c.in-Text.is in
-    let built = subst (λ s. IsBuilt (at_basic (λ k. text_at k s) (ty c.bare-inside.result)) c.text_tree.result) c.as_str.ensures.value c.text_tree.ensures.built in
-    subst (λ x. IsBuilt (literal_value choice x (ty c.args.of)) c.in_maybes-in-Text.result) (sym is)
-    (c.in_maybes-in-Text.ensures.built (at_basic (λ k. text_at k (string_bytes c.in-Text.text))) (subst (λ u. IsBuilt (at_basic (λ k. text_at k (string_bytes c.in-Text.text)) u) c.text_tree.result) c.bare-inside.ensures built))
-
-pub build-returns-in-ByteString-clause-built : goal.build-returns-in-ByteString-clause-built
-unfolding literal_value
-build-returns-in-ByteString-clause-built t c =
-    let is = sym c.node.view_is ∙ ap syntax_of c.in-ByteString.is in
-    let fits = subst (λ x. Admits x (ty c.args.of)) is c.requires.fits in
-    let kind = fits_bare (λ u. u ≡ array (basic byte)) (ty c.args.of) _ fits c.bare-inside.ensures in
-    let built = subst (λ s. IsBuilt (Ok (node (ty c.bare-inside.result) (byte_string_trees s))) c.byte_string_at.result) c.as_slice.ensures.value c.byte_string_at.ensures.built in
-    let at_type = bytes_at (ty c.bare-inside.result) c.in-ByteString.bytes.items c.byte_string_at.result kind built in
-    subst (λ x. IsBuilt (literal_value choice x (ty c.args.of)) c.in_maybes-in-ByteString.result) (sym is)
-    (c.in_maybes-in-ByteString.ensures.built (at_array (λ u. Ok (byte_string_trees c.in-ByteString.bytes.items))) (subst (λ u. IsBuilt (at_array (λ u. Ok (byte_string_trees c.in-ByteString.bytes.items)) u) c.byte_string_at.result) c.bare-inside.ensures at_type))
-
-pub build-returns-in-Dictionary-clause-built : goal.build-returns-in-Dictionary-clause-built
-unfolding literal_value
-build-returns-in-Dictionary-clause-built t c =
-    let is = sym c.node.view_is ∙ ap syntax_of c.in-Dictionary.is in
-    let built = subst (λ ps. IsBuilt (at_array (entries choice (pairs_of ps)) (ty c.bare-inside.result)) c.build_dictionary.result) c.as_slice-in-Dictionary.ensures.value c.build_dictionary.ensures.built in
-    let bare = subst (λ u. IsBuilt (at_array (entries choice (pairs_of c.in-Dictionary.pairs.items)) u) c.build_dictionary.result) c.bare-inside.ensures built in
-    subst (λ x. IsBuilt (literal_value choice x (ty c.args.of)) c.in_maybes-in-Dictionary.result) (sym is) (c.in_maybes-in-Dictionary.ensures.built (at_array (entries choice (pairs_of c.in-Dictionary.pairs.items))) bare)
-
-pub build-returns-in-Variant-clause-built : goal.build-returns-in-Variant-clause-built
-unfolding literal_value
-build-returns-in-Variant-clause-built t c =
-    let is = sym c.node.view_is ∙ ap syntax_of c.in-Variant.is in
-    let f = at_variant (only_one (chosen_or (literal_value choice c.in-Variant.content.value) (choice c.in-Variant.content.value))) in
-    let fits = subst (λ x. Admits x (ty c.args.of)) is c.requires.fits in
-    let type = fits_bare (λ u. u ≡ variant) (ty c.args.of) (bare_type (ty c.args.of)) fits refl in
-    let built : IsBuilt (f variant) c.build_variant.result = search rules in
-    subst (λ x. IsBuilt (literal_value choice x (ty c.args.of)) c.in_maybes-in-Variant.result) (sym is)
-    (c.in_maybes-in-Variant.ensures.built f (subst (λ u. IsBuilt (f u) c.build_variant.result) (sym type) built))
 
 pub build-returns-in-Just-clause-built : goal.build-returns-in-Just-clause-built
 unfolding literal_value
@@ -243,8 +256,8 @@ build-returns-in-Keyword-clause-built t c =
     let built : IsBuilt (literal_value choice c.in-Keyword.inner.value (ty c.args.of)) c.build-in-Keyword.result = search rules in
     subst (λ x. IsBuilt (literal_value choice x (ty c.args.of)) c.build-in-Keyword.result) (sym is) built
 
-pub build-build_entry-requires : goal.build-build_entry-requires
-build-build_entry-requires t c =
+pub build-build_entry-built-requires : goal.build-build_entry-built-requires
+build-build_entry-built-requires t c =
     let is = sym c.node.view_is ∙ ap syntax_of c.in-Entry.is in
     let deep = ap levels is ∙ lone_levels c.in-Entry.key.value c.in-Entry.value.value in
     let key = c.deref.ensures in
@@ -253,16 +266,6 @@ build-build_entry-requires t c =
     let within = entry_within _ _ (subst IsInLimits is c.requires.within) in
     let bare = fits_bare (IsEntryOf (Admits c.in-Entry.key.value) (Admits c.in-Entry.value.value)) (ty c.args.of) _ fits c.bare-inside.ensures in
     (omega (arith, deep, ap levels key, ap levels value, c.decreases), (rw (key, value) bare, (rw key within.0, rw value within.1)))
-
-pub build-returns-in-Entry-clause-built : goal.build-returns-in-Entry-clause-built
-unfolding literal_value
-build-returns-in-Entry-clause-built t c =
-    let is = sym c.node.view_is ∙ ap syntax_of c.in-Entry.is in
-    let f = at_entry (literal_value choice c.in-Entry.key.value) (literal_value choice c.in-Entry.value.value) in
-    let built = subst (λ x. IsBuilt (at_entry (literal_value choice x) (literal_value choice c.deref-in-Entry.result.now) (ty c.bare-inside.result)) c.build_entry.result) c.deref.ensures c.build_entry.ensures.built in
-    let same = subst (λ x. IsBuilt (at_entry (literal_value choice c.in-Entry.key.value) (literal_value choice x) (ty c.bare-inside.result)) c.build_entry.result) c.deref-in-Entry.ensures built in
-    subst (λ x. IsBuilt (literal_value choice x (ty c.args.of)) c.in_maybes-in-Entry.result) (sym is)
-    (c.in_maybes-in-Entry.ensures.built f (subst (λ u. IsBuilt (f u) c.build_entry.result) c.bare-inside.ensures same))
 
 pub build_array-array-requires-clause-typed : goal.build_array-array-requires-clause-typed
 build_array-array-requires-clause-typed t c = all_of_type (ty c.unwrap-element.result) (elements choice (nodes_of c.args.nodes.now) (ty c.unwrap-element.result)) c.in_ok-children.children (elements_typed choice (nodes_of c.args.nodes.now) (ty c.unwrap-element.result)) c.in_ok-children.ensures
