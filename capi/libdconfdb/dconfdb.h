@@ -132,7 +132,7 @@ extern "C" {
 
 /* Why something failed. Numbers never change their meaning; later versions may add some. */
 typedef enum DconfdbErrorCode {
-    DCONFDB_ERROR_NONE = 0,
+    DCONFDB_ERROR_NONE = 0,             /* no error */
     DCONFDB_ERROR_MEMORY = 1,           /* an allocation failed */
     DCONFDB_ERROR_SHORT = 2,            /* a database: fewer bytes than a header */
     DCONFDB_ERROR_BAD_SIGNATURE = 3,    /* .. it does not start as a database does */
@@ -172,7 +172,7 @@ typedef enum DconfdbOutcome {
 /* What failed. It belongs to the caller, who makes it by DCONFDB_ERROR_INIT; it need not be freed. */
 typedef struct DconfdbError {
     size_t size;            /* this struct's: a later version, in which more fields follow, writes no more than that */
-    DconfdbErrorCode code;
+    DconfdbErrorCode code;  /* why it failed */
     DconfdbOutcome outcome; /* of a change that failed; else DCONFDB_OUTCOME_KEPT */
     int errnum;             /* errno if the code is DCONFDB_ERROR_FILE, else 0 */
     size_t edit;            /* the index of the bad edit, for BAD_PATH to VALUE_TOO_LARGE, BAD_VALUE, CHANGED; else 0 */
@@ -285,10 +285,10 @@ DCONFDB_API bool dconfdb_snapshot_is_newest(const DconfdbSnapshot *snapshot) DCO
 /* A value, lent from a snapshot. */
 typedef struct DconfdbValue {
     const void *data; /* the bytes of a little-endian GVariant; never NULL */
-    size_t size;
+    size_t size;      /* how many bytes they are */
     const char *type; /* GVariant's type text, without a zero byte after it */
-    size_t type_size;
-    size_t origin; /* the index of the database that has it */
+    size_t type_size; /* how many bytes the type text has */
+    size_t origin;    /* the index of the database that has it */
 } DconfdbValue;
 
 /* The effective value of a key: that of the first database that has one, unless a later one locks
@@ -430,10 +430,10 @@ DCONFDB_NODISCARD DCONFDB_API char *dconfdb_snapshot_differences(const DconfdbSn
  * Without a type (NULL), it removes the user's value at the path. A path that ends in `/` is then a
  * directory: all of the user's values below it are removed, except those of locked keys. */
 typedef struct DconfdbEdit {
-    const char *path;
-    const char *type;
+    const char *path; /* of a key or, to remove values, of a directory, too */
+    const char *type; /* GVariant's type text; NULL removes the value */
     const void *data; /* the bytes of a little-endian GVariant */
-    size_t size;
+    size_t size;      /* how many bytes they are */
 } DconfdbEdit;
 
 /* Makes all edits, in order, or none. The user's file is read again and replaced atomically, and
