@@ -89,7 +89,9 @@ def members(code):
     out = []
     for member, comment in re.findall(r"^    (\w[^;/]*?[;,]?)\s*(?:/\* (.*?) \*/)?$", code, re.M | re.S):
         said = re.sub(r"\n\s*\* ?", " ", comment).removeprefix(".. ")
-        out += [".TP", f"\\fB{escaped(member.rstrip(',;'))}\\fR", *lines_of(marked(said[:1].upper() + said[1:] + "." if said else "No error."))]
+        if not said:
+            raise SystemExit(f"man-pages: the header says nothing of {member}")
+        out += [".TP", f"\\fB{escaped(member.rstrip(',;'))}\\fR", *lines_of(marked(said[:1].upper() + said[1:] + "."))]
     return out
 
 

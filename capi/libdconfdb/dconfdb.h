@@ -30,7 +30,9 @@
  * last two that doesn't start with `/`. The profile is the file `profile` in the folder, else
  * /etc/dconfdb/profile, else the text `user-db:user`. Where no folder is given, $DCONFDB_PROFILE
  * names another one, if it is set and not empty: a path, if it has a `/`, else a file in
- * /etc/dconfdb/profiles. If that can't be read, no other profile takes its place. A profile names
+ * /etc/dconfdb/profiles. If that can't be read, no other profile takes its place. To a program
+ * with another user's rights (setuid, setgid) all these variables are unset, and no home is asked for: its
+ * store is a folder that is given, or there is none (NO_FOLDER). A profile names
  * one database per line, the one that is asked first at the top: `user-db:NAME` is the file NAME.user
  * in the folder, `system-db:NAME` is NAME.db in the folder, and `file-db:PATH` is the file PATH,
  * relative to the folder. But if no folder is given, a `system-db:NAME` of /etc/dconfdb/profile is
@@ -76,7 +78,8 @@
  * MAPPED FILES. Databases other than the user's are mapped. So they have to be replaced by a
  * rename, as `dconfdb compile` and `dconf update` do: truncating one in place kills the programs
  * that read it, with SIGBUS, and overwriting one changes what they were lent. The user's file is
- * read into memory: it may be changed in any way.
+ * read into memory: however it is changed, what was lent stays as it is. But a look amid an overwriting
+ * in place reads what is there by then, old bytes and new ones.
  *
  * A CALLER'S DUTIES. Nothing checks them. Pointers point to live objects, and are NULL only if
  * this header allows it. A struct that has a `size` is made by its initialiser. Texts end in a zero byte. No other thread changes memory that is passed to a
@@ -85,8 +88,11 @@
  * once. What the caller has to free is freed once, with free().
  *
  * WHAT IS PROVED. The library asks proved calls what a database's bytes mean, what can be read of a bad
- * one, what a key's effective value is, what is locked, listed or different, whether an edit may be made,
- * whether its value is stored already, and which file it makes. The effective value is that of the
+ * one, what a key's effective value is, what is locked, listed or different, what is in a value, what its
+ * text is, and which value a text has; whether an edit may be made, whether something else is seen than was
+ * expected, whether a value is stored already, and which file the edits make. By proved calls, too, go the
+ * lines of a profile, which file is read next by a refresh, and the steps of a change: which one is next,
+ * and what is said of the file in the end. The effective value is that of the
  * databases in their order, each of them sound, or what `repair` keeps of it. Everything else that this
  * header says is C, which is tested and not proved: where a store is; how files are read, mapped, locked
  * and replaced; references, threads and stack; the fields and text of an error; what a call does when
@@ -136,7 +142,7 @@ extern "C" {
 
 /* Why something failed. Numbers never change their meaning; later versions may add some. */
 typedef enum DconfdbErrorCode {
-    DCONFDB_ERROR_NONE = 0,
+    DCONFDB_ERROR_NONE = 0,             /* no error */
     DCONFDB_ERROR_MEMORY = 1,           /* an allocation failed */
     DCONFDB_ERROR_SHORT = 2,            /* a database: fewer bytes than a header */
     DCONFDB_ERROR_BAD_SIGNATURE = 3,    /* .. it does not start as a database does */
@@ -176,7 +182,7 @@ typedef enum DconfdbOutcome {
 /* What failed. It belongs to the caller, who makes it by DCONFDB_ERROR_INIT; it need not be freed. */
 typedef struct DconfdbError {
     size_t size;            /* this struct's: a later version, in which more fields follow, writes no more than that */
-    DconfdbErrorCode code;
+    DconfdbErrorCode code;  /* why it failed */
     DconfdbOutcome outcome; /* of a change that failed; else DCONFDB_OUTCOME_KEPT */
     int errnum;             /* errno if the code is DCONFDB_ERROR_FILE, else 0 */
     size_t edit;            /* the index of the bad edit, for BAD_PATH to VALUE_TOO_LARGE, BAD_VALUE, CHANGED; else 0 */
@@ -232,10 +238,11 @@ DCONFDB_API void dconfdb_store_close(DconfdbStore *store) DCONFDB_NOEXCEPT;
 DCONFDB_API bool dconfdb_store_profile_fault(const DconfdbStore *store, DconfdbError *error)
     DCONFDB_NOEXCEPT DCONFDB_NONNULL((1));
 
-/* The files that opening the store of that folder, or of the environment, looks at: the folder's
- * profile, or the one that $DCONFDB_PROFILE names; that of all users; and the databases that the
- * profile's good lines name. If opening a store fails, these are the files to check. The form is that
- * of dconfdb_snapshot_list, and getenv() is called as by dconfdb_store_open. NULL: it failed. */
+/* The files that opening the store of that folder, or of the environment, may look at: the folder's
+ * profile, or the one that $DCONFDB_PROFILE names; that of all users, which is read only if the folder has
+ * none and none is named; and the databases that the good lines of the profile that counts name. If
+ * opening a store fails, these are the files to check. The form is that of dconfdb_snapshot_list, and
+ * getenv() is called as by dconfdb_store_open. NULL: it failed. */
 DCONFDB_NODISCARD DCONFDB_API char *dconfdb_store_files(const char *folder, size_t *size, DconfdbError *error)
     DCONFDB_NOEXCEPT;
 
@@ -282,8 +289,8 @@ DCONFDB_API const char *dconfdb_snapshot_file(const DconfdbSnapshot *snapshot, s
 DCONFDB_API bool dconfdb_snapshot_fault(const DconfdbSnapshot *snapshot, size_t database, DconfdbError *error)
     DCONFDB_NOEXCEPT DCONFDB_NONNULL((1));
 
-/* Whether the user's file is still the snapshot's. This calls stat() once. True if there is no user's
- * database. */
+/* Whether the user's file is still the snapshot's, as far as one stat() can tell: by its device, inode, size
+ * and time of writing. False if stat() fails. True if there is no user's database. */
 DCONFDB_API bool dconfdb_snapshot_is_newest(const DconfdbSnapshot *snapshot) DCONFDB_NOEXCEPT DCONFDB_NONNULL((1));
 
 /* ---- dconfdb_snapshot_read: values, and what is locked */
@@ -291,10 +298,10 @@ DCONFDB_API bool dconfdb_snapshot_is_newest(const DconfdbSnapshot *snapshot) DCO
 /* A value, lent from a snapshot. */
 typedef struct DconfdbValue {
     const void *data; /* the bytes of a little-endian GVariant; never NULL */
-    size_t size;
+    size_t size;      /* how many bytes they are */
     const char *type; /* GVariant's type text, without a zero byte after it */
-    size_t type_size;
-    size_t origin; /* the index of the database that has it */
+    size_t type_size; /* how many bytes the type text has */
+    size_t origin;    /* the index of the database that has it */
 } DconfdbValue;
 
 /* The effective value of a key: that of the first database that has one, unless a later one locks
@@ -317,12 +324,12 @@ DCONFDB_API bool dconfdb_snapshot_is_writable(const DconfdbSnapshot *snapshot, c
 
 /* ---- dconfdb_value: what is in a value */
 
-/* What is in a value, at the type that it has. Any bytes have a value at any type, so no call but
- * dconfdb_value_print fails: false and NULL mean another type, or that there is no such child, and then
- * `out` and `child` stay as they were. Bytes that aren't in normal form have the value that GVariant
- * reads in them: the wrong number of bytes is 0, false or 0.0, and a text that is none is empty (`/` of
- * an `o`). No other call allocates; what is handed out is lent as the value is, and may be put in the
- * value's place. */
+/* What is in a value, at the type that it has. Any bytes have a value at any type, so of these calls only
+ * dconfdb_value_print and dconfdb_value_parse fail: else false and NULL mean another type, or that there
+ * is no such child, and then `out` and `child` stay as they were. Bytes that aren't in normal form have
+ * the value that GVariant reads in them: the wrong number of bytes is 0, false or 0.0, and a text that is
+ * none is empty (`/` of an `o`). Only those two allocate; what is handed out is lent as the value is, and
+ * may be put in the value's place. */
 
 /* A number of exactly this type; `int32` takes an `h` too. A double is C's own, bit for bit. */
 DCONFDB_API bool dconfdb_value_get_boolean(const DconfdbValue *value, bool *out)
@@ -374,21 +381,21 @@ DCONFDB_API size_t dconfdb_value_children(const DconfdbValue *value, DconfdbValu
     DCONFDB_NOEXCEPT DCONFDB_NONNULL((1, 2));
 
 /* The value of the first entry with this key in a dictionary whose keys are strings or object paths, such
- * as `a{sv}`. */
+ * as `a{sv}`. Of that it is a `v`, and dconfdb_value_get_variant gives what the `v` holds. */
 DCONFDB_API bool dconfdb_value_lookup(const DconfdbValue *value, const char *key, DconfdbValue *child)
     DCONFDB_NOEXCEPT DCONFDB_NONNULL((1, 2, 3));
 
 /* The value as a text that can be read back, as `dconfdb read` prints it; the caller frees it with
- * free(). NULL: it holds a double (DOUBLE_TEXT), it is nested more than 128 levels deep
- * (VALUE_TOO_LARGE), or no memory is left. */
+ * free(). NULL: its type is none, as that of a value that was never read (BAD_TYPE), it holds a double
+ * (DOUBLE_TEXT), it is nested more than 128 levels deep (VALUE_TOO_LARGE), or no memory is left. */
 DCONFDB_NODISCARD DCONFDB_API char *dconfdb_value_print(const DconfdbValue *value, DconfdbError *error)
     DCONFDB_NOEXCEPT DCONFDB_NONNULL((1));
 
 /* The value that a text has in GVariant's text format, such as `['one', 'two']` or `uint32 5`, as `dconfdb
  * write` reads it: at the least type that the text allows, in normal form. Its data and type are in one
  * block of the caller's, which free() of `data` frees; the type ends in a zero byte. So they may be put
- * into an edit. False, and then `value` stays as it was: it is no such text (BAD_TEXT, and the error's
- * text says what and where), it is not UTF-8 (NOT_TEXT), it holds a double (DOUBLE_TEXT), it has more than
+ * into an edit, which takes 127 levels. False, and then `value` stays as it was: it is no such text
+ * (BAD_TEXT, and the error's text says what and where), it is not UTF-8 (NOT_TEXT), it holds a double (DOUBLE_TEXT), it has more than
  * 16 MiB or 128 levels (VALUE_TOO_LARGE), or no memory is left. */
 DCONFDB_NODISCARD DCONFDB_API bool dconfdb_value_parse(const char *text, DconfdbValue *value, DconfdbError *error)
     DCONFDB_NOEXCEPT DCONFDB_NONNULL((1, 2));
@@ -449,10 +456,10 @@ DCONFDB_NODISCARD DCONFDB_API char *dconfdb_snapshot_differences(const DconfdbSn
  * Without a type (NULL), it removes the user's value at the path. A path that ends in `/` is then a
  * directory: all of the user's values below it are removed, except those of locked keys. */
 typedef struct DconfdbEdit {
-    const char *path;
-    const char *type;
+    const char *path; /* of a key or, to remove values, of a directory, too */
+    const char *type; /* GVariant's type text; NULL removes the value */
     const void *data; /* the bytes of a little-endian GVariant */
-    size_t size;
+    size_t size;      /* how many bytes they are */
 } DconfdbEdit;
 
 /* Makes all edits, in order, or none. The user's file is read again and replaced atomically, and
@@ -469,9 +476,9 @@ typedef struct DconfdbEdit {
  * changed.
  *
  * If no edit changes anything, because the user has that value already, or none where one is removed,
- * no file is written, unless this store's last write ended with EITHER or UNSETTLED. Values are compared,
- * not bytes. What stands there may be another program's, which did not wait for the disk: the file and its
- * folder are synced then, unless it is known that who wrote it did so.
+ * the user's file stays as it is, also a bad one, unless this store's last write ended with EITHER or
+ * UNSETTLED. Values are compared, not bytes. What stands there may be another program's, which did not
+ * wait for the disk: the file and its folder are synced then, unless it is known that who wrote it did so.
  *
  * The new file has the permission bits of the old one, and its group if the caller is in that; else
  * its own group has no more rights than all others have. A first file is its owner's alone (0600),
@@ -482,7 +489,8 @@ typedef struct DconfdbEdit {
  * The new file has no locks: a change drops those that the old one had. So a site's database must
  * not be anybody's user-db.
  *
- * A missing folder is made, even if the change is then refused. Programs that change the file take
+ * A missing folder is made, even if the change is then refused; but not if there is nothing to change:
+ * no edit sets a key and the user has no file, or the profile has no user's database. Programs that change the file take
  * turns with flock() on the file `.lock` in its folder, which is created if it is missing; only those
  * who may write in the folder may open it. If it has another name, too, it is replaced in a turn, and
  * the other name's file stays as it was. This call waits at most ten seconds for that lock, or as long
@@ -493,14 +501,18 @@ typedef struct DconfdbEdit {
  * False: it failed, and `outcome` says what became of the file. It has its old bytes, unless the code
  * is DCONFDB_ERROR_FILE and the outcome another: EITHER if the rename failed, since it may have been done
  * all the same; UNSETTLED if the folder could not be synced after it, or what is there already could not
- * be synced. Only then the newest snapshot has the edits. The text says so, too. After either of them, make the same edits again: if that returns true
- * they are on the disk. */
+ * be synced. Only then the newest snapshot has the edits. The text says so, too. After either of them,
+ * make the same edits again: if that returns true they are on the disk. Then pass a new snapshot as
+ * `expected`, or NULL: what was expected before is not what is seen if the edits were made, so it would
+ * be CHANGED. */
 DCONFDB_NODISCARD DCONFDB_API bool dconfdb_store_change(DconfdbStore *store, const DconfdbSnapshot *expected,
     const DconfdbEdit *edits, size_t count, DconfdbError *error)
     DCONFDB_NOEXCEPT DCONFDB_NONNULL((1));
 
 /* Whether the user already has what an edit asks for: this value of the key or, without a type, none.
- * Locks don't matter. This is about the snapshot; dconfdb_snapshot_is_newest says if the file is newer. */
+ * Locks don't matter. It doesn't say that the edit may be made: at a path that is no key's there is no value,
+ * so one that removes it is true. This is about the snapshot; dconfdb_snapshot_is_newest says if the file is
+ * newer. */
 DCONFDB_API bool dconfdb_snapshot_has_edit(const DconfdbSnapshot *snapshot, const DconfdbEdit *edit)
     DCONFDB_NOEXCEPT DCONFDB_NONNULL((1, 2));
 

@@ -80,6 +80,34 @@ void check_row(const Lint *lint, Place at, const char *path, GVariant *value);
 
 void check_lock(const Lint *lint, Place at, const char *path);
 
+/* ---- roles.c: as what `update` reads a file */
+
+typedef enum {
+    BY_ITS_TEXT, /* it is in no folder of sources, or alone: what it is, its text says */
+    SOURCE,      /* in NAME.d, a keyfile */
+    LOCK_SOURCE, /* in NAME.d/locks, a file of locks */
+    HIDDEN,      /* below NAME.d, by a name that starts with a dot: left out */
+    TOO_DEEP     /* in another folder below NAME.d: not read */
+} Role;
+
+/* A file that is asked for. */
+typedef struct {
+    const char *file;   /* as it was given */
+    char *folder;       /* a whole path */
+    const char *name;   /* in it */
+    size_t sources_len; /* of the path, how much is that of the folder NAME.d; 0: there is none */
+    Role role;
+} Asked;
+
+/* Those files, in the order in which they are taken: the folders one after another, and the names of each in byte order. */
+Asked *asked_files(char *const *files, size_t count);
+
+void asked_free(Asked *asked, size_t count);
+
+bool is_of_folder(const Asked *one, const Asked *other);
+
+bool is_same_file(const Asked *one, const Asked *other);
+
 /* ---- texts.c, database.c: what stands in a file */
 
 void check_keyfile(const Lint *lint, const char *file, const char *text, size_t len);

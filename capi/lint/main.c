@@ -45,63 +45,81 @@ static int read_file(const char *file, FileBytes *bytes, FileState *state)
     return fault;
 }
 
-static void check_text(const Lint *lint, const char *file, const FileBytes *bytes)
+static void find_neither(const char *file)
+{
+    find((Place){file, 0}, "it is neither a keyfile, nor a file of locks, nor a database");
+}
+
+/* `update` takes what is in its folders for keyfiles and for locks, whatever stands there. */
+static void check_text(const Lint *lint, const Asked *asked, const FileBytes *bytes)
 {
     const char *text = bytes->at ? (const char *)bytes->at : "";
     TextKind kind = kind_of_text(text, bytes->len);
-    if (kind == KEYFILE || kind == EMPTY)
-        check_keyfile(lint, file, text, bytes->len);
-    else if (kind == LOCKS)
-        check_locks(lint, file, text, bytes->len);
-    else if (kind == NEITHER)
-        find((Place){file, 0}, "it is neither a keyfile, nor a file of locks, nor a database");
+    bool is_binary = bytes->len > 0 && memchr(text, 0, bytes->len);
+    if (kind == NEITHER && (is_binary || asked->role == BY_ITS_TEXT))
+        find_neither(asked->file);
+    else if (asked->role == LOCK_SOURCE || (asked->role != SOURCE && kind == LOCKS))
+        check_locks(lint, asked->file, text, bytes->len);
+    else
+        check_keyfile(lint, asked->file, text, bytes->len);
 }
 
-static void check_file(const Lint *lint, const char *file)
+static void check_bytes(const Lint *lint, const Asked *asked, FileBytes *bytes, uintmax_t size)
+{
+    if (is_database(bytes->at, bytes->len) && asked->role == BY_ITS_TEXT)
+        check_database(lint, asked->file, bytes);
+    else if (is_database(bytes->at, bytes->len))
+        find((Place){asked->file, 0}, "it is a database, and no source of one");
+    else if (size > largest_text)
+        find((Place){asked->file, 0}, "TooBig: it has more than 16,777,216 bytes");
+    else
+        check_text(lint, asked, bytes);
+}
+
+static void check_file(const Lint *lint, const Asked *asked)
 {
     FileBytes bytes;
     FileState state;
-    int fault = read_file(file, &bytes, &state);
+    int fault = read_file(asked->file, &bytes, &state);
     if (fault == EOVERFLOW)
-        find((Place){file, 0}, "TooBig: it has more than 4,294,967,295 bytes");
+        find((Place){asked->file, 0}, "TooBig: it has more than 4,294,967,295 bytes");
     else if (fault != 0 || !state.is_there)
-        find_no_file(file, fault);
-    else if (is_database(bytes.at, bytes.len))
-        check_database(lint, file, &bytes);
-    else if ((uintmax_t)state.size > largest_text)
-        find((Place){file, 0}, "TooBig: it has more than 16,777,216 bytes");
+        find_no_file(asked->file, fault);
     else
-        check_text(lint, file, &bytes);
+        check_bytes(lint, asked, &bytes, (uintmax_t)state.size);
     file_release(&bytes);
 }
 
-static bool is_of_folder(const char *file, const char *other)
+static void find_unread(const Asked *asked)
 {
-    const char *end = strrchr(file, '/'), *other_end = strrchr(other, '/');
-    size_t len = end ? (size_t)(end - file) : 0, other_len = other_end ? (size_t)(other_end - other) : 0;
-    return !end == !other_end && len == other_len && memcmp(file, other, len) == 0;
+    const char *end = asked->folder + asked->sources_len, *name = (const char *)memrchr(asked->folder, '/', asked->sources_len) + 1;
+    find((Place){asked->file, 0}, "'update' does not read it: it is in a folder inside %.*s", (int)(end - name), name);
 }
 
-static int in_order(const void *one, const void *other)
+static void check_asked(const Lint *lint, const Asked *asked)
 {
-    return strcmp(*(char *const *)one, *(char *const *)other);
+    if (asked->role == TOO_DEEP)
+        find_unread(asked);
+    else if (asked->role != HIDDEN)
+        check_file(lint, asked);
 }
 
 /* The files of a folder are those of one database, in the order of their names. */
-static void check_files(const Schemas *schemas, char **files, size_t count)
+static void check_files(const Schemas *schemas, char *const *files, size_t count)
 {
     Lint lint = {schemas, NULL};
-    qsort(files, count, sizeof *files, in_order);
+    Asked *asked = asked_files(files, count);
     for (size_t i = 0; i < count; i++) {
-        if (i > 0 && strcmp(files[i], files[i - 1]) == 0)
+        if (i > 0 && is_same_file(&asked[i], &asked[i - 1]))
             continue;
-        if (i == 0 || !is_of_folder(files[i], files[i - 1])) {
+        if (i == 0 || !is_of_folder(&asked[i], &asked[i - 1])) {
             g_clear_pointer(&lint.set, g_hash_table_unref);
             lint.set = g_hash_table_new_full(g_str_hash, g_str_equal, g_free, g_free);
         }
-        check_file(&lint, files[i]);
+        check_asked(&lint, &asked[i]);
     }
     g_clear_pointer(&lint.set, g_hash_table_unref);
+    asked_free(asked, count);
 }
 
 /* ---- words */

@@ -87,8 +87,38 @@ static void tries_setting(const char *folder)
     free((void *)value.data);
     DconfdbSnapshot *now = dconfdb_store_snapshot(store);
     TRY(dconfdb_snapshot_read(now, "/parsed", &found) && dconfdb_value_lookup(&found, "width", &found));
+    TRY(found.type_size == 1 && found.type[0] == 'v' && !dconfdb_value_get_int32(&found, &number));
     TRY(dconfdb_value_get_variant(&found, &found) && dconfdb_value_get_int32(&found, &number) && number == -7);
     dconfdb_snapshot_unref(now);
+    dconfdb_store_close(store);
+}
+
+/* A text may have one level more than an edit takes. */
+static void tries_deepest(DconfdbStore *store)
+{
+    char deep[2 * 127 + 2] = "";
+    DconfdbValue value;
+    memset(deep, '[', 127);
+    deep[127] = '1';
+    memset(deep + 128, ']', 127);
+    TRY(dconfdb_value_parse(deep, &value, &error));
+    DconfdbEdit edit = {"/deep", value.type, value.data, value.size};
+    TRY(!dconfdb_store_change(store, NULL, &edit, 1, &error) && error.code == DCONFDB_ERROR_VALUE_TOO_LARGE);
+    free((void *)value.data);
+}
+
+/* A value that was never read has no type; and where there can be no value, one need not be removed. */
+static void tries_nothing(const char *folder)
+{
+    DconfdbStore *store = dconfdb_store_open(folder, &error);
+    DconfdbValue none = {"", 0, "", 0, 0};
+    DconfdbEdit removes = {"no path", NULL, NULL, 0}, sets = {"no path", "s", "", 1};
+    TRY(store && !dconfdb_value_print(&none, &error) && error.code == DCONFDB_ERROR_BAD_TYPE);
+    DconfdbSnapshot *now = dconfdb_store_snapshot(store);
+    TRY(dconfdb_snapshot_has_edit(now, &removes) && !dconfdb_snapshot_has_edit(now, &sets));
+    TRY(!dconfdb_store_change(store, NULL, &removes, 1, &error) && error.code == DCONFDB_ERROR_BAD_PATH);
+    dconfdb_snapshot_unref(now);
+    tries_deepest(store);
     dconfdb_store_close(store);
 }
 
@@ -99,5 +129,6 @@ int main(int argc, char **argv)
     tries_refusals();
     tries_large();
     tries_setting(argv[1]);
+    tries_nothing(argv[1]);
     return 0;
 }

@@ -47,6 +47,23 @@ CASES = {
     'in two files, in the order of their names': ({'b': DESK + 'on=true\n', 'a': DESK + '\non=true\n'},
                                                   [('b:2', '/org/example/desk/on is set already, at a:3')]),
     'in two folders': ({'b/k': DESK + 'on=true\n', 'a/k': DESK + 'on=true\n', 'k': DESK + 'on=true\n'}, []),
+    'in two files, on either side of the folder of locks': (
+        {'site.d/00': DESK + 'on=true\n', 'site.d/locks/l': '/org/example/desk/on\n', 'site.d/zz': DESK + 'on=false\n'},
+        [('site.d/zz:2', '/org/example/desk/on is set already, at site.d/00:2')]),
+    'one file by two names': ({'site.d/k': DESK + 'on=true\n', './site.d/k': DESK + 'on=true\n'}, []),
+    'what update leaves out': (
+        {'site.d/00': DESK + 'on=true\n', 'site.d/.00.swp': b'b0VIM\0', 'site.d/.git/config': '[core]\n', 'site.d/.old': DESK + 'onn=1\n', 'site.d/locks/.l': 'x\n'}, []),
+    'folders that update does not read': (
+        {'site.d/00': DESK + 'on=true\n', 'site.d/locks/old/l': '/org/example/desk/onn\n', 'site.d/old/00': DESK + 'onn=1\n'},
+        [(f'site.d/{it}:0', "'update' does not read it: it is in a folder inside site.d") for it in ('locks/old/l', 'old/00')]),
+    'folders of other names, and files alone': (
+        {'site.dd/old/00': DESK + 'onn=1\n', 'work.d/site/00': DESK + 'onn=1\n'}, [(f'{it}/00:2', f'{NO_KEY}/org/example/desk/onn{NEAR}on') for it in ('site.dd/old', 'work.d/site')]),
+    'sources are what their folder makes of them': (
+        {'site.d/00': '/org/example/desk/on\n', 'site.d/10': 'hello\n', 'site.d/20': b'GVariant\0\0\0', 'site.d/30': b'x\0\n', 'site.d/locks/k': DESK + 'on=true\n',
+         'site.d/locks/l': 'hello\n'},
+        [('site.d/00:1', "BadLine: the line is no 'key=value'"), ('site.d/10:1', "BadLine: the line is no 'key=value'"), ('site.d/20:0', 'it is a database, and no source of one'),
+         ('site.d/30:0', 'it is neither a keyfile, nor a file of locks, nor a database'), ('site.d/locks/k:1', "the line locks nothing: it doesn't start with '/'"),
+         ('site.d/locks/k:2', "the line locks nothing: it doesn't start with '/'"), ('site.d/locks/l:1', "the line locks nothing: it doesn't start with '/'")]),
     'lines that are none': ({'k': 'on=true\n[a//b]\nx=1\n[org/example/desk]\non\n=1\na/b=1\n[org/example/desk\n'}, [
         ('k:1', 'NoGroup: the key comes before the first group'), ('k:2', 'BadGroup: the line names no group; its keys are left out here'),
         ('k:5', "BadLine: the line is no 'key=value'"), ('k:6', 'BadKeyName: the key is empty, or has a slash, a bracket or a control character'),

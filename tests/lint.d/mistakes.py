@@ -87,7 +87,7 @@ class Folder:
 
     def __init__(self, known, rng):
         self.known, self.rng = known, rng
-        self.texts = {'00-first': [], '10-second': [], 'locks/all': []}
+        self.texts = {'00-first': [], 'zz-second': [], 'locks/all': []}
         self.mistakes = {}
         self.free = rng.sample(known.keys, 60)
 
@@ -101,13 +101,13 @@ class Folder:
         """Some lines that are right."""
         for _ in range(self.rng.randrange(1, 4)):
             key = self.free.pop()
-            self.add(self.rng.choice(['00-first', '10-second']), [f'[{key.path[1:-1]}]', key.row()])
+            self.add(self.rng.choice(['00-first', 'zz-second']), [f'[{key.path[1:-1]}]', key.row()])
             self.add('locks/all', [self.rng.choice([key.path, key.path + key.name, '# a comment', ''])])
 
     def wrong(self, kind):
         """A mistake of the kind. False: this key can't have it."""
         known, rng, key = self.known, self.rng, self.free.pop()
-        name, group = rng.choice(['00-first', '10-second']), f'[{key.path[1:-1]}]'
+        name, group = rng.choice(['00-first', 'zz-second']), f'[{key.path[1:-1]}]'
         if kind == 'name':
             self.add(name, [group, key.row(name=other_name(known, rng, key))], 'no schema has the key')
         elif kind == 'group':
