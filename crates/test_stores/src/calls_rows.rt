@@ -1,9 +1,9 @@
-//! Tables of the calls of the library for C: whether a value is stored, what is saved of a file, which lines of a profile are good, and the
+//! Tables of the calls of the library for C: whether a value is stored, what is saved of a file and said of it, which lines of a profile are good, and the
 //! text of a value.
 use crate::calls::{OPENED, layer};
 use crate::questions::BytesOf;
 use dconfdb_calls::{
-    BadProfile, GoodLines, Salvaged, Unprinted, good_lines, is_stored, keyless_file, open_layer,
+    BadProfile, Fate, GoodLines, Salvaged, Unprinted, good_lines, is_stored, keyless_file, open_layer,
     salvaged_file, value_text,
 };
 use gv_text::{PrintFault, PrintFlaw};
@@ -52,6 +52,36 @@ const SAVED: &str = "
 -- without its values
 %locked :160 | 0 1 true
 'GVariant' | 2
+";
+
+/// What is said of a bad database of so many keys and locks, by whether it is the first, and whether it was replaced.
+pub(crate) fn fate(alloc: Global, of: &[u8], found: &mut String) -> Result<(), AllocError> {
+    let fate = Fate {
+        keys: number_at(of, 0),
+        locks: number_at(of, 1),
+        is_first: number_at(of, 2) == 1,
+        is_aside: number_at(of, 3) == 1,
+    };
+    found.push_str(&fate.text(alloc)?)
+}
+
+fn number_at(of: &[u8], i: usize) -> usize {
+    match of.get(i) {
+        Some(n) => usize::from(*n),
+        None => 0,
+    }
+}
+
+const FATES: &str = "
+02 01 00 00 | ; kept 2 keys, 1 locks of it
+00 01 00 00 | ; kept 0 keys, 1 locks of it
+00 00 00 00 | ; kept nothing of it
+-- the locks of the first database don't count
+00 01 01 00 | ; kept nothing of it
+02 01 01 00 | ; kept 2 keys, 0 locks of it
+-- after the name that the file has now
+00 01 01 01 | , and a new file was begun
+0a 00 01 01 | , and a new file has the 10 keys that could be read
 ";
 
 /// The number and the line of a fault.
@@ -138,6 +168,7 @@ fn each_row_of_the_calls_is_so(rt: HostRuntime) -> Result<(), Fail> {
     for (mut of, rows) in [
         (BytesOf::Stored, STORED),
         (BytesOf::Saved, SAVED),
+        (BytesOf::Fate, FATES),
         (BytesOf::Names, NAMES),
         (BytesOf::Keyless, KEYLESS),
         (BytesOf::Opened, OPENED),

@@ -1,6 +1,6 @@
 //! What the tables of texts ask; each is said where it is answered.
 use crate::calls::opened;
-use crate::calls_rows::{keyless, names, saved, stored, value_shown};
+use crate::calls_rows::{fate, keyless, names, saved, stored, value_shown};
 use crate::folders::crashes::crashed;
 use crate::folders::failures::replaced;
 use crate::machines::{looked, noticed, queued, waited};
@@ -51,6 +51,7 @@ impl Question for TableOf {
 #[derive(Clone, Copy)]
 pub(crate) enum BytesOf {
     Alike,
+    Fate,
     Item,
     Keyless,
     Names,
@@ -65,6 +66,7 @@ impl BytesOf {
     fn show(self, alloc: Global, of: &[u8], rest: &str, found: &mut String) -> Result<(), Fail> {
         match self {
             BytesOf::Alike => alike(of, &bytes_of(alloc, rest)?, found),
+            BytesOf::Fate => Ok(fate(alloc, of, found)?),
             BytesOf::Item => item_shown(of, rest, found),
             BytesOf::Keyless => Ok(keyless(alloc, of, found)?),
             BytesOf::Names => names(alloc, of, found),
