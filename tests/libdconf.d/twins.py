@@ -24,7 +24,8 @@ def main(both):
     more = {'GSETTINGS_SCHEMA_DIR': str(schema), 'LD_PRELOAD': str(refuses), 'SLOW': str(SLOW)}
     theirs = took(both, program, 'theirs', GSETTINGS_BACKEND='dconf', **more)
     ours = took(both, program, 'ours', GSETTINGS_BACKEND='dconfdb', GIO_EXTRA_MODULES=str(modules), **more)
-    shutil.rmtree(modules)
+    for it in (modules, schema):
+        shutil.rmtree(it)
     if ours > max(MOST, theirs):
         raise Stop(f'a fast change beside a write of GSettings that takes {SLOW} ms: {ours} ms, and {theirs} ms with dconf')
     return f'a fast change beside a write of GSettings that takes {SLOW} ms waits for none, as with dconf: {ours} and {theirs} ms'

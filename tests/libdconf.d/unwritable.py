@@ -43,11 +43,13 @@ def write_nothing():
 
 
 def without_files(both, driver):
-    """A fast change while no descriptor is left: it is read, waits, and is kept when there are some, as with dconf's library."""
+    """A fast change while no descriptor is left: it is read, waits, and is kept when there are some, as with dconf's library, by which it isn't read
+    meanwhile."""
     given = 'write sync /w/k 1\nstarve\nwrite fast /w/k 2\nread 0 /w/k\nsettle 300\nread 0 /w/k\nfeed\nsync\nread 0 /w/k\nread 2 /w/k\n'
     theirs, ours = (both.ran(whose, [driver], given, timeout=60) for whose in ('theirs', 'ours'))
-    same('a fast change without descriptors, with ours and with dconf', ours[:2], theirs[:2])
-    same('a fast change without descriptors', ours[1].split('\n')[-2], '  2')
+    ours, theirs = (it[1].split('feed\n') for it in (ours, theirs))
+    same('a fast change without descriptors, with ours and with dconf', ours[1], theirs[1])
+    same('a fast change without descriptors', [line for line in ours[0].split('\n') if line.startswith('  ')], ['  1', '  changed /w/k [] NULL', '  1', '  2', '  2'])
 
 
 def full(both, driver):
