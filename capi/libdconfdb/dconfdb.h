@@ -473,8 +473,8 @@ typedef struct DconfdbEdit {
  * False: it failed, and `outcome` says what became of the file. It has its old bytes, unless the code
  * is DCONFDB_ERROR_FILE and the outcome another: EITHER if the rename failed, since it may have been done
  * all the same; UNSETTLED if the folder could not be synced after it, or what is there already could not
- * be synced. Only then the newest snapshot has the edits. The text says so, too. After either of them, make the same edits again: if that returns true
- * they are on the disk. */
+ * be synced. Only then the newest snapshot has the edits. The text says so, too. After either of them,
+ * make the same edits again: if that returns true they are on the disk. */
 DCONFDB_NODISCARD DCONFDB_API bool dconfdb_store_change(DconfdbStore *store, const DconfdbSnapshot *expected,
     const DconfdbEdit *edits, size_t count, DconfdbError *error)
     DCONFDB_NOEXCEPT DCONFDB_NONNULL((1));
