@@ -1081,6 +1081,13 @@ static const DconfdbError *fault_at(const Part *part)
     return part->fault && !part->fault->aside ? &part->fault->error : NULL;
 }
 
+/* Whether it could be opened, sound or not. */
+static bool is_readable(const Part *part)
+{
+    const DconfdbError *fault = fault_at(part);
+    return !fault || fault->errnum == 0;
+}
+
 static bool has_same_fault(const Part *one, const Part *other)
 {
     const DconfdbError *first = fault_at(one), *second = fault_at(other);
@@ -1690,7 +1697,7 @@ static int settle(Changing *it)
 {
     Part *own = it->store->now->parts[0];
     bool is_known = is_known_settled(it, own);
-    int fault = is_known ? 0 : replacing_settle(it->replacing);
+    int fault = is_known ? 0 : replacing_settle(it->replacing, is_readable(own));
     own->is_settled = is_known || (fault == 0 && !it->replacing->is_unsynced);
     return fault;
 }
@@ -1848,7 +1855,7 @@ bool settle_store(DconfdbStore *store, DconfdbError *error)
     pthread_mutex_lock(&store->refreshing);
     Part *own = store->user_file ? store->now->parts[0] : NULL;
     bool is_known = !own || own->is_settled || is_noted_settled(store, own);
-    bool done = is_known || settle_own(store, own_name(store), error);
+    bool done = is_known || settle_own(store, is_readable(own) ? own_name(store) : NULL, error);
     if (own && done)
         own->is_settled = is_known || (!store->options.is_unsynced && file_look(store->user_file, &state) == 0 && file_is_same(&own->state, &state));
     pthread_mutex_unlock(&store->refreshing);
