@@ -338,13 +338,14 @@ def loaded(store, directory, keyfile):
 
 
 def is_skipped(store, directory, path):
-    """A double at a path refuses the dump as a boolean there does, or a comment names it, and what is printed loads as all others."""
+    """A double at a path refuses the dump as a boolean there does, or a comment names it, and what is printed loads as all others. It isn't skipped
+    below a directory with a line feed."""
     found, plain = dumped(store, directory, {**OTHERS, path: DOUBLE}, '--skip-doubles'), dumped(store, directory, {**OTHERS, path: TRUE})
     what = f'dump --skip-doubles {directory}'
-    if plain[0]:
-        return is_so(what, found, plain)
     if b'\n' in directory:
         return is_so(what, found, (1, b'', b'error: DoubleText ' + path + b'\n'))
+    if plain[0]:
+        return is_so(what, found, plain)
     others = dumped(store, directory, OTHERS)
     is_so(what, found, (0, b'# ' + path + b'\n' + others[1], b''))
     return is_so('what is loaded of it', loaded(store, directory, found[1]), others)
