@@ -192,7 +192,7 @@ bool store_look(DconfdbBackend *self);
 /* The same for who reads where nothing is watched, if nobody else looks: the worker tells. */
 void store_peek(DconfdbBackend *self);
 
-/* The same for who is about to tell of a change by itself: it waits for who looks, a tenth of a second at most, and for no write. */
+/* The same for who is about to tell of a change by itself: it waits for who looks, a fifth of a second at most, and for no write. */
 void store_catch_up(DconfdbBackend *self);
 
 /* Until what waits is written, and the files are looked at: ten seconds at most, and as long again after each turn of other

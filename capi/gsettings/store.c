@@ -12,7 +12,7 @@
 /* In microseconds: how long g_settings_sync() waits; after which time a fault is one that goes on, if it may be gone in a moment,
  * and if it is the disk's; how long who catches up waits; how often who waits looks for turns of others, and who reads at the
  * files; and how often a mutex is tried. */
-enum { LONGEST_SYNC = 10000000, LONGEST_MOMENT = 10000000, LONGEST_FAULT = 1500000, LONGEST_CATCH_UP = 100000 };
+enum { LONGEST_SYNC = 10000000, LONGEST_MOMENT = 10000000, LONGEST_FAULT = 1500000, LONGEST_CATCH_UP = 200000 };
 enum { BETWEEN_TURNS = 500000, BETWEEN_LOOKS = 10000, AFTER_A_FAULT = 1000000, TRY = 1000, MILLISECOND = 1000 };
 
 bool mutex_lock_until(GMutex *mutex, gint64 end)

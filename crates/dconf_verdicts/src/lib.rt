@@ -1,12 +1,7 @@
 //! What becomes of a change: when it is asked for, beside what waits and what is stored, by [`entry_of`]; and when the host fails, by
 //! [`class_of`].
 //!
-//! Nothing is kept here. Whoever asks says what it knows, and does as it is told:
-//!
-//! ```
-//! let again = NewEdit { sets: true, may: true, is_same: true, renews: false };
-//! Ok(matches!(entry_of(&[again]), Entry::Asks) && matches!(class_of(FaultKind::Full, true), FaultClass::Later))
-//! ```
+//! Nothing is kept here. Whoever asks says what it knows, and does as it is told.
 #![tactic(auto)]
 
 ghost use Rattle.dconf_verdicts.specs.Entries.{NewestIsKept};

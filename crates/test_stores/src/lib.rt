@@ -28,3 +28,5 @@ mod texts;
 mod times;
 #[cfg(test)]
 mod turns;
+#[cfg(test)]
+mod verdicts;
