@@ -182,11 +182,7 @@ Engine *engine_new(DConfClient *client)
     g_cond_init(&self->looked);
     self->warned = g_hash_table_new_full(g_str_hash, g_str_equal, g_free, NULL);
     self->watched = g_hash_table_new_full(g_str_hash, g_str_equal, g_free, NULL);
-<<<<<<< HEAD
     self->moments = g_hash_table_new_full(g_str_hash, g_str_equal, g_free, g_free);
-    find_place(self);
-=======
->>>>>>> notice/notice
     DconfdbSnapshot *now = engine_look(self);
     if (now)
         warn_of_faults(self, self->store, now);
