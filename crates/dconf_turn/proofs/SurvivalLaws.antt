@@ -13,7 +13,7 @@ use Rattle.dconf_turn.specs.Jobs.{Job, IsLockApart}
 use Rattle.dconf_turn.specs.Sayings.{IsKept, IsWhole}
 use Rattle.dconf_turn.specs.Progress.{IsEarly}
 use Rattle.dconf_turn.specs.Histories.{IsGoodTurn}
-use Rattle.dconf_turn.specs.Survivals.{TurnEnd, Happening, Drove, job_of, DroveFor, SaidSo, WasUnwritten, WasCut, CameTo, CameInTurn, IsKeptBy, AreTurnsKept, NoTurnIsLost}
+use Rattle.dconf_turn.specs.Survivals.{TurnEnd, Happening, Drove, job_of, DroveFor, SaidSo, WasCut, CameTo, CameInTurn, IsKeptBy, AreTurnsKept, NoTurnIsLost}
 use Rattle.dconf_turn.specs.Survivals.TurnEnd.{said, killed, crashed}
 use Rattle.dconf_turn.specs.Survivals.Happening.{turn, crash}
 use Rattle.dconf_turn.proofs.OwnNames.{name_not_own}
