@@ -28,7 +28,8 @@ enum { READ_AND_WRITE = 0600, PERMISSION_BITS = 0777 };
 enum { HOW = O_RDWR | O_CLOEXEC | O_NOFOLLOW | O_NONBLOCK | O_NOCTTY };
 
 /* ---- a child of fork() has each lock too, and would keep it when its parent is killed: it closes what it has of it. Who forks waits
- * for no file: the list has what is open, and is held for moments. Only what is in it is locked. */
+ * for no file: the list has what is open, and is held for moments. Only what is in it is locked: what a child has besides is an open file
+ * that nobody locks. */
 
 static pthread_mutex_t listing = PTHREAD_MUTEX_INITIALIZER;
 static FolderLock *first;
