@@ -36,9 +36,7 @@ pub(crate) fn open_new<R: Files>(rt: &R, name: &str) -> io::Result<R::File> {
     options.mode(bits | READ_AND_WRITE);
     let file = options.open(rt, name)?;
     if old.gid() != file.metadata()?.gid() {
-        file.set_permissions(Permissions::from_mode(
-            bits_for(bits, false) | READ_AND_WRITE,
-        ))?;
+        file.set_permissions(Permissions::from_mode(bits_for(bits, false) | READ_AND_WRITE))?;
     }
     Ok(file)
 }

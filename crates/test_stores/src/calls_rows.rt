@@ -3,8 +3,8 @@
 use crate::calls::{OPENED, layer};
 use crate::questions::BytesOf;
 use dconfdb_calls::{
-    BadProfile, Fate, GoodLines, Salvaged, Unprinted, good_lines, is_stored, keyless_file, open_layer,
-    salvaged_file, value_text,
+    BadProfile, Fate, GoodLines, Salvaged, Unprinted, good_lines, is_stored, keyless_file,
+    open_layer, salvaged_file, value_text,
 };
 use gv_text::{PrintFault, PrintFlaw};
 use std::alloc::{AllocError, Global};
