@@ -28,22 +28,26 @@ static DconfdbBackend *backend_of(GSettingsBackend *backend)
 
 /* ---- reads */
 
-/* Takes `lock`, as soon as the first opening is over. */
-static void lock_opened(DconfdbBackend *self)
-{
-    g_mutex_lock(&self->lock);
-    if (G_LIKELY(self->now || self->has_opened))
-        return;
-    g_mutex_unlock(&self->lock);
-    store_open(self);
-    g_mutex_lock(&self->lock);
-}
-
 /* Where nothing is watched, since no main loop has turned, each read may look at the files. */
 static void look_if_unwatched(DconfdbBackend *self)
 {
     if (!g_atomic_int_get(&self->is_watching))
         store_peek(self);
+}
+
+/* Takes `lock`, as soon as the first opening is over. Where that failed it is tried again, by who watches or by who asks. */
+static void lock_opened(DconfdbBackend *self)
+{
+    g_mutex_lock(&self->lock);
+    if (G_LIKELY(self->now != NULL))
+        return;
+    bool has_opened = self->has_opened;
+    g_mutex_unlock(&self->lock);
+    if (has_opened)
+        look_if_unwatched(self);
+    else
+        store_open(self);
+    g_mutex_lock(&self->lock);
 }
 
 /* Where a key is read: an edit of it waits, which sets a value or none; or it is read in the newest

@@ -28,12 +28,40 @@ static void warn_of_faults(Engine *self, const DconfdbStore *store, const Dconfd
     }
 }
 
+/* The environment is read when the client is made, and not again: the program may change it. */
+static bool find_place(Engine *self)
+{
+    DconfdbError error = DCONFDB_ERROR_INIT;
+    StorePlace place;
+    if (!place_find(NULL, &place, &error)) {
+        warn_once(self, error.text);
+        return false;
+    }
+    g_mutex_lock(&self->lock);
+    bool is_first = !self->place.folder;
+    if (is_first)
+        self->place = place;
+    g_mutex_unlock(&self->lock);
+    if (!is_first)
+        place_release(&place);
+    return true;
+}
+
+const StorePlace *engine_place(Engine *self)
+{
+    g_mutex_lock(&self->lock);
+    bool has = self->place.folder != NULL;
+    g_mutex_unlock(&self->lock);
+    return has || find_place(self) ? &self->place : NULL;
+}
+
 /* A bad file counts as what can be read of it. */
 static DconfdbStore *open_store(Engine *self)
 {
     DconfdbError error = DCONFDB_ERROR_INIT;
-    DconfdbStore *store = self->place.folder ? place_open(&self->place, &error) : NULL, *unused = store;
-    if (!store && self->place.folder)
+    const StorePlace *place = engine_place(self);
+    DconfdbStore *store = place ? place_open(place, &error) : NULL, *unused = store;
+    if (!store && place)
         warn_once(self, error.text);
     g_mutex_lock(&self->lock);
     if (!self->store)
@@ -144,19 +172,6 @@ gboolean engine_has_user(Engine *self)
 
 /* ---- its life */
 
-const StorePlace *engine_place(const Engine *self)
-{
-    return &self->place;
-}
-
-/* The environment is read now, and not again: the program may change it. */
-static void find_place(Engine *self)
-{
-    DconfdbError error = DCONFDB_ERROR_INIT;
-    if (!place_find(NULL, &self->place, &error))
-        warn_once(self, error.text);
-}
-
 Engine *engine_new(DConfClient *client)
 {
     Engine *self = g_atomic_rc_box_new0(Engine);
@@ -168,7 +183,6 @@ Engine *engine_new(DConfClient *client)
     self->warned = g_hash_table_new_full(g_str_hash, g_str_equal, g_free, NULL);
     self->watched = g_hash_table_new_full(g_str_hash, g_str_equal, g_free, NULL);
     self->moments = g_hash_table_new_full(g_str_hash, g_str_equal, g_free, g_free);
-    find_place(self);
     DconfdbSnapshot *now = engine_look(self);
     if (now)
         warn_of_faults(self, self->store, now);

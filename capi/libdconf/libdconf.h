@@ -14,11 +14,11 @@
 typedef struct {
     GWeakRef client;
     GMainContext *context; /* signals come in it */
-    StorePlace place;      /* no folder: the environment names none */
 
     GMutex turn; /* held while the store is changed, which may take long */
 
     GMutex lock;             /* held for moments. It guards: */
+    StorePlace place;        /* no folder: none was found yet. It stays the same */
     DconfdbStore *store;     /* NULL: it could not be opened yet. It stays the same */
     GHashTable *warned;      /* the faults that were logged */
     DConfChangeset *waiting; /* fast changes that nobody writes yet; NULL: none */
@@ -57,8 +57,8 @@ void engine_warn_once(Engine *self, const gchar *text);
  * is still to be made. */
 bool engine_refresh(Engine *self);
 
-/* Where the store is; there may be no folder. */
-const StorePlace *engine_place(const Engine *self);
+/* Where the store is; NULL: the environment names none, which is warned of once. */
+const StorePlace *engine_place(Engine *self);
 
 /* The user's file is about to be replaced; and it has been, or not. */
 void engine_begin_write(Engine *self);

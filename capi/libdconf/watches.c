@@ -95,7 +95,7 @@ void engine_watch(Engine *self, const gchar *path)
     g_hash_table_replace(self->watched, g_strdup(path), GUINT_TO_POINTER(count + 1));
     gboolean is_new = !self->source;
     g_mutex_unlock(&self->lock);
-    if (is_new && engine_place(self)->folder)
+    if (is_new && engine_place(self))
         begin_watching(self);
 }
 

@@ -129,7 +129,8 @@ static char *look(Notices *it, DconfdbStore *store, size_t *size, DconfdbError *
         return NULL;
     }
     watch_hear(it->watch);
-    watch_tell(it->watch, WATCHED_DATABASE);
+    if (watch_step(it->watch, &until) == WATCH_REST)
+        watch_tell(it->watch, WATCHED_DATABASE);
     if (watch_step(it->watch, &until) == WATCH_FILES)
         watch_anew(it, store);
     bool has_looked = false;

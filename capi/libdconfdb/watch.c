@@ -83,10 +83,24 @@ static bool grow(Watch *watch)
     return true;
 }
 
+/* Whether the name is watched so already: all are gone through twice. */
+static bool is_watched(const Watch *watch, const Watched *wanted)
+{
+    for (size_t i = 0; i < watch->count; i++) {
+        const Watched *one = &watch->all[i];
+        bool is_same = one->path && wanted->path ? strcmp(one->path, wanted->path) == 0 : one->path == wanted->path;
+        if (is_same && one->number == wanted->number && one->what == wanted->what && one->kind == wanted->kind)
+            return true;
+    }
+    return false;
+}
+
 /* A folder above the files may be closed to us: then it isn't known when it is moved. */
-static void watch_one(Watch *watch, const char *folder, const char *path, uint32_t what, WatchedKind kind)
+static void watch_one(Watch *watch, const char *folder, char *path, uint32_t what, WatchedKind kind)
 {
     int number = inotify_add_watch(watch->inotify, folder, what | IN_MASK_ADD | IN_ONLYDIR);
+    if (is_watched(watch, &(Watched){number, what, kind, path}))
+        return;
     char *kept = path && number >= 0 ? strdup(path) : NULL;
     bool is_had = number >= 0 && (kept || !path) && grow(watch);
     if (is_had)

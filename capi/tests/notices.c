@@ -184,24 +184,25 @@ static void tries_ways(void)
  * the place of a file. */
 static void tries_links(void)
 {
+    static const char both[] = "/org/desk/name\0/org/desk/size\0";
     TRY(mkdir("ways/v1", 0700) == 0 && mkdir("ways/v2", 0700) == 0 && symlink("v1", "ways/current") == 0);
     TRY(link("site.db", "ways/v1/site.db") == 0 && link("next.db", "ways/v2/site.db") == 0);
     TRY(mkdir("ways/linked", 0700) == 0 && symlink("../v1/site.db", "ways/linked/site.db") == 0);
     makes("ways/linked/profile", "user-db:me\nsystem-db:site\n");
     DconfdbStore *store = dconfdb_store_open("ways/linked", &error);
     TRY(store && dconfdb_store_fd(store, &error) >= 0 && is_quiet(store));
-    TRY(symlink("../v2/site.db", "ways/new") == 0 && rename("ways/new", "ways/linked/site.db") == 0 && IS_TOLD(store, "/org/desk/name\0"));
-    TRY(link("site.db", "ways/new") == 0 && rename("ways/new", "ways/v2/site.db") == 0 && IS_TOLD(store, "/org/desk/name\0") && is_quiet(store));
+    TRY(symlink("../v2/site.db", "ways/new") == 0 && rename("ways/new", "ways/linked/site.db") == 0 && IS_TOLD(store, both));
+    TRY(link("site.db", "ways/new") == 0 && rename("ways/new", "ways/v2/site.db") == 0 && IS_TOLD(store, both) && is_quiet(store));
     /* Nobody is woken by the old target. */
     TRY(unlink("ways/v1/site.db") == 0 && !is_readable(dconfdb_store_fd(store, &error), QUIET) && link("site.db", "ways/v1/site.db") == 0);
     TRY(symlink("../current/site.db", "ways/new") == 0 && rename("ways/new", "ways/linked/site.db") == 0 && is_quiet(store));
     TRY(unlink("ways/v2/site.db") == 0 && link("next.db", "ways/v2/site.db") == 0 && is_quiet(store));
-    TRY(symlink("v2", "ways/new") == 0 && rename("ways/new", "ways/current") == 0 && IS_TOLD(store, "/org/desk/name\0"));
-    TRY(link("site.db", "ways/new") == 0 && rename("ways/new", "ways/v2/site.db") == 0 && IS_TOLD(store, "/org/desk/name\0"));
-    TRY(link("next.db", "ways/new") == 0 && rename("ways/new", "ways/linked/site.db") == 0 && IS_TOLD(store, "/org/desk/name\0") && is_quiet(store));
-    TRY(unlink("ways/linked/site.db") == 0 && IS_TOLD(store, "/org/desk/name\0/org/desk/size\0") && is_quiet(store));
-    TRY(symlink("../v1/site.db", "ways/linked/site.db") == 0 && IS_TOLD(store, "/org/desk/name\0/org/desk/size\0"));
-    TRY(link("next.db", "ways/new") == 0 && rename("ways/new", "ways/v1/site.db") == 0 && IS_TOLD(store, "/org/desk/name\0") && is_quiet(store));
+    TRY(symlink("v2", "ways/new") == 0 && rename("ways/new", "ways/current") == 0 && IS_TOLD(store, both));
+    TRY(link("site.db", "ways/new") == 0 && rename("ways/new", "ways/v2/site.db") == 0 && IS_TOLD(store, both));
+    TRY(link("next.db", "ways/new") == 0 && rename("ways/new", "ways/linked/site.db") == 0 && IS_TOLD(store, both) && is_quiet(store));
+    TRY(unlink("ways/linked/site.db") == 0 && IS_TOLD(store, both) && is_quiet(store));
+    TRY(symlink("../v1/site.db", "ways/linked/site.db") == 0 && IS_TOLD(store, both));
+    TRY(link("next.db", "ways/new") == 0 && rename("ways/new", "ways/v1/site.db") == 0 && IS_TOLD(store, both) && is_quiet(store));
     dconfdb_store_close(store);
 }
 

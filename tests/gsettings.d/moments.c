@@ -4,6 +4,7 @@
  *   moments reads NUMBER      the same, and it only reads
  *   moments waits-for-signal  blocks SIGUSR1 after its first GSettings, and waits for it: prints 1 where it comes there
  *   moments set TEXT          sets the name and ends: prints whether it could
+ *   moments again TEXT        the same, and again after a line of stdin: prints of each whether it could
  *   moments dies TEXT         sets the name twice, and is killed 20 milliseconds after the second
  *   moments watches SECONDS   gets and sets without a main loop for so long: prints how many inotify instances it has
  *   moments listens SECONDS   prints the name at each `changed`
@@ -66,6 +67,16 @@ static int dies(GSettings *desk, const char *text)
     g_settings_set_string(desk, "name", text);
     g_usleep(20 * MILLISECOND);
     return kill(getpid(), SIGKILL);
+}
+
+static int again(GSettings *desk, const char *text)
+{
+    char line[8];
+    printf("%d\n", g_settings_set_string(desk, "name", text));
+    fflush(stdout);
+    if (fgets(line, sizeof line, stdin))
+        printf("%d\n", g_settings_set_string(desk, "name", text));
+    return 0;
 }
 
 static int instances(void)
@@ -159,6 +170,8 @@ int main(int argc, char **argv)
         return exits(desk, atoi(more), what[0] == 'e');
     if (strcmp(what, "waits-for-signal") == 0)
         return waits_for_signal(desk);
+    if (strcmp(what, "again") == 0)
+        return again(desk, more);
     if (strcmp(what, "dies") == 0)
         return dies(desk, more);
     if (strcmp(what, "watches") == 0)
