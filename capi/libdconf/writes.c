@@ -133,9 +133,20 @@ static void set_writing(Engine *self, DConfChangeset *changes)
     g_mutex_unlock(&self->lock);
 }
 
+/* What of the edits others have set since, which were left out. */
+static void add_overtaken(DconfdbStore *store, const Edits *edits, DConfChangeset *overtaken)
+{
+    DconfdbSnapshot *now = dconfdb_store_snapshot(store);
+    for (guint at = 0; at < edits->edits->len; at++) {
+        if (!dconfdb_snapshot_has_edit(now, edit_at(edits, at)))
+            dconf_changeset_set(overtaken, edit_at(edits, at)->path, NULL);
+    }
+    dconfdb_snapshot_unref(now);
+}
+
 /* As dconfdb_store_change, but that the others are waited for before anybody who reads is kept from the files. Without `made` all
- * counts as set now. */
-static gboolean put(Engine *self, const Edits *edits, const Made *made, DconfdbError *fault)
+ * counts as set now; with it what is overtaken comes into that set. */
+static gboolean put(Engine *self, const Edits *edits, const Made *made, DConfChangeset *overtaken, DconfdbError *fault)
 {
     FolderLock lock;
     DconfdbStore *store = engine_store(self);
@@ -151,6 +162,8 @@ static gboolean put(Engine *self, const Edits *edits, const Made *made, DconfdbE
     gboolean is_done = locked_change(store, engine_has_user(self) ? &lock : NULL, edit_at(edits, 0), made, edits->edits->len, fault);
     if (engine_has_user(self))
         folder_unlock(&lock);
+    if (is_done && made)
+        add_overtaken(store, edits, overtaken);
     engine_end_write(self);
     return is_done;
 }
@@ -210,22 +223,23 @@ static GArray *made_of(Engine *self, Edits *edits)
     return made;
 }
 
-static gboolean put_waiting(Engine *self, Edits *edits, DconfdbError *fault)
+static gboolean put_waiting(Engine *self, Edits *edits, DConfChangeset *overtaken, DconfdbError *fault)
 {
     GArray *made = made_of(self, edits);
-    gboolean is_done = put(self, edits, made ? (const Made *)(gpointer)made->data : NULL, fault);
+    gboolean is_done = put(self, edits, made ? (const Made *)(gpointer)made->data : NULL, overtaken, fault);
     g_clear_pointer(&made, g_array_unref);
     return is_done;
 }
 
-/* Makes the changes, but for those of keys that were locked since they were asked for: they come into `refused`. */
+/* Makes the changes, but for those of keys that were locked since they were asked for, or that others have set: they come into
+ * `refused`. */
 static gboolean put_unlocked(Engine *self, DConfChangeset *changes, DConfChangeset *refused, DconfdbError *fault)
 {
     DconfdbSnapshot *now = engine_look(self);
     Edits edits = edits_of(changes);
     gboolean is_done;
     leave_out(&edits, now);
-    while (!(is_done = put_waiting(self, &edits, fault)) && fault->code == DCONFDB_ERROR_LOCKED && fault->edit < edits.edits->len) {
+    while (!(is_done = put_waiting(self, &edits, refused, fault)) && fault->code == DCONFDB_ERROR_LOCKED && fault->edit < edits.edits->len) {
         g_warning("failed to commit changes to dconf: %s", fault->text);
         refuse_locked_edits(&edits, self, fault->edit, refused);
     }
@@ -284,20 +298,6 @@ static void warn_of_waiting(Engine *self, const DconfdbError *fault)
     engine_warn_once(self, text);
 }
 
-/* What of it others have set since: it is told as what is refused. */
-static void add_overtaken(Engine *self, DConfChangeset *taken, DConfChangeset *refused)
-{
-    Edits edits = edits_of(taken);
-    DconfdbSnapshot *now = engine_newest(self);
-    for (guint at = 0; now && at < edits.edits->len; at++) {
-        const DconfdbEdit *edit = edit_at(&edits, at);
-        if (!dconfdb_snapshot_has_edit(now, edit) && !is_reset_of_locked(now, edit))
-            dconf_changeset_set(refused, edit->path, NULL);
-    }
-    dconfdb_snapshot_unref(now);
-    edits_clear(&edits);
-}
-
 /* `turn` is held: what waited is written, or refused. */
 static void end_flying(Engine *self)
 {
@@ -322,8 +322,6 @@ static gboolean write_waiting(Engine *self, DconfdbError *fault)
         warn_of_waiting(self, fault);
         return FALSE;
     }
-    if (is_done)
-        add_overtaken(self, taken, refused);
     end_flying(self);
     notice_others(self);
     set_writing(self, NULL);
@@ -468,7 +466,7 @@ static gboolean write_now(Engine *self, DConfChangeset *changes, Edits *edits, c
         leave_out(edits, now);
     g_autoptr(DConfChangeset) told = effective(edits, now, changes);
     set_writing(self, changes);
-    gboolean is_done = put(self, edits, NULL, fault);
+    gboolean is_done = put(self, edits, NULL, NULL, fault);
     if (!is_done)
         set_writing(self, NULL);
     notice_others(self);
