@@ -97,6 +97,27 @@ static void our_child(void) {
     answer = dconfdb_value_child(&value, 5, &child);
 }
 
+/* The `as` of 40,000 texts, and room for its children. */
+enum { TEXTS = 40000 };
+static DconfdbValue many_texts, children[TEXTS];
+
+static void our_walk_start(void) {
+    enum { WIDTH = 4 };
+    unsigned char *bytes = calloc(TEXTS, 1 + WIDTH);
+    needs(bytes, "there is no memory");
+    for (size_t i = 0; i < TEXTS; i++)
+        for (size_t j = 0; j < WIDTH; j++)
+            bytes[TEXTS + WIDTH * i + j] = (unsigned char)((i + 1) >> 8 * j);
+    many_texts = (DconfdbValue){bytes, TEXTS * (1 + WIDTH), "as", 2, 0};
+}
+
+/* Each child by its index in what one call put. */
+static void our_walk(void) {
+    answer = dconfdb_value_children(&many_texts, children, TEXTS) == TEXTS;
+    for (size_t i = 0; i < TEXTS; i++)
+        answer = answer && children[i].size == 1;
+}
+
 static void our_lookup(void) {
     DconfdbValue child;
     answer = dconfdb_value_lookup(&value, "five", &child);
@@ -351,7 +372,7 @@ typedef struct {
     const char *name;
     void (*start)(void);
     void (*call)(void);
-    int times;
+    int times; /* how many calls, or children, are counted */
     bool reads; /* and takes no memory */
 } Work;
 
@@ -363,6 +384,7 @@ static const Work works[] = {
     {"string", our_value_start, our_string, 1000, true},
     {"child", our_value_start, our_child, 1000, true},
     {"lookup", our_value_start, our_lookup, 1000, true},
+    {"walk", our_walk_start, our_walk, TEXTS, true},
     {"print", our_value_start, our_print, 1000, false},
     {"parse", our_text_start, our_parse, 1000, false},
     {"iterate", our_start, our_iterate, 1, false},
@@ -391,8 +413,9 @@ static void measure(const Work *work) {
     work->call();
     bool first = answer;
     growths = 0;
+    int calls = work->call == our_walk ? 1 : work->times; /* which goes through all children */
     CALLGRIND_TOGGLE_COLLECT;
-    for (int i = 0; i < work->times; i++)
+    for (int i = 0; i < calls; i++)
         work->call();
     CALLGRIND_TOGGLE_COLLECT;
     needs(answer == first, "it answers otherwise after a while");

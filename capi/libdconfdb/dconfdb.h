@@ -424,7 +424,7 @@ DCONFDB_NODISCARD DCONFDB_API char *dconfdb_snapshot_list_user(const DconfdbSnap
 typedef struct DconfdbIterator DconfdbIterator;
 
 /* Goes through all keys below a directory, in the order of their paths' bytes: each that has an effective
- * value, with that. The paths are found when it begins, by a list of each directory; so that call alone
+ * value, with that. The paths are found when it begins, however deep they lie; so that call alone
  * may fail, by NULL. `next` reads the next one, and takes no memory; false: there is none, and `path` and
  * `value` stay as they were. The iterator has a reference to the snapshot, and lends the path: it is freed
  * by `free`, which takes NULL, too. */

@@ -34,8 +34,9 @@ bool dconfdb_iterator_next(DconfdbIterator *iterator, const char **path, Dconfdb
     DconfdbValue found;
     while (*iterator->next) {
         const char *at = iterator->next;
-        iterator->next += strlen(at) + 1;
-        if (dconfdb_snapshot_read(iterator->snapshot, at, &found)) {
+        size_t len = strlen(at);
+        iterator->next += len + 1;
+        if (snapshot_read_at(iterator->snapshot, at, len, &found)) {
             *path = at;
             *value = found;
             return true;

@@ -8,4 +8,7 @@
  * failed. */
 char *snapshot_paths(const DconfdbSnapshot *snapshot, const char *directory, DconfdbError *error);
 
+/* dconfdb_snapshot_read of a path of so many bytes. */
+bool snapshot_read_at(const DconfdbSnapshot *snapshot, const char *path, size_t len, DconfdbValue *value);
+
 #endif

@@ -343,6 +343,12 @@ static DconfdbFound *room_in(DconfdbValue *value)
     return (DconfdbFound *)value;
 }
 
+bool snapshot_read_at(const DconfdbSnapshot *snapshot, const char *path, size_t len, DconfdbValue *value)
+{
+    DconfdbFound *found = room_in(value);
+    return dconfdb_read(snapshot->layers, snapshot->count, bytes_of(path), len, found);
+}
+
 bool dconfdb_snapshot_read(const DconfdbSnapshot *snapshot, const char *path, DconfdbValue *value)
 {
     DconfdbFound *found = room_in(value);

@@ -8,6 +8,9 @@
 
 enum { STACK = 256 * 1024, GUARD = 65536, PAINT = 0xa5, MOST_LEVELS = 200, LONGEST_PATH = 65535 };
 
+/* What another compiler's frames may take more. */
+enum { SPARE = 16 * 1024 };
+
 static const char *folder;
 static DconfdbError error = DCONFDB_ERROR_INIT;
 
@@ -64,6 +67,33 @@ static int most_levels(DconfdbStore *store, const char *path, void (*puts_in)(De
     return levels;
 }
 
+/* Texts of so many levels, in each bracket, and some in two by turns: those that have a value, and those whose fault is found last. */
+static void parses(void)
+{
+    static const struct {
+        const char *opens, *inside, *closes;
+    } texts[] = {{"<", "5", ">"},       {"[", "5", "]"},          {"(", "5", ",)"},     {"(1,", "5", ")"},        {"{1:", "5", "}"},
+                 {"{1,", "5", "}"},     {"just ", "5", ""},       {"<[", "5", "]>"},    {"<(", "5", ",)>"},       {"<{1:", "5", "}>"},
+                 {"{'a':<", "5", ">}"}, {"{1,<", "5", ">}"},      {"@v <", "5", ">"},   {"<", "[]", ">"},         {"<", "byte 500", ">"},
+                 {"[", "byte 500", "]"}, {"{1,", "byte 500", "}"}, {"<", "5", ""},       {"{1:", "5", ""},         {"<", "5.0", ">"}};
+    static char text[16 * MOST_LEVELS];
+    for (size_t i = 0; i < sizeof texts / sizeof texts[0]; i++)
+        for (int levels = 50; levels < MOST_LEVELS; levels++) {
+            char *end = text;
+            for (int level = 0; level < levels; level++)
+                end = stpcpy(end, texts[i].opens);
+            end = stpcpy(end, texts[i].inside);
+            for (int level = 0; level < levels; level++)
+                end = stpcpy(end, texts[i].closes);
+            DconfdbValue value, child;
+            if (!dconfdb_value_parse(text, &value, &error))
+                continue;
+            free(dconfdb_value_print(&value, &error));
+            TRY(dconfdb_value_n_children(&value) > 0 && dconfdb_value_children(&value, &child, 1) > 0 && dconfdb_value_child(&value, 0, &child));
+            free((void *)value.data);
+        }
+}
+
 static void asks(const DconfdbSnapshot *now, const DconfdbSnapshot *old, const char *path)
 {
     DconfdbValue value;
@@ -99,6 +129,7 @@ static void tries(void)
     DconfdbSnapshot *now = dconfdb_store_snapshot(store);
     asks(now, old, "/deep/variants");
     asks(now, old, longest);
+    parses();
     free(dconfdb_store_files(folder, NULL, &error));
     TRY(dconfdb_store_refresh(store, NULL, &error) && dconfdb_store_fd(store, &error) >= 0);
     free(dconfdb_store_dispatch(store, NULL, &error));
@@ -130,6 +161,7 @@ int main(int argc, char **argv)
     size_t unused = 0;
     while (unused < STACK && low[GUARD + unused] == PAINT)
         unused++;
+    TRY(unused >= SPARE);
     printf(": %zu of %d KiB of stack\n", (STACK - unused) / 1024, STACK / 1024);
     return 0;
 }

@@ -114,6 +114,28 @@ static void prints_number(const DconfdbValue *value)
         prints_double(number);
 }
 
+static bool are_same(const DconfdbValue *one, const DconfdbValue *other)
+{
+    return one->size == other->size && one->type_size == other->type_size && one->origin == other->origin
+        && memcmp(one->data, other->data, one->size) == 0 && memcmp(one->type, other->type, one->type_size) == 0;
+}
+
+/* All children at once are those at the indices, and a short room has the first of them. */
+static void takes_children(const DconfdbValue *value)
+{
+    size_t count = dconfdb_value_n_children(value), half = count / 2;
+    DconfdbValue *all = calloc(count + 1, sizeof *all), *some = calloc(count + 1, sizeof *some), child, untouched = {NULL, 0, NULL, 0, 0};
+    if (!all || !some || dconfdb_value_children(value, all, count + 1) != count || dconfdb_value_children(value, some, half) != count)
+        exit(1);
+    for (size_t i = 0; i < count; i++)
+        if (!dconfdb_value_child(value, i, &child) || !are_same(&child, &all[i]) || (i < half && !are_same(&child, &some[i])))
+            exit(1);
+    if (memcmp(&all[count], &untouched, sizeof untouched) != 0 || memcmp(&some[half], &untouched, sizeof untouched) != 0)
+        exit(1);
+    free(all);
+    free(some);
+}
+
 static void prints(DconfdbValue value)
 {
     size_t len;
@@ -124,6 +146,7 @@ static void prints(DconfdbValue value)
         prints_text(text, len);
     }
     prints_number(&value);
+    takes_children(&value);
     if (strchr("avm({", value.type[0])) {
         size_t count = dconfdb_value_n_children(&value);
         printf("%zu[", count);
