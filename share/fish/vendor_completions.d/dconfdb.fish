@@ -2,7 +2,6 @@
 # What is directly below the directory that is typed, in the store that the line names. What a database holds is data, in lines that fish compares and
 # quotes, and never evaluates; what follows a tab would be a description.
 function __dconfdb_paths
-    set -l count 0
     set -l store
     set -l words (commandline -opc)
     set -l command
@@ -16,7 +15,9 @@ function __dconfdb_paths
                 case --
                     set ended 1
                 case -p --store
-                    set -a store $it $words[$i]
+                    set -l value $words[$i]
+                    string match -q -- '~/*' $value; and set value $HOME/(string sub -s 3 -- $value)
+                    set -a store $it $value
                     set i (math $i + 1)
                 case --user '--store=*' '-p*'
                     set -a store $it
