@@ -73,7 +73,9 @@ pub(crate) fn warn_of_bad(
 
 /// Says on err that the profile in a folder names a database of the system which isn't beside it.
 pub(crate) fn warn_of_missing(rt: &HostRuntime, folder: &str, name: &str) -> io::Result<()> {
-    eprintln!(rt; "warning: {folder}/profile names system-db:{name}, and there is no {folder}/{name}.db")
+    eprintln!(rt;
+        "warning: {folder}/profile names system-db:{name}, and there is no {folder}/{name}.db"
+    )
 }
 
 /// What is wrong with a file. It is printed with the rule that it breaks, if it breaks one, and the item.

@@ -12,9 +12,7 @@ ghost use Rattle.dconf_found.specs.FoundFolders.{IsPast, agrees, inner_of};
 
 use crate::find::{EVERYONES_FOLDER, Found, NotFound, enter};
 use crate::keep::{forget, keep};
-use crate::messages::{
-    REFUSED, refuse, refuse_device, refuse_memory, refuse_place, warn_of_bad,
-};
+use crate::messages::{REFUSED, refuse, refuse_device, refuse_memory, refuse_place, warn_of_bad};
 use crate::named::{first_file, warn_of_missing_ones};
 use dconf_args::{Command, Place, Replaced, user_file};
 use dconf_cli::{Counted, run};

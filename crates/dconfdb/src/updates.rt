@@ -6,9 +6,8 @@ use crate::sources::{Unread, is_folder, names_in, source_folder};
 use dconf_args::{Command, Replaced, updates};
 use dconf_cli::{Counted, is_made};
 use dconf_disk::StdFolder;
-use std::env;
-use std::fs;
 use std::io::ErrorKind;
+use std::{env, fs};
 
 /// The folder where none is named.
 const EVERYONES: &str = "/etc/dconfdb";
