@@ -13,12 +13,13 @@ static void carry_out(DconfdbBackend *self)
 {
     gint64 until;
     for (;;) {
-        if (g_atomic_int_compare_and_exchange(&self->is_reopened, TRUE, FALSE))
-            watch_tell(self->watch, WATCHED_FOLDER);
         WatchStep step = watch_step(self->watch, &until);
-        if (step == WATCH_REST)
+        bool is_anew = g_atomic_int_compare_and_exchange(&self->is_reopened, TRUE, FALSE);
+        if (is_anew && step != WATCH_FILES) /* which watches what was opened */
+            watch_tell(self->watch, WATCHED_FOLDER);
+        else if (step == WATCH_REST)
             return;
-        if (step == WATCH_FILES)
+        else if (step == WATCH_FILES)
             begin(self);
         else
             watch_answer(self->watch, store_look(self));
