@@ -20,12 +20,13 @@ def main(both):
     needs('gsettings', 'libglib2.0-bin')
     program, refuses = both.compiled('twins'), both.folder / 'refuses.so'
     subprocess.run(['gcc', '-fPIC', '-shared', homes.HERE / 'refuses.c', '-o', refuses], check=True)
-    modules, schema = homes.module(both.folder), homes.schemas(both.folder)
+    own = both.folder / 'twins.d'
+    own.mkdir()
+    modules, schema = homes.module(own), homes.schemas(own)
     more = {'GSETTINGS_SCHEMA_DIR': str(schema), 'LD_PRELOAD': str(refuses), 'SLOW': str(SLOW)}
     theirs = took(both, program, 'theirs', GSETTINGS_BACKEND='dconf', **more)
     ours = took(both, program, 'ours', GSETTINGS_BACKEND='dconfdb', GIO_EXTRA_MODULES=str(modules), **more)
-    for it in (modules, schema):
-        shutil.rmtree(it)
+    shutil.rmtree(own)
     if ours > max(MOST, theirs):
         raise Stop(f'a fast change beside a write of GSettings that takes {SLOW} ms: {ours} ms, and {theirs} ms with dconf')
     return f'a fast change beside a write of GSettings that takes {SLOW} ms waits for none, as with dconf: {ours} and {theirs} ms'
