@@ -198,6 +198,9 @@ Engine *engine_ref(Engine *self)
 static void clear(gpointer data)
 {
     Engine *self = data;
+    /* The thread that had it last has let go of it, which a checker of races sees by the lock alone. */
+    g_mutex_lock(&self->lock);
+    g_mutex_unlock(&self->lock);
     g_weak_ref_clear(&self->client);
     g_main_context_unref(self->context);
     g_mutex_clear(&self->turn);
