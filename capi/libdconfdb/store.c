@@ -1191,15 +1191,23 @@ bool dconfdb_store_refresh(DconfdbStore *store, bool *changed, DconfdbError *err
     return done;
 }
 
+/* It is no cancellation point. */
+static void pass_a_moment(void)
+{
+    static const struct timespec moment = {0, 1000000};
+    int cancels = hold_cancellation();
+    nanosleep(&moment, NULL);
+    cancel_as_before(cancels);
+}
+
 /* Who looks too is waited for, and who reads the files before a change. */
 bool refresh_unless_amid(DconfdbStore *store, bool *has_looked, DconfdbError *error)
 {
-    static const struct timespec moment = {0, 1000000};
     while (pthread_mutex_trylock(&store->refreshing) != 0) {
         *has_looked = !is_amid_change(store);
         if (!*has_looked)
             return true;
-        nanosleep(&moment, NULL);
+        pass_a_moment();
     }
     bool done = refresh(store, NO_FOLDER, error);
     pthread_mutex_unlock(&store->refreshing);

@@ -1,6 +1,7 @@
 /* The names of a store's files, watched by inotify; when they are looked at, a proved machine decides. */
 #define _GNU_SOURCE
 #include "watch.h"
+#include "held.h"
 #include "dconfdb_calls.h"
 
 #include <limits.h>
@@ -8,6 +9,7 @@
 #include <stdlib.h>
 #include <string.h>
 #include <sys/inotify.h>
+#include <sys/ioctl.h>
 #include <sys/stat.h>
 #include <time.h>
 #include <unistd.h>
@@ -299,17 +301,25 @@ static WatchedKind kind_in(const Watch *watch, const char *room, size_t len)
     return kind;
 }
 
-/* What happened since the last time. */
+/* What happened since the last time. No thread is cancelled amid it. */
 static WatchedKind read_events(const Watch *watch)
 {
     _Alignas(struct inotify_event) char room[16384];
     WatchedKind kind = WATCHED_NOTHING;
     ssize_t len;
+    int cancels = hold_cancellation();
     while ((len = read(watch->inotify, room, sizeof room)) > 0) {
         WatchedKind of_room = kind_in(watch, room, (size_t)len);
         kind = of_room > kind ? of_room : kind;
     }
+    cancel_as_before(cancels);
     return kind;
+}
+
+static bool has_events(const Watch *watch)
+{
+    int len = 0;
+    return ioctl(watch->inotify, FIONREAD, &len) == 0 && len > 0;
 }
 
 int watch_descriptor(const Watch *watch)
@@ -354,6 +364,7 @@ void watch_pass_time(Watch *watch)
 
 void watch_hear(Watch *watch)
 {
-    watch_tell(watch, read_events(watch));
+    if (has_events(watch))
+        watch_tell(watch, read_events(watch));
     watch_pass_time(watch);
 }
