@@ -1154,8 +1154,8 @@ static bool is_tried(const DconfdbStore *store, const DconfdbSnapshot *newer)
     return tried && file_is_same(&tried->state, &newer->parts[0]->state) && has_bytes(tried, &newer->parts[0]->bytes);
 }
 
-/* `refreshing` is held. What this store itself changed is no news. */
-static void hear(DconfdbStore *store, DconfdbSnapshot *newer)
+/* `refreshing` is held. What this store itself changed is no news. It stands apart, since most refreshes find nothing newer. */
+static void __attribute__((noinline)) hear(DconfdbStore *store, DconfdbSnapshot *newer)
 {
     const DconfdbSnapshot *before = is_tried(store, newer) ? store->tried : store->now;
     store->has_news = store->has_news || is_news(before, newer);
