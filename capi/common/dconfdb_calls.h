@@ -178,6 +178,7 @@ static const uint8_t dconfdb_empty_file[32] = {'G', 'V', 'a', 'r', 'i', 'a', 'n'
                                                24,  0,   0,   0,   32,  0,   0,   0,   0, 0, 0, 0, 0, 0, 0, 0};
 
 #define DCONFDB_NOTHING {dconfdb_empty_file, 0}
+#define DCONFDB_NO_PATH {DCONFDB_NOTHING, DCONFDB_NOTHING, DCONFDB_NOTHING, DCONFDB_NOTHING}
 #define DCONFDB_EMPTY_TABLE {{dconfdb_empty_file, 32}, 24, 32, 0, 0, 0, 32, 0}
 #define DCONFDB_EMPTY_LAYER {DCONFDB_EMPTY_TABLE, DCONFDB_EMPTY_TABLE, false, false}
 
@@ -310,6 +311,80 @@ uint32_t dconfdb_profile(const uint8_t *text, size_t len, DconfdbName *room, siz
 uint32_t dconfdb_profile_lines(const uint8_t *text, size_t len, DconfdbName *room, size_t room_len, size_t *names, uint32_t *fault,
                                size_t *line);
 
+/* ---- where a store is, which profile it has, and which file a line of that means */
+
+/* A path: texts that stand one after the other, lent from what was handed in or the library's own. */
+typedef struct {
+    DconfdbBytes first, second, third, fourth;
+} DconfdbPath;
+
+/* What the environment says of a store. None of it counts for a program that has more rights than whoever started it. What is
+ * empty counts as unset. */
+typedef struct {
+    bool counts;
+    DconfdbBytes store, config, home, profile; /* $DCONFDB_STORE, $XDG_CONFIG_HOME, $HOME, $DCONFDB_PROFILE */
+} DconfdbEnvironment;
+
+/* Who gives the folder of a store; a user does by a word of a command. */
+enum {
+    DCONFDB_GIVEN_BY_NOBODY,
+    DCONFDB_GIVEN_BY_PROGRAM, /* that calls the library */
+    DCONFDB_GIVEN_BY_USER
+};
+
+/* What has to be asked to know a path: nothing; the current folder; the home that the system has for the user. Or there is none. */
+enum { DCONFDB_ASK_NOTHING, DCONFDB_ASK_CURRENT, DCONFDB_ASK_HOME, DCONFDB_ASK_NO_MORE };
+
+/* The path of the store's folder: what has to be asked to know it, and, by that (`base`), the path. False: there is none, and nothing is
+ * written. */
+uint32_t dconfdb_folder_base(const DconfdbEnvironment *environment, uint32_t giver, const uint8_t *folder, size_t folder_len);
+bool dconfdb_folder(const DconfdbEnvironment *environment, uint32_t giver, const uint8_t *folder, size_t folder_len, const uint8_t *base,
+                    size_t base_len, DconfdbPath *path);
+
+/* The same of the profile that the environment names. A folder that a program gives has its own. */
+uint32_t dconfdb_named_profile_base(const DconfdbEnvironment *environment, uint32_t giver, const uint8_t *folder, size_t folder_len);
+bool dconfdb_named_profile(const DconfdbEnvironment *environment, uint32_t giver, const uint8_t *folder, size_t folder_len,
+                           const uint8_t *base, size_t base_len, DconfdbPath *path);
+
+/* Which profile counts: the first is looked at, and after each look comes a step. */
+enum {
+    DCONFDB_PROFILE_NAMED, /* look at the one that is named */
+    DCONFDB_PROFILE_OWN,   /* .. that in the store's folder */
+    DCONFDB_PROFILE_EVERYONES,
+    DCONFDB_PROFILE_USERS,  /* the line `user-db:user` counts */
+    DCONFDB_PROFILE_COUNTS, /* the one that was looked at does */
+    DCONFDB_PROFILE_NO_DATABASE,
+    DCONFDB_PROFILE_REFUSED
+};
+
+/* What a look found. */
+enum {
+    DCONFDB_FOUND_THERE,
+    DCONFDB_FOUND_MISSING,
+    DCONFDB_FOUND_UNREADABLE, /* by its own fault */
+    DCONFDB_FOUND_UNKNOWN
+};
+
+uint32_t dconfdb_profile_first(bool is_named);
+uint32_t dconfdb_profile_step(uint32_t which, uint32_t found, bool is_lenient);
+
+/* Whether it is told why that one isn't the profile. */
+bool dconfdb_profile_is_told(uint32_t which, uint32_t found);
+
+/* The path of its file, by that of the store's folder, and that of the one that is named. */
+void dconfdb_profile_path(uint32_t which, const uint8_t *folder, size_t folder_len, const uint8_t *named, size_t named_len,
+                          DconfdbPath *path);
+
+/* Whether the databases of the system that a profile of this path names are beside it, and not in the store's folder. */
+bool dconfdb_is_beside(const uint8_t *profile, size_t profile_len, bool is_given);
+
+/* The path of a database's file, by the path of the store's folder; kind and name are those of a DconfdbName. */
+void dconfdb_database_path(const uint8_t *folder, size_t folder_len, bool is_beside, uint32_t kind, const uint8_t *name,
+                           size_t name_len, DconfdbPath *path);
+
+/* Whether the first of a profile's databases is the user's, which can be changed. */
+bool dconfdb_has_users(const DconfdbName *names, size_t n);
+
 /* The user's file after all changes, each made in turn, or none, and without locks. `len` as
  * dconfdb_list has it. MEMORY, BAD_PATH to TOO_BIG, BAD_VALUE, and then only `at` is written: the index of the
  * change at fault, or 0 where none is, of MEMORY and TOO_BIG. */
@@ -348,7 +423,7 @@ typedef struct {
 typedef struct {
     uint32_t stage;
     size_t at, count;
-    bool has_old, in_turn, is_newer;
+    bool has_old, in_turn, is_lenient, is_newer;
 } DconfdbRefresh;
 
 /* Its steps. `number` is the file. */
@@ -364,17 +439,79 @@ enum {
 };
 
 /* A look at so many files. `has_old`: there is an old snapshot. `in_turn`: the first file is read whatever stat()
- * says, since it is this program's turn to change it. */
-void dconfdb_refresh_begin(DconfdbRefresh *refresh, size_t count, bool has_old, bool in_turn);
+ * says, since it is this program's turn to change it. `is_lenient`: a file that can't be read by a fault of its own counts as nothing. */
+void dconfdb_refresh_begin(DconfdbRefresh *refresh, size_t count, bool has_old, bool in_turn, bool is_lenient);
 void dconfdb_refresh_next(const DconfdbRefresh *refresh, DconfdbNext *step);
 void dconfdb_refresh_answered(DconfdbRefresh *refresh, bool yes);
 
+/* What a fault of the system answers, by its kind: no, but of a lenient look a file that can't be read by a fault of its own is had, and
+ * counts as nothing. */
+bool dconfdb_refresh_is_had(const DconfdbRefresh *refresh, uint32_t kind);
+
+/* ---- files, by what the system says of them */
+
+/* A time, as it is noted. */
+typedef struct {
+    uint64_t seconds, nanoseconds;
+} DconfdbFileTime;
+
+/* What the system says of a name without reading its file. */
+typedef struct {
+    uint64_t device, inode, size;
+    DconfdbFileTime written, touched; /* `touched`: when anything of it changed, which nobody can set */
+    bool is_there;
+} DconfdbFileStamp;
+
+/* Whether a file is the one that was read. */
+enum {
+    DCONFDB_FILE_SAME,
+    DCONFDB_FILE_OTHER, /* it is another one, or changed */
+    DCONFDB_FILE_UNSURE /* it looks like the same, but had changed so shortly before it was read that a change since then has the same time */
+};
+
+/* `opened`: when the reading of `old` began, or earlier: nanoseconds since 1970, by the clock by which the system notes times.
+ * `is_held`: the file has been open or mapped since then, so that no other one has its number; then it is the same whoever's it is. */
+uint32_t dconfdb_same_file(const DconfdbFileStamp *old, const DconfdbFileStamp *now, uint64_t opened, bool is_held);
+
+/* What stands under a name; as a link it counts only if it is to be set aside. `is_read`: it is the very file that was read. */
+typedef struct {
+    uint32_t user, group, bits;
+    bool is_there, is_regular, is_link, is_read;
+} DconfdbOldFile;
+
+typedef struct {
+    uint32_t user, group;
+} DconfdbFileOwner;
+
+/* Whose a new file is, and its permission bits. Only root can give it its user. */
+typedef struct {
+    uint32_t user, group, bits;
+} DconfdbNewFile;
+
+enum {
+    DCONFDB_OWNER_GIVEN,
+    DCONFDB_OWNER_REFUSED, /* root would give it to whom it was not read from */
+    DCONFDB_OWNER_AGAIN    /* what was read is another file's by now */
+};
+
+/* `above`: whose the folder is. `keeps`: the old file is set aside. `given` is written where it is GIVEN. */
+uint32_t dconfdb_owner_and_bits(const DconfdbOldFile *old, const DconfdbFileOwner *above, bool is_root, bool keeps, DconfdbNewFile *given);
+
+/* The bits of a file that is to have these once it has its group, while it has that or another one: nobody may do more with it. */
+uint32_t dconfdb_bits_for(uint32_t bits, bool has_group);
+
+/* The bits of a lock's file that was just made, by those of its folder, of which it has the group or another one: who may write in the
+ * folder may take the lock. */
+uint32_t dconfdb_lock_bits(uint32_t folder, bool has_group);
+
 /* An edit that is asked for, and what is known of its key. */
 typedef struct {
-    bool sets;    /* it sets a value; else it takes one away */
-    bool may;     /* its key may be written; a reset of any other is left out */
-    bool is_same; /* it says what the newest edit says that waits of its key; or, where none waits, the user has that by what was seen last */
-    bool renews;  /* one waits that says the same, is alone in its change, and is nobody's to write yet */
+    bool sets;     /* it sets a value; else it takes one away */
+    bool may;      /* its key may be written; a reset of any other is left out */
+    bool is_same;  /* it says what the newest edit says that waits of its key; or, where none waits, the user has that by what was seen last */
+    bool waits;    /* one waits of its key */
+    bool is_alone; /* the newest of them is alone in its change */
+    bool is_taken; /* somebody writes that one already */
 } DconfdbNewEdit;
 
 /* What becomes of a change that is asked for. */
@@ -388,6 +525,13 @@ enum {
 
 uint32_t dconfdb_entry(const DconfdbNewEdit *edits, size_t count);
 
+/* Whether something else is seen by an edit that waits: that is told. */
+bool dconfdb_is_news(const DconfdbNewEdit *edit);
+
+/* Whether all that a change asks for is there already, so that nothing is to be written: the user has it, and no other edit of its keys
+ * waits. */
+bool dconfdb_is_there(const DconfdbNewEdit *edits, size_t count);
+
 /* What a host says of a call that failed (faults.h has which errno is which). */
 enum {
     DCONFDB_KIND_RIGHTS,
@@ -399,6 +543,9 @@ enum {
     DCONFDB_KIND_MOMENT, /* it was interrupted, or a server asks for another try */
     DCONFDB_KIND_FULL,
     DCONFDB_KIND_DISK,
+    DCONFDB_KIND_MISSING,     /* nothing has the name */
+    DCONFDB_KIND_UNSUPPORTED, /* the file system can't do that */
+    DCONFDB_KIND_WAIT,        /* it would have to wait */
     DCONFDB_KIND_OTHER
 };
 
@@ -411,6 +558,91 @@ enum {
 
 /* Of who changes a file, or reads it. Each kind has one class. */
 uint32_t dconfdb_fault_class(uint32_t kind, bool changes);
+
+/* Why a change was not made. */
+enum {
+    DCONFDB_CHANGE_LOCKED, /* a key is, or there is no database that could be written */
+    DCONFDB_CHANGE_UNFIT,  /* an edit can't be made */
+    DCONFDB_CHANGE_HOST,   /* the host failed, by a fault of that kind */
+    DCONFDB_CHANGE_MEMORY,
+    DCONFDB_CHANGE_BUSY /* others write, or it is none of these */
+};
+
+/* What becomes of what waits, as dconfdb_queue_answered has it: LOCKED, FAULT, or LATER. Nothing is refused but for a fault that stays. */
+uint32_t dconfdb_verdict(uint32_t fault, uint32_t kind);
+
+/* Whether such a fault passes in a moment, mostly. */
+bool dconfdb_is_momentary(uint32_t fault, uint32_t kind);
+
+/* What is asked of a change before it is written, in this order, and what came of it. */
+enum {
+    DCONFDB_MAKING_EXPECT,    /* is the same seen at its paths as was expected? */
+    DCONFDB_MAKING_LEAVE_OUT, /* are edits left, once those are left out that others overtook? */
+    DCONFDB_MAKING_BYTES,     /* are there bytes of the file with them? */
+    DCONFDB_MAKING_COMPARE,   /* is all that they say there already? */
+    DCONFDB_MAKING_OPEN,      /* do the bytes open? */
+    DCONFDB_MAKING_READY,     /* over: they are to be written */
+    DCONFDB_MAKING_NOTHING,   /* over: nothing is to be written */
+    DCONFDB_MAKING_FAILED     /* over: a fault is told */
+};
+
+/* The answers. */
+enum {
+    DCONFDB_FOUND_YES,
+    DCONFDB_FOUND_NO,
+    DCONFDB_FOUND_FAULT
+};
+
+/* What is asked after that answer, or what came of it. `makes_file`: one is to be made; else it is only said what is wrong with the
+ * change. `is_unsettled`: a change that failed may have left the file so, and it is written once more. */
+uint32_t dconfdb_making_after(bool makes_file, bool is_unsettled, uint32_t ask, uint32_t found);
+
+/* What a program has of a change. */
+typedef struct {
+    uint32_t newest;   /* which settings are the newest */
+    uint32_t told;     /* what is told */
+    bool is_unsettled; /* the file may not be on the disk */
+    bool is_there;     /* what was asked for is in the file */
+} DconfdbEnding;
+
+enum {
+    DCONFDB_NEWEST_OLD,   /* those from before the change */
+    DCONFDB_NEWEST_NEWER, /* those with it */
+    DCONFDB_NEWEST_TRIED  /* those from before, as far as is known: a later look may find those with it */
+};
+
+enum {
+    DCONFDB_TOLD_NOTHING,   /* it is made */
+    DCONFDB_TOLD_FIRST,     /* the first fault, as it was */
+    DCONFDB_TOLD_BAD_WRITE, /* a write that wrote nothing, or more than there was */
+    DCONFDB_TOLD_OUTCOME    /* what may have become of the file, by the first fault */
+};
+
+/* By a turn's outcome and its first fault. `before`: a change before this one may not be on the disk. */
+void dconfdb_ending(uint32_t outcome, uint32_t fault, bool before, DconfdbEnding *ending);
+
+/* Calls to which a fault may be another thing than that the change failed. */
+enum {
+    DCONFDB_CALL_OPEN,      /* of a file that is to be read, without a wait */
+    DCONFDB_CALL_LOCK,      /* without a wait */
+    DCONFDB_CALL_SET_ASIDE, /* gives what has the name another one, too */
+    DCONFDB_CALL_PLACE      /* gives the new file the name */
+};
+
+/* What it is to them. */
+enum {
+    DCONFDB_ANSWER_OWN, /* as the classes, of who changes a file, or opens one to read it */
+    DCONFDB_ANSWER_SOON,
+    DCONFDB_ANSWER_LATER,
+    DCONFDB_ANSWER_LEASED,   /* another program has a lease on the file, and was asked to give it back */
+    DCONFDB_ANSWER_TAKEN,    /* others have the lock */
+    DCONFDB_ANSWER_NAMELESS, /* what has the name can have no other one beside it: both files change places */
+    DCONFDB_ANSWER_NOTHING,  /* nothing has the name: nothing is set aside */
+    DCONFDB_ANSWER_UNSURE    /* the system may have done it all the same: nobody knows which file has the name */
+};
+
+/* Each fault of a call has one answer. */
+uint32_t dconfdb_fault_answer(uint32_t call, uint32_t kind);
 
 /* An edit that waits, and what became of it. Of each change the first edit says whether it is refused. */
 typedef struct {
@@ -493,11 +725,11 @@ enum {
     DCONFDB_NOTICE_REST   /* until something happens, or that moment */
 };
 
-/* What happens. */
+/* What is heard. */
 enum {
-    DCONFDB_NOTICE_FILE,   /* one may have changed, or somebody asks */
+    DCONFDB_NOTICE_FILE,   /* one may have changed */
     DCONFDB_NOTICE_FOLDER, /* other files may be the store's */
-    DCONFDB_NOTICE_TIME    /* passed */
+    DCONFDB_NOTICE_NOTHING
 };
 
 /* The files are watched first, and then looked at. */
@@ -506,11 +738,78 @@ void dconfdb_notice_begin(DconfdbNotice *notice);
 /* Gives the step; `until` is the moment of a rest, or 0. */
 uint32_t dconfdb_notice_next(const DconfdbNotice *notice, uint64_t *until);
 
-/* What happened, at any time, also amid a step. */
-void dconfdb_notice_told(DconfdbNotice *notice, uint32_t event, uint64_t now);
+/* What was heard since the last time, at any time, also amid a step, and that time passed. Where somebody asks for a look, the step is
+ * no rest. */
+void dconfdb_notice_heard(DconfdbNotice *notice, uint32_t event, uint64_t now);
+uint32_t dconfdb_notice_asked(DconfdbNotice *notice, uint32_t event, uint64_t now);
 
-/* Whether all files are watched, or whether the look succeeded. */
-void dconfdb_notice_answered(DconfdbNotice *notice, bool yes, uint64_t now);
+/* Time passed: where not all is watched, only a listener minds. The files are others, which were opened. */
+void dconfdb_notice_passed(DconfdbNotice *notice, bool listens, uint64_t now);
+void dconfdb_notice_opened_anew(DconfdbNotice *notice, uint64_t now);
+
+/* When the next step is due: a moment that is over is at once. */
+uint64_t dconfdb_notice_due(const DconfdbNotice *notice, bool listens);
+
+/* Whether all files are watched, or whether the look succeeded. Gives when the next step is due, for who minds the time. */
+uint64_t dconfdb_notice_answered(DconfdbNotice *notice, bool yes, uint64_t now);
+
+/* ---- what is watched of the names on the way to a file, and what is heard of them, as DCONFDB_NOTICE_FILE, _FOLDER or _NOTHING */
+
+typedef struct {
+    uint32_t watch, way;
+    uint32_t comes; /* what is heard if something comes there */
+} DconfdbWatchedName;
+
+/* What stands at a name. */
+enum {
+    DCONFDB_FOUND_NOTHING,
+    DCONFDB_FOUND_LINK,
+    DCONFDB_FOUND_FOLDER,
+    DCONFDB_FOUND_FILE, /* that has no other name */
+    DCONFDB_FOUND_OTHER
+};
+
+/* What is watched. */
+enum {
+    DCONFDB_WATCH_NOTHING,
+    DCONFDB_WATCH_ITSELF,  /* the folder: whether it is moved, or goes */
+    DCONFDB_WATCH_PASSAGE, /* what comes to a name, and that it goes */
+    DCONFDB_WATCH_OWN,     /* the file's own name, also how it is written, and who may read it */
+    DCONFDB_WATCH_AWAITED  /* the same, and what is made there */
+};
+
+/* Where the path goes on. */
+enum {
+    DCONFDB_WAY_ENDS,
+    DCONFDB_WAY_FOLLOWS, /* the link */
+    DCONFDB_WAY_ENTERS   /* the folder */
+};
+
+/* What happens, */
+enum {
+    DCONFDB_EVENT_MADE,
+    DCONFDB_EVENT_CAME,
+    DCONFDB_EVENT_WENT,
+    DCONFDB_EVENT_WRITTEN,
+    DCONFDB_EVENT_ACCESS, /* is another's, or others may do other things */
+    DCONFDB_EVENT_GONE,   /* is a folder that is watched itself */
+    DCONFDB_EVENT_LOST,   /* isn't known */
+    DCONFDB_EVENT_OTHER   /* is nothing that was asked for */
+};
+
+/* and to what. */
+enum {
+    DCONFDB_OF_NAME,
+    DCONFDB_OF_FOLDER, /* in which the name is, or that is watched itself */
+    DCONFDB_OF_ANOTHER
+};
+
+/* Of a name at which that stands. `is_last`: it is the file's own. `is_busy_above`, `is_busy`: much happens in the folder above, or in
+ * this one, and isn't minded. `role`: what is heard of a change of the file. */
+void dconfdb_watched_name(uint32_t found, bool is_last, bool is_busy_above, bool is_busy, uint32_t role, DconfdbWatchedName *name);
+
+/* What is heard of an event at a name, at which that stands by now; or what was heard before, if that means more. */
+uint32_t dconfdb_heard(uint32_t before, uint32_t watch, uint32_t comes, uint32_t event, uint32_t of, uint32_t found);
 
 /* ---- when what waits is written. All moments are of one clock, in microseconds; 0 is none. */
 
@@ -523,24 +822,95 @@ uint64_t dconfdb_pause_after(uint64_t pause);
 /* How many milliseconds there are until the first of two moments. False, and `wait` as it was, where neither is one. */
 bool dconfdb_sleep_until(uint64_t again, uint64_t look, uint64_t now, uint64_t *wait);
 
-/* Whether who asks that all is written goes on waiting, and whether the program's end does. */
-bool dconfdb_sync_goes_on(uint64_t settled, uint64_t added, uint64_t now, uint64_t end);
+/* Whether the program's end goes on waiting. */
 bool dconfdb_exit_goes_on(uint64_t now, uint64_t end, uint64_t moved);
+
+/* How long it is waited until all is written. */
+typedef struct {
+    uint64_t end, each, latest;
+} DconfdbPatience;
+
+/* From now on: so long, and as long again after each turn of another program, up to a minute. */
+void dconfdb_patience_begin(DconfdbPatience *patience, uint64_t now, uint64_t each);
+
+/* Another program had a turn. */
+void dconfdb_patience_renew(DconfdbPatience *patience, uint64_t now);
+
+/* Whether it is waited on: fewer changes are settled than there were when the wait began, no later try than those of then has failed
+ * by a fault that lasts (0: none has), and the time isn't over. */
+bool dconfdb_patience_goes_on(const DconfdbPatience *patience, uint64_t settled, uint64_t added, uint64_t failed, uint64_t tries,
+                              uint64_t now);
+
+/* Whether who writes goes on: the program doesn't end, or something waits, and no later try than those has failed so. */
+bool dconfdb_writer_goes_on(bool ends, bool waits, uint64_t failed, uint64_t tries);
+
+/* Whether a fault lasts, by which nothing could be written since that moment. `tries_again`: somebody will. */
+bool dconfdb_fault_is_lasting(bool is_momentary, bool tries_again, uint64_t since, uint64_t now);
+
+/* ---- changes that wait. Each key and each edit has a number; an edit's is 1 or more, and greater than those of older ones. */
+
+/* The number of the newest edit of a key; 0 if none waits. */
+size_t dconfdb_newest_found(const size_t *newest, size_t keys, size_t key);
+
+/* Puts an edit as the newest of its key. Gives the one that was it before, and is so again if this one goes; or 0. */
+size_t dconfdb_newest_put(size_t *newest, size_t keys, size_t key, size_t number);
+
+/* Whether an edit's change needs no write, beside the newest edit of its key: both are alone in their changes. */
+bool dconfdb_waiting_is_overtaken(size_t number, bool is_alone, size_t newest, bool newest_is_alone);
+
+/* What becomes of a change when it was tried to write all that waits. */
+enum {
+    DCONFDB_FATE_WAITS, /* before all that was set since */
+    DCONFDB_FATE_WRITTEN,
+    DCONFDB_FATE_REFUSED,
+    DCONFDB_FATE_OVERTAKEN /* a later one sets its key, and goes on waiting: nobody sees that it goes */
+};
+
+uint32_t dconfdb_waiting_fate(bool is_written, bool is_refused, bool is_overtaken);
 
 /* ---- which paths were set last */
 
-/* Whether a change of that time is overtaken: the path, or a directory above it, was set later, as the
- * times say. One that is later than `now` counts for nothing. */
-bool dconfdb_is_overtaken(const DconfdbTime *times, size_t n, const uint8_t *path, size_t path_len, uint64_t when, uint64_t now);
+/* An edit that is to be written: its path as it is noted, when it was asked for, and the number of its change. */
+typedef struct {
+    DconfdbBytes path;
+    uint64_t when;
+    size_t change;
+    bool is_own;       /* the program's last write may have left what it says, and it is there */
+    bool is_as_before; /* the program looked before it was asked for, and the same is there */
+} DconfdbAsked;
 
-/* Whether a change is left out, by which of its edits are overtaken: they are made together, or none is. */
-bool dconfdb_is_left_out(const bool *overtaken, size_t count);
+/* A path at which a file was seen to differ. `when` is the file's time, and `value` what is there. */
+typedef struct {
+    DconfdbTime time;
+    bool is_noted; /* who left the file noted what it changed */
+} DconfdbSeen;
 
-/* The times with more of them, as many as there is room for: of each path the latest. What has no
- * room is no later than what has. One that is later than `now` goes. The paths are lent from the times
- * that are handed in. MEMORY, and then nothing is written. */
-uint32_t dconfdb_note_times(const DconfdbTime *times, size_t n, const DconfdbTime *more, size_t more_n, uint64_t now,
-                            DconfdbTime *room, size_t room_len, size_t *len);
+/* Which edits are left out: those of a path that was set later, as the notes say, or of a directory above; and all of a change with
+ * one. They are handed out as dconfdb_list does. MEMORY, and then nothing is written. */
+uint32_t dconfdb_leave_out(const DconfdbTime *notes, size_t n, const DconfdbSeen *seen, size_t seen_n, const DconfdbAsked *edits,
+                           size_t count, uint64_t now, bool *room, size_t room_len, size_t *len);
+
+/* The notes with one for each path that was seen to differ and that nobody noted, as many as there is room for: of each path the
+ * latest. What has no room is no later than what has. One that is later than `now` goes. The paths are lent from what is handed in.
+ * They are handed out as dconfdb_list does. MEMORY, and then nothing is written. */
+uint32_t dconfdb_note_seen(const DconfdbTime *notes, size_t n, const DconfdbSeen *seen, size_t seen_n, uint64_t now, DconfdbTime *room,
+                           size_t room_len, size_t *len);
+
+/* The notes with those of edits that were made, in the same way. What was only guessed of their paths goes. */
+uint32_t dconfdb_note_made(const DconfdbTime *notes, size_t n, const DconfdbTime *made, size_t made_n, uint64_t now, DconfdbTime *room,
+                           size_t room_len, size_t *len);
+
+/* The newest notes: at most so many, that take so many bytes. The oldest go, and one note says of all paths below "/" that they were
+ * set by the latest of their times. They are handed out as dconfdb_list does. MEMORY, and then nothing is written. */
+uint32_t dconfdb_newest_notes(const DconfdbTime *notes, size_t n, size_t most, size_t most_bytes, DconfdbTime *room, size_t room_len,
+                              size_t *len);
+
+/* The time of a moment of a clock that nobody sets, which is `boot` by that clock when it is `now` by the clock of the day. It is no
+ * earlier than `noted`, what the program noted last, unless that is later than `now`. */
+uint64_t dconfdb_time_of_moment(uint64_t now, uint64_t boot, uint64_t moment, uint64_t noted);
+
+/* The time that stands for when a file was changed that nobody noted, by when it was written, and when it got its name. */
+uint64_t dconfdb_time_of_file(uint64_t written, uint64_t touched);
 
 /* The notes that a file's bytes are. The first is of the turn in which they were written: its `value` is how many of
  * the others are of files that were left, which come next, and those that were set come after them. There is none
@@ -553,6 +923,75 @@ uint32_t dconfdb_notes_read(const uint8_t *bytes, size_t bytes_len, DconfdbTime 
  * by the latest of their times. They are handed out as dconfdb_list does. MEMORY, and then nothing is written. */
 uint32_t dconfdb_notes_written(const DconfdbTime *notes, size_t n, size_t most, size_t most_bytes, uint8_t *room, size_t room_len,
                                size_t *len);
+
+/* ---- what is seen while edits wait, and which paths stand for which */
+
+/* What the newest edit says that waits of a key: it sets a value, or takes the user's away. One that sets bytes of no type
+ * takes it away, too. */
+typedef struct {
+    DconfdbBytes value, type_text;
+    bool waits; /* false: there is none */
+    bool sets;
+} DconfdbWaits;
+
+#define DCONFDB_NO_EDIT {DCONFDB_NOTHING, DCONFDB_NOTHING, false, false}
+
+/* What a key is seen through. */
+typedef struct {
+    const DconfdbLayer *layers;
+    size_t layers_len;
+    DconfdbWaits edit;
+    bool writable; /* the first layer is the user's */
+} DconfdbView;
+
+/* Where what is seen of a key is found. */
+enum {
+    DCONFDB_SHOWN_STORED,  /* as dconfdb_read has it */
+    DCONFDB_SHOWN_DEFAULT, /* as dconfdb_read_default has it */
+    DCONFDB_SHOWN_EDIT     /* in the newest edit that waits */
+};
+
+/* `may_write`: whether the key may be written. `edit_fits`, `stored_fits`: the value of each is of the type that is asked
+ * for, or there is none. A lock hides what waits. */
+uint32_t dconfdb_shown(bool waits, bool sets, bool may_write, bool edit_fits, bool stored_fits);
+
+/* Where the user's own value is found, locked or not. */
+enum {
+    DCONFDB_OWN_FIRST, /* in the first database */
+    DCONFDB_OWN_NONE,
+    DCONFDB_OWN_EDIT
+};
+
+uint32_t dconfdb_own(bool waits, bool sets, bool writable);
+
+/* Whether the same value is seen at a key's path before and after, or none both times, by who asks for a type; an empty text
+ * asks for any. A value in other bytes is the same one. What is no key's path shows nothing. MEMORY, and then nothing is
+ * written. */
+uint32_t dconfdb_seen_alike(const DconfdbView *before, const DconfdbView *after, const uint8_t *path, size_t path_len,
+                            const uint8_t *type_text, size_t type_text_len, bool *alike);
+
+/* Whether a path covers another: it is the same, or a directory above it. A path is locked, be it a key's or a directory's,
+ * if a lock covers it that dconfdb_locks lists of all layers. */
+bool dconfdb_covers(const uint8_t *path, size_t path_len, const uint8_t *other, size_t other_len);
+
+/* Whether one of two paths covers the other. */
+bool dconfdb_meets(const uint8_t *one, size_t one_len, const uint8_t *other, size_t other_len);
+
+/* What a text is as a path. */
+enum {
+    DCONFDB_PATH_KEY,
+    DCONFDB_PATH_DIRECTORY,
+    DCONFDB_PATH_NOT_ABSOLUTE,
+    DCONFDB_PATH_HAS_NUL,
+    DCONFDB_PATH_DOUBLE_SLASH,
+    DCONFDB_PATH_ABSOLUTE /* of dconfdb_relative_kind alone */
+};
+
+/* However long it is; `is_short` says whether it is no longer than a path may be. */
+uint32_t dconfdb_path_kind(const uint8_t *text, size_t len, bool *is_short);
+
+/* The same of what follows the slash of a directory. */
+uint32_t dconfdb_relative_kind(const uint8_t *text, size_t len);
 
 #ifdef __cplusplus
 }

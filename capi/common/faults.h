@@ -28,19 +28,36 @@ static inline uint32_t fault_kind(int fault)
     case ENOLCK:
     case ENOMEM: return DCONFDB_KIND_SCARCE;
     case ESTALE:
-    case EAGAIN:
     case EINTR: return DCONFDB_KIND_MOMENT;
+    case EAGAIN: return DCONFDB_KIND_WAIT;
     case ENOSPC:
     case EDQUOT:
     case EFBIG: return DCONFDB_KIND_FULL;
     case EIO: return DCONFDB_KIND_DISK;
+    case ENOENT: return DCONFDB_KIND_MISSING;
+    case EMLINK:
+    case ENOSYS:
+    case EOPNOTSUPP: return DCONFDB_KIND_UNSUPPORTED;
     default: return DCONFDB_KIND_OTHER;
     }
+}
+
+/* What it is to a call of the system to which it may be another thing than a fault of a change. */
+static inline uint32_t fault_answer(uint32_t call, int fault)
+{
+    return dconfdb_fault_answer(call, fault_kind(fault));
 }
 
 static inline uint32_t fault_class_of(int fault, bool changes)
 {
     return dconfdb_fault_class(fault_kind(fault), changes);
+}
+
+/* What is wrong with the file: its kind, size, name or permissions, or its place on the disk. Whatever else is answered may be the
+ * process's, the disk's or a server's fault, and then a sound file must not be replaced. */
+static inline bool is_files_own(int fault)
+{
+    return fault_class_of(fault, false) == DCONFDB_CLASS_OWN;
 }
 
 /* Whether nobody who has this program's rights may write there: no key is writable. */
@@ -49,25 +66,32 @@ static inline bool says_closed(const DconfdbError *fault)
     return fault->code == DCONFDB_ERROR_FILE && fault_class_of(fault->errnum, true) == DCONFDB_CLASS_OWN;
 }
 
+/* Which fault of a change it is. */
+static inline uint32_t fault_of_change(const DconfdbError *fault)
+{
+    switch (fault->code) {
+    case DCONFDB_ERROR_LOCKED:
+    case DCONFDB_ERROR_NOT_WRITABLE: return DCONFDB_CHANGE_LOCKED;
+    case DCONFDB_ERROR_VALUE_TOO_LARGE:
+    case DCONFDB_ERROR_BAD_PATH:
+    case DCONFDB_ERROR_BAD_TYPE:
+    case DCONFDB_ERROR_BAD_VALUE: return DCONFDB_CHANGE_UNFIT;
+    case DCONFDB_ERROR_FILE: return DCONFDB_CHANGE_HOST;
+    case DCONFDB_ERROR_MEMORY: return DCONFDB_CHANGE_MEMORY;
+    default: return DCONFDB_CHANGE_BUSY;
+    }
+}
+
 /* Whether it is mostly so for a moment: that all files of the process are in use, say, or what a server answers once. */
 static inline bool is_momentary(const DconfdbError *fault)
 {
-    return fault->code == DCONFDB_ERROR_MEMORY
-        || (fault->code == DCONFDB_ERROR_FILE && fault_class_of(fault->errnum, true) == DCONFDB_CLASS_SOON);
+    return dconfdb_is_momentary(fault_of_change(fault), fault_kind(fault->errnum));
 }
 
 /* What a change that failed by this fault is answered to, as dconfdb_queue_answered has it: only what is refused doesn't wait. */
 static inline uint32_t answer_of_fault(const DconfdbError *fault)
 {
-    switch (fault->code) {
-    case DCONFDB_ERROR_LOCKED:
-    case DCONFDB_ERROR_NOT_WRITABLE: return DCONFDB_QUEUE_LOCKED;
-    case DCONFDB_ERROR_VALUE_TOO_LARGE:
-    case DCONFDB_ERROR_BAD_PATH:
-    case DCONFDB_ERROR_BAD_TYPE:
-    case DCONFDB_ERROR_BAD_VALUE: return DCONFDB_QUEUE_FAULT;
-    default: return says_closed(fault) ? DCONFDB_QUEUE_LOCKED : DCONFDB_QUEUE_LATER;
-    }
+    return dconfdb_verdict(fault_of_change(fault), fault_kind(fault->errnum));
 }
 
 #endif

@@ -3,6 +3,7 @@
 #define _FILE_OFFSET_BITS 64
 #include "files.h"
 #include "dconfdb_calls.h"
+#include "faults.h"
 #include "tries.h"
 
 #include <errno.h>
@@ -15,41 +16,52 @@
 #include <unistd.h>
 
 /* No more than so many bytes are read at once, whatever they begin with. */
-enum { SMALL = 65536 };
+#ifndef SMALL
+#define SMALL 65536
+#endif
 
-enum { PERMISSION_BITS = 0777, GROUPS_BITS = 070, READ_AND_WRITE = 0600, HEAD = 24, MOST_ASIDE = 999 };
+/* The last of the names NAME~1, NAME~2 and so on. */
+#ifndef MOST_ASIDE
+#define MOST_ASIDE 999
+#endif
+
+enum { PERMISSION_BITS = 0777, HEAD = 24 };
 
 /* For so many milliseconds a file is waited for that another program has a lease on, which it is asked to give back. */
 enum { LONGEST_LEASE = 1000 };
 
+static DconfdbFileTime time_of(const struct timespec *time)
+{
+    return (DconfdbFileTime){(uint64_t)time->tv_sec, (uint64_t)time->tv_nsec};
+}
+
 static FileState state_of(const struct stat *found)
 {
-    return (FileState){true, found->st_dev, found->st_ino, found->st_size, found->st_mtim, found->st_ctim};
+    return (FileState){found->st_dev, found->st_ino, (uint64_t)found->st_size, time_of(&found->st_mtim), time_of(&found->st_ctim), true};
 }
+
+static const FileState missing;
 
 int file_look(const char *name, FileState *state)
 {
     struct stat found;
-    *state = (FileState){.is_there = false};
-    if (stat(name, &found) != 0)
-        return errno == ENOENT ? 0 : errno;
-    *state = state_of(&found);
-    return 0;
+    if (stat(name, &found) == 0) {
+        *state = state_of(&found);
+        return 0;
+    }
+    *state = missing;
+    return errno == ENOENT ? 0 : errno;
 }
 
-bool file_is_same(const FileState *one, const FileState *other)
+uint64_t file_clock(void)
 {
-    if (!one->is_there || !other->is_there)
-        return one->is_there == other->is_there;
-    return one->device == other->device && one->inode == other->inode && one->size == other->size
-        && one->written.tv_sec == other->written.tv_sec && one->written.tv_nsec == other->written.tv_nsec;
+    struct timespec now;
+    return clock_gettime(CLOCK_REALTIME_COARSE, &now) == 0 ? (uint64_t)now.tv_sec * 1000000000 + (uint64_t)now.tv_nsec : 0;
 }
 
-bool file_is_untouched(const FileState *one, const FileState *other)
+bool file_may_be_read(const char *name)
 {
-    return file_is_same(one, other)
-        && (!one->is_there
-            || (one->touched.tv_sec == other->touched.tv_sec && one->touched.tv_nsec == other->touched.tv_nsec));
+    return faccessat(AT_FDCWD, name, R_OK, AT_EACCESS) == 0;
 }
 
 /* Reads so many bytes, or fewer where the file has become shorter. */
@@ -112,7 +124,7 @@ static uint32_t try_open(void *it, int *fault)
     *fault = opening->file < 0 ? errno : 0;
     if (*fault == 0)
         return DCONFDB_WAIT_GOT;
-    return *fault == EWOULDBLOCK ? DCONFDB_WAIT_TAKEN : DCONFDB_WAIT_FAILED;
+    return fault_answer(DCONFDB_CALL_OPEN, *fault) == DCONFDB_ANSWER_LEASED ? DCONFDB_WAIT_TAKEN : DCONFDB_WAIT_FAILED;
 }
 
 static int fault_of_kind(const struct stat *found)
@@ -123,15 +135,17 @@ static int fault_of_kind(const struct stat *found)
 }
 
 /* Opens a regular file. What has the name is looked at before: a state of later might be that of a newer file, which would never be
- * read; and a pipe or a device is not opened, since who writes into it would notice. */
+ * read; and a pipe or a device is not opened, since who writes into it would notice. What can't be looked at is like nothing else. */
 static int open_file(Opening *opening, FileState *state)
 {
     struct stat found;
     int fault = 0;
-    *state = (FileState){.is_there = false};
+    *state = missing;
     if (fstatat(opening->folder, opening->name, &found, 0) == 0) {
         *state = state_of(&found);
         fault = fault_of_kind(&found);
+    } else {
+        state->is_there = errno != ENOENT;
     }
     if (fault == 0 && try_open(opening, &fault) == DCONFDB_WAIT_TAKEN)
         fault = try_for(LONGEST_LEASE, true, try_open, opening);
@@ -180,52 +194,60 @@ void file_release(FileBytes *bytes)
     *bytes = (FileBytes){NULL, 0, false};
 }
 
-/* Gives the file its owner and group: root must, and others may give it a group that they are in. The rights of that group are no
- * other group's: one in its place has no more of them than all have. */
-static int give(int file, const struct stat *made, uid_t user, gid_t group, mode_t *mode)
+/* Gives the file its owner and group, as far as this program may. Whoever can't give it its group gives it other bits. */
+static int give(int file, const struct stat *made, const Replacing *it, mode_t *mode)
 {
-    if (made->st_uid == user && made->st_gid == group)
-        return 0;
     if (geteuid() == 0)
-        return fchown(file, user, group) != 0 ? errno : 0;
-    if (made->st_gid != group && fchown(file, (uid_t)-1, group) != 0)
-        *mode &= (mode_t)~GROUPS_BITS | (*mode & (GROUPS_BITS >> 3)) << 3;
+        return (made->st_uid != it->user || made->st_gid != it->group) && fchown(file, it->user, it->group) != 0 ? errno : 0;
+    bool has_group = made->st_gid == it->group || fchown(file, (uid_t)-1, it->group) == 0;
+    *mode = dconfdb_bits_for(*mode, has_group);
     return 0;
 }
 
 /* Gives the file the permission bits, too, whatever the umask: after its group, so that no other has them for a moment. */
-static int hand_over(int file, mode_t mode, uid_t user, gid_t group)
+static int hand_over(const Replacing *it, mode_t mode)
 {
     struct stat made;
-    if (fstat(file, &made) != 0)
+    if (fstat(it->file, &made) != 0)
         return errno;
-    int fault = give(file, &made, user, group, &mode);
+    int fault = give(it->file, &made, it, &mode);
     if (fault != 0)
         return fault;
-    return (made.st_mode & PERMISSION_BITS) != mode && fchmod(file, mode) != 0 ? errno : 0;
+    return (made.st_mode & PERMISSION_BITS) != mode && fchmod(it->file, mode) != 0 ? errno : 0;
 }
 
-/* Root gives a file only to whom it was read from: in a folder of another's the name may be a link, and another's file by now. */
-static int fault_of_look(const struct stat *old, bool keeps, const FileState *read)
+static DconfdbOldFile old_file(const struct stat *old, const FileState *read)
 {
-    if (geteuid() != 0 || !read->is_there)
-        return 0;
-    if (keeps && S_ISLNK(old->st_mode))
-        return old->st_uid != 0 ? EACCES : 0;
-    return read->device != old->st_dev || read->inode != old->st_ino ? EAGAIN : 0;
+    FileState state = state_of(old);
+    return (DconfdbOldFile){.user = old->st_uid,
+                            .group = old->st_gid,
+                            .bits = old->st_mode & PERMISSION_BITS,
+                            .is_there = true,
+                            .is_regular = S_ISREG(old->st_mode),
+                            .is_link = S_ISLNK(old->st_mode),
+                            .is_read = file_is_one(&state, read)};
 }
 
-/* Whose the new file is, and its permission bits: those of the old one, if that is a file. What is kept
- * aside may not even be readable. */
-static int look_at_old(int folder, const char *name, bool keeps, const FileState *read, struct stat *old, mode_t *mode)
+/* What stands there. What is kept aside may not even be readable, nor a link that leads somewhere. */
+static int look_at_old(const Replacing *it, bool keeps, const FileState *read, DconfdbOldFile *old)
 {
-    *mode = READ_AND_WRITE;
-    bool is_there = fstatat(folder, name, old, keeps ? AT_SYMLINK_NOFOLLOW : 0) == 0;
-    if (!is_there)
-        return errno != ENOENT || fstat(folder, old) != 0 ? errno : 0;
-    if (S_ISREG(old->st_mode))
-        *mode = (old->st_mode & PERMISSION_BITS) | (keeps ? READ_AND_WRITE : 0);
-    return fault_of_look(old, keeps, read);
+    struct stat found;
+    if (fstatat(it->folder, it->name, &found, keeps ? AT_SYMLINK_NOFOLLOW : 0) == 0)
+        *old = old_file(&found, read);
+    else if (errno != ENOENT)
+        return errno;
+    return 0;
+}
+
+/* Whose the folder is, and which group a new file of it has at first. */
+static int look_above(Replacing *it, DconfdbFileOwner *above)
+{
+    struct stat found;
+    if (fstat(it->folder, &found) != 0)
+        return errno;
+    *above = (DconfdbFileOwner){found.st_uid, found.st_gid};
+    it->first_group = (found.st_mode & S_ISGID) != 0 ? found.st_gid : getegid();
+    return 0;
 }
 
 /* A step to another name, which is refused with EEXIST where that is taken. */
@@ -302,27 +324,30 @@ void replacing_end(Replacing *it)
     free(it->aside);
 }
 
-/* A first file is open to its owner alone, who is the folder's where root makes it. */
 int replacing_look(Replacing *it, bool keeps, const FileState *read, size_t *bits)
 {
-    struct stat old;
-    mode_t mode;
-    int fault = look_at_old(it->folder, it->name, keeps, read, &old, &mode);
+    DconfdbOldFile old = {.is_there = false};
+    DconfdbFileOwner above = {0, 0};
+    DconfdbNewFile given = {0, 0, 0};
+    int fault = look_at_old(it, keeps, read, &old);
+    if (fault == 0)
+        fault = look_above(it, &above);
     if (fault != 0)
         return fault;
-    it->user = old.st_uid;
-    it->group = old.st_gid;
-    *bits = mode + (keeps ? SET_ASIDE : 0);
-    return 0;
+    uint32_t answer = dconfdb_owner_and_bits(&old, &above, geteuid() == 0, keeps, &given);
+    it->user = given.user;
+    it->group = given.group;
+    *bits = given.bits + (keeps ? SET_ASIDE : 0);
+    return answer == DCONFDB_OWNER_GIVEN ? 0 : answer == DCONFDB_OWNER_REFUSED ? EACCES : EAGAIN;
 }
 
-/* It mostly has this process's group, until it is given another one, and then the rights of that. */
+/* It has the rights of its group once it has that. */
 int replacing_create(Replacing *it, size_t bits)
 {
-    mode_t at_first = (mode_t)bits & ~(it->group != getegid() ? (mode_t)GROUPS_BITS : 0);
     int fault = make_room(it->folder, it->new_name);
     if (fault != 0)
         return fault;
+    mode_t at_first = dconfdb_bits_for((uint32_t)bits, it->first_group == it->group);
     it->file = openat(it->folder, it->new_name, O_WRONLY | O_CREAT | O_EXCL | O_CLOEXEC, at_first);
     return it->file < 0 ? errno : 0;
 }
@@ -340,7 +365,7 @@ int replacing_append(const Replacing *it, const uint8_t *bytes, size_t len, size
 int replacing_sync(Replacing *it, size_t bits, FileState *state)
 {
     struct stat made;
-    int file = it->file, fault = hand_over(file, (mode_t)bits, it->user, it->group);
+    int file = it->file, fault = hand_over(it, (mode_t)bits);
     it->file = NO_FOLDER;
     if (fault == 0 && ((!it->is_unsynced && fsync(file) != 0) || fstat(file, &made) != 0))
         fault = errno;
@@ -351,33 +376,54 @@ int replacing_sync(Replacing *it, size_t bits, FileState *state)
     return fault;
 }
 
-/* Where the name is nothing there is nothing to be set aside. */
 int replacing_set_aside(Replacing *it, size_t *cannot)
 {
     int fault = to_other_name(it->folder, it->name, by_a_link, &it->aside);
+    uint32_t answer = fault_answer(DCONFDB_CALL_SET_ASIDE, fault);
     it->is_aside = fault == 0;
-    *cannot = fault == EPERM || fault == EACCES;
-    return *cannot || fault == ENOENT ? 0 : fault;
+    *cannot = fault != 0 && answer == DCONFDB_ANSWER_NAMELESS;
+    return *cannot || answer == DCONFDB_ANSWER_NOTHING ? 0 : fault;
 }
 
-/* A fault but EIO says that they did not change places. */
-int replacing_exchange(Replacing *it)
+/* The new file has the name: its time is that of this. Where another one has it by now, that is not looked at. */
+static void is_placed(const Replacing *it, FileState *state)
+{
+    struct stat found;
+    if (fstatat(it->folder, it->name, &found, AT_SYMLINK_NOFOLLOW) != 0)
+        return;
+    FileState placed = state_of(&found);
+    if (file_is_one(&placed, state))
+        *state = placed;
+}
+
+/* A file system that knows neither of both answers as to a name that can't be one. */
+static int fault_of_exchange(void)
+{
+    return errno == EINVAL ? EOPNOTSUPP : errno;
+}
+
+/* The new file's other name goes, unless what it is by now may be the old one. */
+int replacing_exchange(Replacing *it, FileState *state)
 {
     if (renameat2(it->folder, it->new_name, it->folder, it->aside, RENAME_NOREPLACE) != 0)
-        return errno;
+        return fault_of_exchange();
     if (renameat2(it->folder, it->aside, it->folder, it->name, RENAME_EXCHANGE) != 0) {
-        int fault = errno;
-        if (fault != EIO)
+        int fault = fault_of_exchange();
+        if (fault_answer(DCONFDB_CALL_PLACE, fault) != DCONFDB_ANSWER_UNSURE)
             unlinkat(it->folder, it->aside, 0);
         return fault;
     }
     it->is_aside = true;
+    is_placed(it, state);
     return 0;
 }
 
-int replacing_rename(const Replacing *it)
+int replacing_rename(const Replacing *it, FileState *state)
 {
-    return renameat(it->folder, it->new_name, it->folder, it->name) != 0 ? errno : 0;
+    if (renameat(it->folder, it->new_name, it->folder, it->name) != 0)
+        return errno;
+    is_placed(it, state);
+    return 0;
 }
 
 int replacing_sync_folder(const Replacing *it)

@@ -2,6 +2,8 @@
 #ifndef FILES_H
 #define FILES_H
 
+#include "dconfdb_calls.h"
+
 #include <limits.h>
 #include <stdbool.h>
 #include <stddef.h>
@@ -13,13 +15,7 @@ enum { NO_FOLDER = -1 };
 
 /* Which file a name refers to, when it was last written, and when anything of it changed: whose it is,
  * say. */
-typedef struct {
-    bool is_there;
-    dev_t device;
-    ino_t inode;
-    off_t size;
-    struct timespec written, touched;
-} FileState;
+typedef DconfdbFileStamp FileState;
 
 /* A file's bytes: mapped, or from malloc(). */
 typedef struct {
@@ -31,8 +27,17 @@ typedef struct {
 /* The state of a name. A missing file is not an error. */
 int file_look(const char *name, FileState *state);
 
-bool file_is_same(const FileState *one, const FileState *other);
-bool file_is_untouched(const FileState *one, const FileState *other);
+/* Whether both are of one file, whatever changed of it. */
+static inline bool file_is_one(const FileState *one, const FileState *other)
+{
+    return one->is_there && other->is_there && one->device == other->device && one->inode == other->inode;
+}
+
+/* Nanoseconds since 1970, by the clock by which a file's times are noted. */
+uint64_t file_clock(void);
+
+/* Whether this process may read it, by its permissions as they are now. */
+bool file_may_be_read(const char *name);
 
 /* Whether the rest of a file that begins with these bytes is wanted. */
 typedef bool FileWanted(const uint8_t *head, size_t len);
@@ -53,7 +58,7 @@ typedef struct {
     const char *name;
     char new_name[NAME_MAX + sizeof ".new"];
     uid_t user; /* whose the new file is to be */
-    gid_t group;
+    gid_t group, first_group; /* which it is to have, and which it has when it is made */
     char *aside; /* the other name of what the name was, if `is_aside` */
     bool is_aside;
     bool is_unsynced; /* nothing is brought to the disk */
@@ -72,13 +77,13 @@ int replacing_look(Replacing *it, bool keeps, const FileState *read, size_t *bit
 int replacing_create(Replacing *it, size_t bits);
 int replacing_append(const Replacing *it, const uint8_t *bytes, size_t len, size_t *count);
 
-/* The new file is closed in any case. */
+/* The new file is closed in any case. The state is what it has then; its name and its time change once more. */
 int replacing_sync(Replacing *it, size_t bits, FileState *state);
 
 /* The first of NAME~1 to NAME~999 that is free. `cannot`: what the name is can't be linked. */
 int replacing_set_aside(Replacing *it, size_t *cannot);
-int replacing_exchange(Replacing *it);
-int replacing_rename(const Replacing *it);
+int replacing_exchange(Replacing *it, FileState *state);
+int replacing_rename(const Replacing *it, FileState *state);
 int replacing_sync_folder(const Replacing *it);
 int replacing_remove(const Replacing *it);
 

@@ -15,7 +15,15 @@
 #include <sys/stat.h>
 #include <unistd.h>
 
-enum { OWN = 0700, WRITE_OF_OTHERS = 022, MOST_LINKS = 40, MOST_TRIES = 100 };
+/* How many links are followed, and how many names are tried. */
+#ifndef MOST_LINKS
+#define MOST_LINKS 40
+#endif
+#ifndef MOST_TRIES
+#define MOST_TRIES 100
+#endif
+
+enum { OWN = 0700, WRITE_OF_OTHERS = 022 };
 
 /* Only gone through, not read. */
 enum { ON_THE_WAY = O_PATH | O_NOFOLLOW | O_CLOEXEC, TO_READ = O_RDONLY | O_DIRECTORY | O_CLOEXEC };
@@ -194,13 +202,23 @@ static int enter(Way way, int from, const char *name, int *to)
     return errno == ENOTDIR ? enter_link(way, from, name, to) : errno;
 }
 
+static char *without_slashes(char *path)
+{
+    while (*path == '/')
+        path++;
+    return path;
+}
+
 /* Opens the folder at the end of a path, which is cut into its names. */
 static int walk(Way way, int from, char *path, int *end)
 {
     int at = openat(from, *path == '/' ? "/" : ".", O_PATH | O_DIRECTORY | O_CLOEXEC), fault = at < 0 ? errno : 0;
-    char *left = NULL;
-    for (char *name = strtok_r(path, "/", &left); fault == 0 && name; name = strtok_r(NULL, "/", &left)) {
+    char *behind;
+    for (char *name = without_slashes(path); fault == 0 && *name; name = without_slashes(behind)) {
         int above = at;
+        behind = strchrnul(name, '/');
+        if (*behind)
+            *behind++ = 0;
         fault = enter(way, above, name, &at);
         close(above);
     }
@@ -210,12 +228,12 @@ static int walk(Way way, int from, char *path, int *end)
 
 static int walk_to(bool makes, const char *folder, int *end)
 {
-    char *path = strdup(folder);
-    if (!path)
-        return ENOMEM;
-    int fault = walk((Way){makes, 0}, AT_FDCWD, path, end);
-    free(path);
-    return fault;
+    char path[PATH_MAX];
+    size_t size = strlen(folder) + 1;
+    if (size > sizeof path)
+        return ENAMETOOLONG;
+    memcpy(path, folder, size);
+    return walk((Way){makes, 0}, AT_FDCWD, path, end);
 }
 
 int folder_open(const char *folder, int *opened)

@@ -23,20 +23,36 @@ void dconfdb_turn_next(const void *turn, void *step);
 void dconfdb_turn_answered(void *turn, uint32_t fault, size_t n);
 uint32_t dconfdb_change(const void *layers, size_t n, bool writable, const void *changes, size_t changes_len, uint8_t *room,
                         size_t room_len, size_t *len, size_t *at);
-void dconfdb_refresh_begin(void *refresh, size_t count, bool has_old, bool in_turn);
+void dconfdb_refresh_begin(void *refresh, size_t count, bool has_old, bool in_turn, bool is_lenient);
+uint32_t dconfdb_same_file(const void *old, const void *now, uint64_t opened, bool is_held);
+uint32_t dconfdb_owner_and_bits(const void *old, const void *above, bool is_root, bool keeps, void *given);
 void dconfdb_refresh_next(const void *refresh, void *step);
 void dconfdb_refresh_answered(void *refresh, bool yes);
 uint32_t dconfdb_entry(const void *edits, size_t count);
+void dconfdb_patience_begin(void *patience, uint64_t now, uint64_t each);
 void dconfdb_queue_begin(void *queue);
 void dconfdb_queue_answered(void *queue, void *edits, size_t count, uint32_t answer, size_t at);
 void dconfdb_wait_begin(void *wait, uint32_t longest);
 void dconfdb_wait_answered(void *wait, uint32_t answer, uint64_t passed, uint32_t fault);
 void dconfdb_notice_begin(void *notice);
-void dconfdb_notice_told(void *notice, uint32_t event, uint64_t now);
-void dconfdb_notice_answered(void *notice, bool yes, uint64_t now);
+void dconfdb_notice_heard(void *notice, uint32_t event, uint64_t now);
+uint64_t dconfdb_notice_answered(void *notice, bool yes, uint64_t now);
+void dconfdb_watched_name(uint32_t found, bool is_last, bool is_busy_above, bool is_busy, uint32_t role, void *name);
+
+bool dconfdb_folder(const void *environment, uint32_t giver, const uint8_t *folder, size_t folder_len, const uint8_t *base, size_t base_len,
+                    void *path);
+bool dconfdb_named_profile(const void *environment, uint32_t giver, const uint8_t *folder, size_t folder_len, const uint8_t *base,
+                           size_t base_len, void *path);
+void dconfdb_database_path(const uint8_t *folder, size_t folder_len, bool is_beside, uint32_t kind, const uint8_t *name, size_t name_len,
+                           void *path);
 
 uint32_t dconfdb_notes_written(const void *notes, size_t n, size_t most, size_t most_bytes, uint8_t *room, size_t room_len, size_t *len);
-bool dconfdb_is_overtaken(const void *times, size_t n, const uint8_t *path, size_t path_len, uint64_t when, uint64_t now);
+uint32_t dconfdb_seen_alike(const void *before, const void *after, const uint8_t *path, size_t path_len, const uint8_t *type_text, size_t type_text_len,
+                            bool *alike);
+uint32_t dconfdb_leave_out(const void *notes, size_t n, const void *seen, size_t seen_n, const void *edits, size_t count, uint64_t now, bool *room,
+                           size_t room_len, size_t *len);
+uint32_t dconfdb_note_seen(const void *notes, size_t n, const void *seen, size_t seen_n, uint64_t now, void *room, size_t room_len, size_t *len);
+void dconfdb_ending(uint32_t outcome, uint32_t fault, bool before, void *ending);
 
 /* How many bytes a field takes: a bool, a uint32_t, a size_t or pointer, and bytes that are lent. */
 enum { FLAG = 1, NUMBER = 4, WORD = 8, LENT = 16 };
@@ -448,18 +464,20 @@ static void finds_first(Written *room, const char *field, uint32_t number)
 /* A look at nine files without an old snapshot, at the one after the sixth; and two of which nothing is done. */
 static void finds_refresh(void)
 {
-    Written look = room_of("DconfdbRefresh"), step = room_of("DconfdbNext"), in_turn = look, plain = look;
-    dconfdb_refresh_begin(in_turn.bytes, 9, true, true);
-    dconfdb_refresh_begin(plain.bytes, 9, true, false);
-    dconfdb_refresh_begin(look.bytes, 9, false, false);
+    Written look = room_of("DconfdbRefresh"), step = room_of("DconfdbNext"), in_turn = look, plain = look, lenient = look;
+    dconfdb_refresh_begin(in_turn.bytes, 9, true, true, false);
+    dconfdb_refresh_begin(plain.bytes, 9, true, false, false);
+    dconfdb_refresh_begin(lenient.bytes, 9, true, false, true);
+    dconfdb_refresh_begin(look.bytes, 9, false, false, false);
     for (int i = 0; i < 12; i++)
         dconfdb_refresh_answered(look.bytes, true);
     finds_first(&look, "stage", 1);
     finds_word(&look, "at", 6);
     finds_word(&look, "count", 9);
-    size_t from = look.end, to = from + 3;
+    size_t from = look.end, to = from + 4;
     takes(&look, "has_old", bit_of(&look, &plain, from, to, 0, 1), FLAG);
     takes(&look, "in_turn", bit_of(&in_turn, &plain, from, to, 1, 0), FLAG);
+    takes(&look, "is_lenient", bit_of(&lenient, &plain, from, to, 1, 0), FLAG);
     takes(&look, "is_newer", bit_of(&look, &plain, from, to, 1, 0), FLAG);
     ends(&look);
     dconfdb_refresh_next(look.bytes, step.bytes);
@@ -481,32 +499,44 @@ static void finds_wait(void)
 }
 
 /* New edits are read alone: each field changes what becomes of one, and the second of two lies behind the first. */
-enum { NEW_SETS = 0, NEW_MAY = 1, NEW_IS_SAME = 2, NEW_RENEWS = 3, NEW_EDIT = 4 };
+enum { NEW_SETS = 0, NEW_MAY = 1, NEW_IS_SAME = 2, NEW_WAITS = 3, NEW_IS_ALONE = 4, NEW_IS_TAKEN = 5, NEW_EDIT = 6 };
 
-static uint32_t entry_of(bool sets, bool may, bool is_same, bool renews)
+/* Of an edit of which these fields are so. */
+static uint32_t entry_of(unsigned fields)
 {
-    uint8_t edit[NEW_EDIT] = {0};
-    edit[NEW_SETS] = sets;
-    edit[NEW_MAY] = may;
-    edit[NEW_IS_SAME] = is_same;
-    edit[NEW_RENEWS] = renews;
+    uint8_t edit[NEW_EDIT];
+    for (int i = 0; i < NEW_EDIT; i++)
+        edit[i] = fields >> i & 1;
     return dconfdb_entry(edit, 1);
 }
 
 static void finds_new_edit(void)
 {
+    enum { A_SET = 1, MAY = 2, SAME = 4, WAITS = 8, ALONE = 16, TAKEN = 32, TWIN = MAY | SAME | WAITS | ALONE };
     uint8_t edits[2 * NEW_EDIT] = {0};
-    is_so(entry_of(false, false, false, false) == 1 && entry_of(true, false, false, false) == 0, "DconfdbNewEdit");
-    is_so(entry_of(false, true, false, false) == 4 && entry_of(false, true, true, false) == 3, "DconfdbNewEdit");
-    is_so(entry_of(false, true, true, true) == 2 && entry_of(true, true, false, true) == 4, "DconfdbNewEdit");
+    is_so(entry_of(0) == 1 && entry_of(A_SET) == 0 && entry_of(MAY) == 4 && entry_of(MAY | SAME) == 3, "DconfdbNewEdit");
+    is_so(entry_of(TWIN) == 2 && entry_of(TWIN | A_SET) == 2 && entry_of(TWIN | TAKEN) == 3, "DconfdbNewEdit");
+    is_so(entry_of(TWIN & ~WAITS) == 3 && entry_of(TWIN & ~ALONE) == 3, "DconfdbNewEdit");
     is_so(dconfdb_entry(edits, 2) == 1, "DconfdbNewEdit");
     edits[NEW_EDIT + NEW_SETS] = 1;
     is_so(dconfdb_entry(edits, 2) == 0, "DconfdbNewEdit");
     lies("DconfdbNewEdit", "sets", NEW_SETS, FLAG);
     lies("DconfdbNewEdit", "may", NEW_MAY, FLAG);
     lies("DconfdbNewEdit", "is_same", NEW_IS_SAME, FLAG);
-    lies("DconfdbNewEdit", "renews", NEW_RENEWS, FLAG);
+    lies("DconfdbNewEdit", "waits", NEW_WAITS, FLAG);
+    lies("DconfdbNewEdit", "is_alone", NEW_IS_ALONE, FLAG);
+    lies("DconfdbNewEdit", "is_taken", NEW_IS_TAKEN, FLAG);
     printf("TAKES(DconfdbNewEdit, %d);\n", NEW_EDIT);
+}
+
+static void finds_patience(void)
+{
+    Written patience = room_of("DconfdbPatience");
+    dconfdb_patience_begin(patience.bytes, 7, 11);
+    finds_word(&patience, "end", 18);
+    finds_word(&patience, "each", 11);
+    finds_word(&patience, "latest", 60000007);
+    ends(&patience);
 }
 
 /* A look is to come after one that failed, and other files may be the store's meanwhile. */
@@ -515,8 +545,8 @@ static void makes_notice(Written *notice, bool is_whole)
     dconfdb_notice_begin(notice->bytes);
     dconfdb_notice_answered(notice->bytes, is_whole, 5);
     dconfdb_notice_answered(notice->bytes, false, 5);
-    dconfdb_notice_told(notice->bytes, 0, 6);
-    dconfdb_notice_told(notice->bytes, 1, 6);
+    dconfdb_notice_heard(notice->bytes, 0, 6);
+    dconfdb_notice_heard(notice->bytes, 1, 6);
 }
 
 static void finds_notice(void)
@@ -530,6 +560,17 @@ static void finds_notice(void)
     finds_word(&notice, "until", 20005);
     takes(&notice, "is_whole", bit_of(&notice, &partly, notice.end, notice.end + 1, 1, 0), FLAG);
     ends(&notice);
+}
+
+/* A name on the way to a file, at which nothing stands: it is waited for, and nothing is behind it. */
+static void finds_watched_name(void)
+{
+    Written name = room_of("DconfdbWatchedName");
+    dconfdb_watched_name(0, false, false, false, 0, name.bytes);
+    finds_number(&name, "watch", 2);
+    finds_number(&name, "way", 0);
+    finds_number(&name, "comes", 1);
+    ends(&name);
 }
 
 /* Edits are read and written: a set, and a reset that is of the same change. */
@@ -602,9 +643,6 @@ static void tries_times(void)
     _Alignas(16) uint8_t times[2 * TIME];
     makes_time(times, "/a", 2);
     makes_time(times + TIME, "/k", 5);
-    const uint8_t *path = (const uint8_t *)"/k";
-    is_so(dconfdb_is_overtaken(times, 2, path, 2, 4, 5) && !dconfdb_is_overtaken(times, 2, path, 2, 5, 5), "DconfdbTime");
-    is_so(!dconfdb_is_overtaken(times, 1, path, 2, 1, 5), "DconfdbTime");
     lies("DconfdbTime", "path", PATH, LENT);
     uint64_t value = 0x0102030405060708;
     uint8_t written[128];
@@ -615,6 +653,256 @@ static void tries_times(void)
     lies("DconfdbTime", "when", WHEN, WORD);
     lies("DconfdbTime", "value", SET_VALUE, WORD);
     printf("TAKES(DconfdbTime, %d);\n", TIME);
+}
+
+/* ---- a path in its parts, and an environment, of which each variable in turn is the first that counts */
+
+enum { COUNTED = 0, STORE = 8, CONFIG = 24, HOME = 40, PROFILE = 56, ENVIRONMENT = 72, PART_OF_PATH = 4 };
+
+/* The bytes that are lent there. */
+static bool is_lent(const uint8_t *lent, const char *wanted, size_t size)
+{
+    const char *at;
+    size_t len;
+    memcpy(&at, lent + at_in_lent, WORD);
+    memcpy(&len, lent + len_in_lent, WORD);
+    return len == size && memcmp(at, wanted, size) == 0;
+}
+
+/* `/` and `.db` are the calls' own: so these parts are found by what they are. */
+static void finds_path(void)
+{
+    static const char *const fields[PART_OF_PATH] = {"first", "second", "third", "fourth"};
+    static const char *const parts[PART_OF_PATH] = {"/folder", "/", "site", ".db"};
+    Written path = room_of("DconfdbPath");
+    dconfdb_database_path((const uint8_t *)"/folder", 7, false, 1, (const uint8_t *)"site", 4, path.bytes);
+    for (size_t i = 0; i < PART_OF_PATH; i++) {
+        is_so(is_lent(path.bytes + i * LENT, parts[i], strlen(parts[i])), "DconfdbPath");
+        takes(&path, fields[i], i * LENT, LENT);
+    }
+    ends(&path);
+}
+
+/* Whether that variable lies there: the path begins by it, or is the profile's. */
+static void tries_variable(uint8_t *said, const char *field, size_t at, size_t part)
+{
+    _Alignas(16) uint8_t path[PART_OF_PATH * LENT];
+    const char *const text = "/a path";
+    lends(said + at, text, strlen(text));
+    bool is = at == PROFILE ? dconfdb_named_profile(said, 0, file, 0, file, 0, path) : dconfdb_folder(said, 0, file, 0, file, 0, path);
+    is_so(is && is_lent(path + part * LENT, text, strlen(text)), "DconfdbEnvironment");
+    lends(said + at, "", 0);
+    lies("DconfdbEnvironment", field, at, LENT);
+}
+
+static void tries_environment(void)
+{
+    _Alignas(16) uint8_t said[ENVIRONMENT] = {0}, path[PART_OF_PATH * LENT];
+    for (size_t at = STORE; at < ENVIRONMENT; at += LENT)
+        lends(said + at, "", 0);
+    said[COUNTED] = 1;
+    tries_variable(said, "store", STORE, 2);
+    tries_variable(said, "config", CONFIG, 2);
+    tries_variable(said, "home", HOME, 2);
+    tries_variable(said, "profile", PROFILE, 2);
+    said[COUNTED] = 0;
+    lends(said + STORE, "/s", 2);
+    is_so(!dconfdb_folder(said, 0, file, 0, file, 0, path), "DconfdbEnvironment");
+    lies("DconfdbEnvironment", "counts", COUNTED, FLAG);
+    printf("TAKES(DconfdbEnvironment, %d);\n", ENVIRONMENT);
+}
+
+/* ---- edits that are asked for, beside the guess that the second path was set at 5, and what was seen */
+
+enum { ASKED_WHEN = 16, ASKED_CHANGE = 24, IS_OWN = 32, IS_AS_BEFORE = 33, ASKED = 40, IS_NOTED = 32, SEEN = 40 };
+
+static void makes_asked(uint8_t *asked, const char *path, uint64_t when, size_t change)
+{
+    memset(asked, 0, ASKED);
+    lends(asked + PATH, path, strlen(path));
+    memcpy(asked + ASKED_WHEN, &when, WORD);
+    memcpy(asked + ASKED_CHANGE, &change, WORD);
+}
+
+/* Which of the edits are left out: a bit of each. */
+static unsigned left_of(const uint8_t *edits, size_t count, const uint8_t *seen, size_t seen_count)
+{
+    _Alignas(16) uint8_t times[2 * TIME];
+    bool left[3] = {false, false, false};
+    size_t len = 0;
+    makes_time(times, "/a", 2);
+    makes_time(times + TIME, "/k", 5);
+    is_so(dconfdb_leave_out(times, 2, seen, seen_count, edits, count, 9, left, 3, &len) == 0 && len == count, "DconfdbAsked");
+    return left[0] | (unsigned)left[1] << 1 | (unsigned)left[2] << 2;
+}
+
+static void tries_asked(void)
+{
+    _Alignas(16) uint8_t edits[3 * ASKED], seen[SEEN] = {0};
+    makes_asked(edits, "/j", 4, 7);
+    makes_asked(edits + ASKED, "/k", 4, 8);
+    makes_asked(edits + 2 * ASKED, "/j", 4, 8);
+    is_so(left_of(edits, 3, seen, 0) == 6, "DconfdbAsked");
+    edits[ASKED + IS_OWN] = 1;
+    is_so(left_of(edits, 3, seen, 0) == 0, "DconfdbAsked");
+    edits[ASKED + IS_OWN] = 0;
+    edits[ASKED + IS_AS_BEFORE] = 1;
+    is_so(left_of(edits, 3, seen, 0) == 0, "DconfdbAsked");
+    makes_time(seen, "/k", 5);
+    is_so(left_of(edits, 3, seen, 1) == 6, "DconfdbSeen");
+    makes_asked(edits + ASKED, "/k", 5, 8);
+    is_so(left_of(edits, 3, seen, 1) == 0, "DconfdbAsked");
+    lies("DconfdbAsked", "path", PATH, LENT);
+    lies("DconfdbAsked", "when", ASKED_WHEN, WORD);
+    lies("DconfdbAsked", "change", ASKED_CHANGE, WORD);
+    lies("DconfdbAsked", "is_own", IS_OWN, FLAG);
+    lies("DconfdbAsked", "is_as_before", IS_AS_BEFORE, FLAG);
+    printf("TAKES(DconfdbAsked, %d);\n", ASKED);
+}
+
+static void tries_seen(void)
+{
+    _Alignas(16) uint8_t seen[2 * SEEN] = {0}, room[2 * TIME];
+    size_t len = 0;
+    makes_time(room, "", 0);
+    makes_time(room + TIME, "", 0);
+    makes_time(seen, "/a", 3);
+    makes_time(seen + SEEN, "/k", 5);
+    is_so(dconfdb_note_seen(room, 0, seen, 2, 9, room, 2, &len) == 0 && len == 2, "DconfdbSeen");
+    seen[SEEN + IS_NOTED] = 1;
+    is_so(dconfdb_note_seen(room, 0, seen, 2, 9, room, 2, &len) == 0 && len == 1, "DconfdbSeen");
+    lies("DconfdbSeen", "time", 0, TIME);
+    lies("DconfdbSeen", "is_noted", IS_NOTED, FLAG);
+    printf("TAKES(DconfdbSeen, %d);\n", SEEN);
+}
+
+/* ---- the ending of a change that may be made, or was not, and of one that was */
+
+enum { WAS_KEPT = 1, WAS_EITHER = 2, WAS_UNSETTLED = 3 };
+
+static void finds_ending(void)
+{
+    Written either = room_of("DconfdbEnding"), kept = either, unsettled = either;
+    dconfdb_ending(WAS_EITHER, FAULT, false, either.bytes);
+    dconfdb_ending(WAS_KEPT, FAULT, false, kept.bytes);
+    dconfdb_ending(WAS_UNSETTLED, FAULT, false, unsettled.bytes);
+    finds_number(&either, "newest", 2);
+    finds_number(&either, "told", 3);
+    takes(&either, "is_there", bit_of(&either, &unsettled, 2 * NUMBER, 2 * NUMBER + 2, 0, 1), FLAG);
+    takes(&either, "is_unsettled", bit_of(&kept, &either, 2 * NUMBER, 2 * NUMBER + 2, 0, 1), FLAG);
+    ends(&either);
+}
+
+/* ---- what a key is seen through, and an edit of it */
+
+enum { EDIT_OF_VIEW = 16, EDIT_TYPE = 16, EDIT_WAITS = 32, WAIT_SETS = 33, WAITS = 40, VIEW_WRITABLE = 56, VIEW = 64 };
+
+static void makes_view(uint8_t *seen, const void *layers, size_t count, const char *value)
+{
+    memset(seen, 0, VIEW);
+    lends(seen, layers, count);
+    lends(seen + EDIT_OF_VIEW, value, 1);
+    lends(seen + EDIT_OF_VIEW + EDIT_TYPE, "y", 1);
+    seen[EDIT_OF_VIEW + EDIT_WAITS] = seen[EDIT_OF_VIEW + WAIT_SETS] = seen[VIEW_WRITABLE] = 1;
+}
+
+static bool are_alike(const uint8_t *before, const uint8_t *after)
+{
+    bool alike = false;
+    is_so(dconfdb_seen_alike(before, after, (const uint8_t *)"/k", 2, file, 0, &alike) == 0, "DconfdbView");
+    return alike;
+}
+
+static void tries_view(void)
+{
+    _Alignas(16) uint8_t layer[ROOM], one[VIEW], other[VIEW];
+    static const size_t flags[] = {EDIT_OF_VIEW + EDIT_WAITS, EDIT_OF_VIEW + WAIT_SETS, VIEW_WRITABLE};
+    opens(file, sizeof file, true, layer);
+    makes_view(one, layer, 0, "1");
+    makes_view(other, layer, 0, "2");
+    is_so(are_alike(one, one) && !are_alike(one, other), "DconfdbView");
+    for (size_t i = 0; i < sizeof flags / sizeof *flags; i++) {
+        makes_view(other, layer, 0, "1");
+        other[flags[i]] = 0;
+        is_so(!are_alike(one, other), "DconfdbView");
+    }
+    makes_view(one, layer, 0, "1");
+    makes_view(other, layer, 1, "1");
+    one[EDIT_OF_VIEW + EDIT_WAITS] = other[EDIT_OF_VIEW + EDIT_WAITS] = 0;
+    is_so(are_alike(other, other) && !are_alike(one, other), "DconfdbView");
+    lies("DconfdbWaits", "value", 0, LENT);
+    lies("DconfdbWaits", "type_text", EDIT_TYPE, LENT);
+    lies("DconfdbWaits", "waits", EDIT_WAITS, FLAG);
+    lies("DconfdbWaits", "sets", WAIT_SETS, FLAG);
+    printf("TAKES(DconfdbWaits, %d);\n", WAITS);
+    lies("DconfdbView", "layers", at_in_lent, WORD);
+    lies("DconfdbView", "layers_len", len_in_lent, WORD);
+    lies("DconfdbView", "edit", EDIT_OF_VIEW, WAITS);
+    lies("DconfdbView", "writable", VIEW_WRITABLE, FLAG);
+    printf("TAKES(DconfdbView, %d);\n", VIEW);
+}
+
+/* ---- files: a stamp is read alone, and each field but the last makes another file */
+
+enum { STAMP_SIZE = 64, IS_THERE = 56 };
+
+static void tries_stamp(void)
+{
+    static const char *const words[] = {"device", "inode", "size"};
+    _Alignas(16) uint8_t old[STAMP_SIZE] = {0}, now[STAMP_SIZE];
+    old[IS_THERE] = 1;
+    for (size_t at = 0; at < IS_THERE; at += WORD) {
+        memcpy(now, old, STAMP_SIZE);
+        is_so(dconfdb_same_file(old, now, UINT64_MAX, false) == 0, "DconfdbFileStamp");
+        now[at] = 1;
+        is_so(dconfdb_same_file(old, now, UINT64_MAX, false) == 1, "DconfdbFileStamp");
+    }
+    for (size_t i = 0; i < sizeof words / sizeof words[0]; i++)
+        lies("DconfdbFileStamp", words[i], i * WORD, WORD);
+    uint64_t second = 1, nanosecond = 7;
+    memcpy(old + 40, &second, WORD);
+    memcpy(old + 48, &nanosecond, WORD);
+    is_so(dconfdb_same_file(old, old, 1010000006, false) == 2 && dconfdb_same_file(old, old, 1010000007, false) == 0, "DconfdbFileStamp");
+    lies("DconfdbFileStamp", "written", 24, 2 * WORD);
+    lies("DconfdbFileStamp", "touched", 40, 2 * WORD);
+    lies("DconfdbFileStamp", "is_there", IS_THERE, FLAG);
+    printf("TAKES(DconfdbFileStamp, %d);\n", STAMP_SIZE);
+    lies("DconfdbFileTime", "seconds", 0, WORD);
+    lies("DconfdbFileTime", "nanoseconds", WORD, WORD);
+}
+
+/* A link that is root's own, and one that is not; what was read, and what was not. */
+enum { OLD_USER = 0, OLD_GROUP = 4, OLD_BITS = 8, OLD_IS_THERE = 12, OLD_IS_REGULAR = 13, OLD_IS_LINK = 14, OLD_IS_READ = 15, OLD_SIZE = 16 };
+
+static void finds_owner(void)
+{
+    const uint32_t above[] = {11, 12}, numbers[] = {21, 22, 0751};
+    _Alignas(16) uint8_t old[OLD_SIZE] = {0};
+    Written first = room_of("DconfdbNewFile"), given = first;
+    is_so(dconfdb_owner_and_bits(old, above, true, false, first.bytes) == 0, "DconfdbFileOwner");
+    finds_number(&first, "user", 11);
+    finds_number(&first, "group", 12);
+    finds_number(&first, "bits", 0600);
+    ends(&first);
+    lies("DconfdbFileOwner", "user", 0, NUMBER);
+    lies("DconfdbFileOwner", "group", NUMBER, NUMBER);
+    printf("TAKES(DconfdbFileOwner, %d);\n", 2 * NUMBER);
+    memcpy(old, numbers, sizeof numbers);
+    old[OLD_IS_THERE] = old[OLD_IS_REGULAR] = 1;
+    is_so(dconfdb_owner_and_bits(old, above, true, false, given.bytes) == 2, "DconfdbOldFile");
+    old[OLD_IS_READ] = 1;
+    is_so(dconfdb_owner_and_bits(old, above, true, false, given.bytes) == 0, "DconfdbOldFile");
+    is_so(memcmp(given.bytes, numbers, sizeof numbers) == 0, "DconfdbOldFile");
+    old[OLD_IS_LINK] = 1;
+    is_so(dconfdb_owner_and_bits(old, above, true, true, given.bytes) == 1, "DconfdbOldFile");
+    lies("DconfdbOldFile", "user", OLD_USER, NUMBER);
+    lies("DconfdbOldFile", "group", OLD_GROUP, NUMBER);
+    lies("DconfdbOldFile", "bits", OLD_BITS, NUMBER);
+    lies("DconfdbOldFile", "is_there", OLD_IS_THERE, FLAG);
+    lies("DconfdbOldFile", "is_regular", OLD_IS_REGULAR, FLAG);
+    lies("DconfdbOldFile", "is_link", OLD_IS_LINK, FLAG);
+    lies("DconfdbOldFile", "is_read", OLD_IS_READ, FLAG);
+    printf("TAKES(DconfdbOldFile, %d);\n", OLD_SIZE);
 }
 
 int main(void)
@@ -637,8 +925,18 @@ int main(void)
     finds_refresh();
     finds_wait();
     finds_new_edit();
+    finds_patience();
     finds_notice();
+    finds_watched_name();
     finds_queue();
     tries_times();
+    finds_path();
+    tries_environment();
+    tries_asked();
+    tries_seen();
+    finds_ending();
+    tries_view();
+    tries_stamp();
+    finds_owner();
     return 0;
 }

@@ -4,6 +4,7 @@
 #define _FILE_OFFSET_BITS 64
 #include "lock.h"
 #include "dconfdb_calls.h"
+#include "faults.h"
 #include "folders.h"
 #include "held.h"
 #include "tries.h"
@@ -16,7 +17,9 @@
 #include <unistd.h>
 
 /* How often others may make or remove the lock's file while it is being opened. */
-enum { MOST_TRIES = 100 };
+#ifndef MOST_TRIES
+#define MOST_TRIES 100
+#endif
 
 /* How often others may fork while it is being opened, until that counts as a moment in which others have the lock. */
 enum { MOST_FORKS = 10 };
@@ -101,15 +104,6 @@ static void unlist(const FolderLock *lock)
 
 /* ---- the lock's file */
 
-/* What a new file's bits are, by those of its folder. One of another group than its folder's is open to that where all
- * may write. */
-static mode_t bits_for_writers(const struct stat *folder, const struct stat *file)
-{
-    bool all_write = (folder->st_mode & 02) != 0;
-    bool group_writes = file->st_gid == folder->st_gid ? (folder->st_mode & 020) != 0 : all_write;
-    return READ_AND_WRITE | (group_writes ? 060U : 0U) | (all_write ? 06U : 0U);
-}
-
 /* Gives a file that was just made the folder's owner and group, as far as this user may, and opens it to those who may
  * write in the folder. What fails leaves it as it is: some file systems know no owners and bits. */
 static void hand_over(int folder, int file)
@@ -121,7 +115,7 @@ static void hand_over(int folder, int file)
         return;
     if (made.st_gid != above.st_gid && fchown(file, (uid_t)-1, above.st_gid) == 0)
         made.st_gid = above.st_gid;
-    mode_t bits = bits_for_writers(&above, &made);
+    mode_t bits = dconfdb_lock_bits(above.st_mode, made.st_gid == above.st_gid);
     if ((made.st_mode & PERMISSION_BITS) != bits)
         fchmod(file, bits);
 }
@@ -204,7 +198,7 @@ static bool is_named(const char *folder, const FolderLock *lock, nlink_t *links)
 /* A lock that is waited for. */
 typedef struct {
     const char *folder;
-    bool has_end, is_open;
+    bool has_end, is_open, is_leased; /* `is_leased`: another program has a lease on the lock's file */
     FolderLock *lock;
 } Awaited;
 
@@ -244,14 +238,25 @@ static uint32_t take_name(Awaited *awaited, int *fault)
     return *fault != 0 ? DCONFDB_WAIT_FAILED : DCONFDB_WAIT_MOVED;
 }
 
+/* Opens it, if it isn't open, and locks it. */
+static uint32_t take(Awaited *awaited, int *fault)
+{
+    *fault = awaited->is_open ? 0 : open_awaited(awaited);
+    awaited->is_leased = *fault != 0 && fault_answer(DCONFDB_CALL_OPEN, *fault) == DCONFDB_ANSWER_LEASED;
+    if (*fault != 0)
+        return awaited->is_leased ? DCONFDB_WAIT_TAKEN : DCONFDB_WAIT_FAILED;
+    *fault = lock_it(awaited);
+    if (*fault == 0)
+        return DCONFDB_WAIT_GOT;
+    return fault_answer(DCONFDB_CALL_LOCK, *fault) == DCONFDB_ANSWER_TAKEN ? DCONFDB_WAIT_TAKEN : DCONFDB_WAIT_FAILED;
+}
+
 static uint32_t try_once(Awaited *awaited, int *fault)
 {
     nlink_t links = 0;
-    *fault = awaited->is_open ? 0 : open_awaited(awaited);
-    if (*fault == 0)
-        *fault = lock_it(awaited);
-    if (*fault != 0)
-        return *fault == EWOULDBLOCK ? DCONFDB_WAIT_TAKEN : DCONFDB_WAIT_FAILED;
+    uint32_t answer = take(awaited, fault);
+    if (answer != DCONFDB_WAIT_GOT)
+        return answer;
     if (is_named(awaited->folder, awaited->lock, &links))
         return links > 1 ? take_name(awaited, fault) : DCONFDB_WAIT_GOT;
     close_awaited(awaited);
@@ -275,7 +280,8 @@ int folder_lock(const char *folder, int milliseconds, FolderLock *lock)
     if (fault != 0)
         close_awaited(&awaited);
     cancel_as_before(cancels);
-    return fault;
+    /* Who has a lease on the file has no lock. */
+    return fault == EWOULDBLOCK && awaited.is_leased ? EBUSY : fault;
 }
 
 void folder_unlock(FolderLock *lock)

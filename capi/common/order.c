@@ -11,19 +11,16 @@
 #include <time.h>
 #include <unistd.h>
 
-/* A longer file is none of ours. */
-enum { LARGEST = 1 << 20 };
+/* A longer file is none of ours. What stands in front of what was set takes no more than HEAD, in two notes. */
+enum { LARGEST = 1 << 20, HEAD = 4096, HEAD_NOTES = 2 };
 
-/* The room that is made first: for so many bytes, and times. No note takes fewer bytes than NOTE. */
-enum { FEW_BYTES = 1024, FEW_TIMES = 16, NOTE = 24 };
+/* The room that is made first: for so many bytes, and times. */
+enum { FEW_BYTES = 1024, FEW_TIMES = 16 };
 
 /* Two clocks are read at once if no more than so many nanoseconds pass meanwhile; else again, so often. */
 enum { MOST_BETWEEN = 50000, MOST_READS = 20 };
 
 static const uint64_t second = 1000000000;
-
-/* Of a time: the bit of one that is no set's own. */
-static const uint64_t is_guess = 1;
 
 /* Bytes of paths, and those that were had before. */
 typedef struct OrderRoom {
@@ -62,16 +59,19 @@ static void read_clocks(Order *order)
     order->moment = after;
 }
 
-uint64_t order_time(const Order *order, uint64_t moment)
+uint64_t order_time(const Order *order, uint64_t moment, uint64_t noted)
 {
-    uint64_t age = order->moment > moment ? order->moment - moment : 0;
-    return (order->now > age ? order->now - age : 0) & ~is_guess;
+    return dconfdb_time_of_moment(order->now, order->moment, moment, noted);
+}
+
+static uint64_t noted_time(const DconfdbFileTime *time)
+{
+    return time->seconds * second + time->nanoseconds;
 }
 
 uint64_t order_time_of(const FileState *file)
 {
-    uint64_t written = nanoseconds(&file->written), touched = nanoseconds(&file->touched);
-    return (written > touched ? written : touched) | is_guess;
+    return dconfdb_time_of_file(noted_time(&file->written), noted_time(&file->touched));
 }
 
 /* ---- room */
@@ -168,11 +168,6 @@ DconfdbBytes order_path(char **at, const char *name, const DconfdbBytes *path)
     return (DconfdbBytes){(const uint8_t *)start, 1 + len + path->len};
 }
 
-static bool is_same_path(const DconfdbBytes *one, const DconfdbBytes *other)
-{
-    return one->len == other->len && memcmp(one->at, other->at, one->len) == 0;
-}
-
 /* FNV-1a of a name. */
 static uint64_t number_of(const char *name)
 {
@@ -184,8 +179,8 @@ static uint64_t number_of(const char *name)
 
 static LeftFile left_of(const char *name, const FileState *file, bool is_synced)
 {
-    return (LeftFile){number_of(name), (uint64_t)file->device, (uint64_t)file->inode, (uint64_t)file->size, (int64_t)file->written.tv_sec,
-                      (int64_t)file->written.tv_nsec, is_synced};
+    return (LeftFile){number_of(name), file->device, file->inode, file->size, (int64_t)file->written.seconds,
+                      (int64_t)file->written.nanoseconds, is_synced};
 }
 
 /* ---- what is noted */
@@ -220,16 +215,26 @@ static bool read_text(Order *order, int lock)
     return true;
 }
 
+/* How many notes there are, in `notes`. There are few mostly, so that is tried first. False: no memory is left. */
+static bool read_notes(Order *order, size_t *count)
+{
+    *count = 0;
+    do {
+        if (!has_notes_for(&order->notes, &order->notes_most, *count))
+            return false;
+        for (size_t i = 0; i < order->notes_most; i++)
+            order->notes[i] = (DconfdbTime){DCONFDB_NOTHING, 0, 0};
+        if (dconfdb_notes_read((const uint8_t *)order->text, order->size, order->notes, order->notes_most, count) != DCONFDB_OK)
+            return false;
+    } while (*count > order->notes_most);
+    return true;
+}
+
 /* The first note is of the turn in which they were written. */
 static bool take_notes(Order *order)
 {
-    size_t count = 0;
-    size_t most = order->size / NOTE;
-    if (!has_notes_for(&order->notes, &order->notes_most, most))
-        return false;
-    for (size_t i = 0; i < most; i++)
-        order->notes[i] = (DconfdbTime){DCONFDB_NOTHING, 0, 0};
-    if (dconfdb_notes_read((const uint8_t *)order->text, order->size, order->notes, most, &count) != DCONFDB_OK || count > most)
+    size_t count;
+    if (!read_notes(order, &count))
         return false;
     size_t left = count > 0 ? (size_t)order->notes[0].value : 0;
     if (left > 0)
@@ -277,48 +282,42 @@ bool order_is_synced(const Order *order, const char *name, const FileState *file
     return finds_left(order, name, file, &found) && found.is_synced == 1;
 }
 
-/* A directory of which all was reset, and the path is below it. */
-static bool is_reset_with(const DconfdbTime *time, const DconfdbBytes *path)
+/* Room for so many more in `others`. */
+static bool begin_notes(Order *order, size_t count, size_t *most)
 {
-    const DconfdbBytes *directory = &time->path;
-    return time->value == 0 && directory->len > 0 && directory->len < path->len && directory->at[directory->len - 1] == '/'
-        && memcmp(directory->at, path->at, directory->len) == 0;
-}
-
-bool order_has_value(const Order *order, const DconfdbBytes *path, uint64_t value)
-{
-    bool has = false;
-    for (size_t i = 0; !has && i < order->count; i++) {
-        const DconfdbTime *time = &order->times[i];
-        has = is_same_path(&time->path, path) ? time->value == value : value == 0 && is_reset_with(time, path);
-    }
-    return has;
-}
-
-DconfdbTime *order_guess(Order *order, const DconfdbBytes *path)
-{
-    for (size_t i = 0; i < order->count; i++) {
-        DconfdbTime *time = &order->times[i];
-        if (is_same_path(&time->path, path))
-            return (time->when & is_guess) != 0 ? time : NULL;
-    }
-    return NULL;
-}
-
-/* There is room for all. */
-bool order_note(Order *order, const DconfdbTime *times, size_t count)
-{
-    size_t len = 0, most = order->count + count;
-    if (!has_room_for(order, most))
+    *most = order->count + count;
+    if (!has_room_for(order, *most))
         return false;
-    DconfdbTime *noted = order->times, *room = order->others;
-    for (size_t i = 0; i < most; i++)
-        room[i] = (DconfdbTime){DCONFDB_NOTHING, 0, 0};
-    if (dconfdb_note_times(noted, order->count, times, count, order->now, room, most, &len) != DCONFDB_OK)
-        return false;
-    order->times = room;
+    for (size_t i = 0; i < *most; i++)
+        order->others[i] = (DconfdbTime){DCONFDB_NOTHING, 0, 0};
+    return true;
+}
+
+static void end_notes(Order *order, size_t count)
+{
+    DconfdbTime *noted = order->times;
+    order->times = order->others;
     order->others = noted;
-    order->count = len;
+    order->count = count;
+}
+
+bool order_note_seen(Order *order, const DconfdbSeen *seen, size_t count)
+{
+    size_t most, len = 0;
+    if (!begin_notes(order, count, &most)
+        || dconfdb_note_seen(order->times, order->count, seen, count, order->now, order->others, most, &len) != DCONFDB_OK)
+        return false;
+    end_notes(order, len);
+    return true;
+}
+
+bool order_note_made(Order *order, const DconfdbTime *made, size_t count)
+{
+    size_t most, len = 0;
+    if (!begin_notes(order, count, &most)
+        || dconfdb_note_made(order->times, order->count, made, count, order->now, order->others, most, &len) != DCONFDB_OK)
+        return false;
+    end_notes(order, len);
     return true;
 }
 
@@ -337,14 +336,26 @@ static DconfdbBytes with_left(const Order *order, LeftFile *room, const char *na
     return (DconfdbBytes){(const uint8_t *)room, (count + more) * sizeof *room};
 }
 
+/* False: no memory is left. */
+static bool keep_newest(Order *order)
+{
+    size_t most, len = 0;
+    if (!begin_notes(order, 1, &most)
+        || dconfdb_newest_notes(order->times, order->count, MOST_NOTES - HEAD_NOTES, LARGEST - HEAD, order->others, most, &len) != DCONFDB_OK
+        || len > most)
+        return false;
+    end_notes(order, len);
+    return true;
+}
+
 /* Of the turn, of the files that were left, and of what was set. */
 static size_t all_notes(const Order *order, DconfdbTime *all, const DconfdbBytes *left)
 {
     all[0] = (DconfdbTime){DCONFDB_NOTHING, order->moment, 1};
     all[1] = (DconfdbTime){*left, order->now, 0};
     if (order->count > 0)
-        memcpy(all + 2, order->times, order->count * sizeof *all);
-    return 2 + order->count;
+        memcpy(all + HEAD_NOTES, order->times, order->count * sizeof *all);
+    return HEAD_NOTES + order->count;
 }
 
 /* Who is killed amid this leaves the first moment of one writer, and the last of another. */
@@ -378,7 +389,7 @@ void order_write(Order *order, int lock, const char *name, const FileState *left
 {
     LeftFile room[MOST_LEFT];
     DconfdbBytes files = with_left(order, room, name, left, is_synced);
-    if (!has_room_for(order, 2 + order->count))
+    if (!keep_newest(order) || !has_room_for(order, HEAD_NOTES + order->count))
         return;
     size_t len = bytes_of_notes(order, order->others, all_notes(order, order->others, &files));
     if (len > 0)

@@ -44,10 +44,10 @@ uint64_t order_clock(void);
 /* Reads what is noted in the file of a lock that is held. False: no memory is left. */
 bool order_read(Order *order, int lock);
 
-/* A moment of order_clock() as a time that programs note, by the clock as it is set now. It is even. */
-uint64_t order_time(const Order *order, uint64_t moment);
+/* A moment of order_clock() as a time that programs note, by the clock as it is set now; `noted` is what the program noted last. */
+uint64_t order_time(const Order *order, uint64_t moment, uint64_t noted);
 
-/* When a file was written, or got its name. It is odd: what differs in a file that nobody noted was set then, or before. */
+/* The time that stands for when a file was changed that nobody noted. */
 uint64_t order_time_of(const FileState *file);
 
 /* So many bytes until the order is read again; or NULL. */
@@ -57,20 +57,15 @@ char *order_room(Order *order, size_t size);
 DconfdbBytes order_path(char **at, const char *name, const DconfdbBytes *path);
 size_t order_path_size(const char *name, size_t len);
 
-/* The note of a path, if its time is such a one; or NULL. */
-DconfdbTime *order_guess(Order *order, const DconfdbBytes *path);
-
 /* Whether who left the file of that name so noted what it changed. */
 bool order_has_left(const Order *order, const char *name, const FileState *file);
 
 /* Whether who left it so noted, too, that it is on the disk. */
 bool order_is_synced(const Order *order, const char *name, const FileState *file);
 
-/* Notes that these were set, too: as long as the order is used the paths stay. False: no memory is left. */
-bool order_note(Order *order, const DconfdbTime *times, size_t count);
-
-/* Whether what a file has at a path, a number for it, is what was left there by who noted it. */
-bool order_has_value(const Order *order, const DconfdbBytes *path, uint64_t value);
+/* Notes what was seen, and what was made: as long as the order is used the paths stay. False: no memory is left. */
+bool order_note_seen(Order *order, const DconfdbSeen *seen, size_t count);
+bool order_note_made(Order *order, const DconfdbTime *made, size_t count);
 
 /* Writes it, with the file of that name as it is left now, and whether it is on the disk. Where it fails, nothing is noted. */
 void order_write(Order *order, int lock, const char *name, const FileState *left, bool is_synced);

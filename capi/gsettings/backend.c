@@ -3,7 +3,9 @@
 #include "gsettings.h"
 
 #include "catch_up.h"
+#include "dconfdb_calls.h"
 #include "lent_value.h"
+#include "seen.h"
 
 #include <pthread.h>
 #include <stdlib.h>
@@ -50,17 +52,17 @@ static void lock_opened(DconfdbBackend *self)
     g_mutex_lock(&self->lock);
 }
 
-/* Where a key is read: an edit of it waits, which sets a value or none; or it is read in the newest
- * snapshot, if there is one. Each is a reference. */
+/* What a key is read in: the newest snapshot, if there is one, and the newest edit that waits of it. Each is a reference. */
 typedef struct {
     bool is_edited;
-    GVariant *value;
-    DconfdbSnapshot *now; /* NULL where there is a value */
+    GVariant *value; /* that the edit sets; NULL: it sets none */
+    DconfdbSnapshot *now;
+    bool has_user;
 } Source;
 
 static Source source_of(DconfdbBackend *self, const char *key)
 {
-    Source source = {false, NULL, NULL};
+    Source source = {false, NULL, NULL, false};
     look_if_unwatched(self);
     lock_opened(self);
     if (self->now) {
@@ -68,11 +70,24 @@ static Source source_of(DconfdbBackend *self, const char *key)
         source.is_edited = edit != NULL;
         if (edit && edit->value)
             source.value = g_variant_ref(edit->value);
-        else
-            source.now = dconfdb_snapshot_ref(self->now);
+        source.now = dconfdb_snapshot_ref(self->now);
+        source.has_user = self->has_user;
     }
     g_mutex_unlock(&self->lock);
     return source;
+}
+
+static void source_clear(Source *source)
+{
+    g_clear_pointer(&source->value, g_variant_unref);
+    dconfdb_snapshot_unref(source->now);
+    source->now = NULL;
+}
+
+/* What is read of it, which takes the reference to the snapshot. */
+static GVariant *take_lent(Source *source, Reads *reads, const char *key)
+{
+    return lent_value(g_steal_pointer(&source->now), reads, key);
 }
 
 static DconfdbSnapshot *snapshot_of(DconfdbBackend *self)
@@ -89,16 +104,36 @@ static GVariant *read_default(DconfdbBackend *self, const char *key)
     return lent_value(snapshot_of(self), dconfdb_snapshot_read_default, key);
 }
 
-/* A user's value of another type than the schema's counts as none. Since only who reads knows that type, it
- * is kept of which keys it was so: where their default changes, it is told. */
-static GVariant *read_past(DconfdbBackend *self, const char *key, GVariant *odd)
+/* Since only who reads knows the type that is asked for, it is kept of which keys a value of another type was passed over: where
+ * their default changes, it is told. */
+static void remember_odd(DconfdbBackend *self, const char *key, const GVariantType *expected)
 {
-    g_variant_unref(odd);
     g_mutex_lock(&self->lock);
     if (!self->has_ended)
-        g_hash_table_add(self->odd, g_strdup(key));
+        g_hash_table_insert(self->odd, g_strdup(key), g_variant_type_dup_string(expected));
     g_mutex_unlock(&self->lock);
-    return read_default(self, key);
+}
+
+static bool fits(GVariant *value, const GVariantType *expected)
+{
+    return !value || g_variant_is_of_type(value, expected);
+}
+
+/* What is seen beside an edit that waits, or of another type than the one that is stored: as the proved call has it. */
+static GVariant *read_beside(DconfdbBackend *self, Source *source, const char *key, const GVariantType *expected)
+{
+    GVariant *stored = lent_value(source->now ? dconfdb_snapshot_ref(source->now) : NULL, dconfdb_snapshot_read, key);
+    bool may = source->now && dconfdb_snapshot_is_writable(source->now, key);
+    bool edit_fits = fits(source->value, expected), stored_fits = fits(stored, expected);
+    uint32_t shown = dconfdb_shown(source->is_edited, source->value != NULL, may, edit_fits, stored_fits);
+    if (!edit_fits || !stored_fits)
+        remember_odd(self, key, expected);
+    GVariant *value = shown == DCONFDB_SHOWN_STORED ? g_steal_pointer(&stored)
+        : shown == DCONFDB_SHOWN_EDIT               ? g_steal_pointer(&source->value)
+                                                    : take_lent(source, dconfdb_snapshot_read_default, key);
+    g_clear_pointer(&stored, g_variant_unref);
+    source_clear(source);
+    return value;
 }
 
 static GVariant *dconfdb_backend_read(GSettingsBackend *backend, const char *key, const GVariantType *expected,
@@ -108,36 +143,30 @@ static GVariant *dconfdb_backend_read(GSettingsBackend *backend, const char *key
     if (default_value)
         return read_default(self, key);
     Source source = source_of(self, key);
-    GVariant *value = source.value;
-    if (!value)
-        value = lent_value(source.now, source.is_edited ? dconfdb_snapshot_read_default : dconfdb_snapshot_read, key);
-    return value && !g_variant_is_of_type(value, expected) ? read_past(self, key, value) : value;
+    if (G_UNLIKELY(source.is_edited))
+        return read_beside(self, &source, key, expected);
+    /* Nearly all reads end here: what is stored is seen, if it is of that type. */
+    GVariant *value = take_lent(&source, dconfdb_snapshot_read, key);
+    if (G_LIKELY(fits(value, expected)))
+        return value;
+    g_variant_unref(value);
+    source = source_of(self, key);
+    return read_beside(self, &source, key, expected);
 }
 
 static GVariant *dconfdb_backend_read_user_value(GSettingsBackend *backend, const char *key, const GVariantType *expected)
 {
     (void)expected;
     Source source = source_of(backend_of(backend), key);
-    if (!source.is_edited)
-        return lent_value(source.now, dconfdb_snapshot_read_user, key);
-    dconfdb_snapshot_unref(source.now);
-    return source.value;
+    uint32_t own = dconfdb_own(source.is_edited, source.value != NULL, source.has_user);
+    GVariant *value = own == DCONFDB_OWN_FIRST ? take_lent(&source, dconfdb_snapshot_read_user, key)
+        : own == DCONFDB_OWN_EDIT              ? g_steal_pointer(&source.value)
+                                               : NULL;
+    source_clear(&source);
+    return value;
 }
 
 /* ---- what may be written */
-
-/* A directory may be, where no lock covers all that is in it. */
-static bool is_directory_writable(DconfdbBackend *self, const char *directory)
-{
-    g_mutex_lock(&self->lock);
-    char *locks = self->has_user ? dconfdb_snapshot_locks(self->now, "/", NULL, NULL) : NULL;
-    g_mutex_unlock(&self->lock);
-    bool is = locks != NULL;
-    for (const char *lock = locks; is && *lock; lock += strlen(lock) + 1)
-        is = !g_str_has_suffix(lock, "/") || !g_str_has_prefix(directory, lock);
-    free(locks);
-    return is;
-}
 
 static gboolean dconfdb_backend_get_writable(GSettingsBackend *backend, const char *name)
 {
@@ -145,9 +174,9 @@ static gboolean dconfdb_backend_get_writable(GSettingsBackend *backend, const ch
     look_if_unwatched(self);
     lock_opened(self);
     bool may_be = self->now && getpid() == self->process; /* a child of fork() sets nothing */
-    bool is = may_be && dconfdb_snapshot_is_writable(self->now, name);
+    bool is = may_be && seen_is_writable(self->now, name);
     g_mutex_unlock(&self->lock);
-    return is || (may_be && g_str_has_suffix(name, "/") && is_directory_writable(self, name));
+    return is;
 }
 
 static GPermission *dconfdb_backend_get_permission(GSettingsBackend *backend, const char *path)
@@ -361,7 +390,7 @@ static void dconfdb_backend_init(DconfdbBackend *self)
     g_mutex_init(&self->lock);
     waiting_begin(&self->waiting);
     self->subscribed = g_hash_table_new_full(g_str_hash, g_str_equal, g_free, NULL);
-    self->odd = g_hash_table_new_full(g_str_hash, g_str_equal, g_free, NULL);
+    self->odd = g_hash_table_new_full(g_str_hash, g_str_equal, g_free, g_free);
     self->asked = g_hash_table_new(NULL, NULL);
     self->wakes = -1;
     self->last_try = G_MAXUINT64;

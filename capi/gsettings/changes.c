@@ -1,9 +1,11 @@
 /* Changes that wait to be written, and how they are. */
 #define _POSIX_C_SOURCE 200809L
-#include "faults.h"
 #include "gsettings.h"
 
 #include <string.h>
+
+/* Of an edit whose key no other edit has that waits. */
+static const size_t NO_KEY = SIZE_MAX;
 
 Change *change_new(size_t most, size_t paths)
 {
@@ -34,7 +36,8 @@ void change_add(Change *change, const char *path, GVariant *value)
     edit->path = change->room;
     change->room = stpcpy(change->room, path) + 1;
     edit->hash = g_str_hash(path);
-    edit->first = edit->newest = NULL;
+    edit->key = NO_KEY;
+    edit->number = edit->before = 0;
     edit->change = change;
     /* Bytes of a program that aren't normal may be as deep as they like; normal ones say the
      * same. */
@@ -53,9 +56,23 @@ static bool are_alike(const DconfdbEdit *one, const DconfdbEdit *other)
     return one->size == other->size && are_of_one_type && memcmp(one->data, other->data, one->size) == 0;
 }
 
-static Edit *first_of(const Waiting *waiting, const Edit *edit)
+/* The number of a key, as that edit of it has it which the set has; NO_KEY if no edit of it waits. */
+static size_t key_of(const Waiting *waiting, const Edit *edit)
 {
-    return g_hash_table_lookup(waiting->firsts, edit);
+    const Edit *one = g_hash_table_lookup(waiting->keys, edit);
+    return one ? one->key : NO_KEY;
+}
+
+static size_t *numbers_of(const Waiting *waiting)
+{
+    return (size_t *)(gpointer)waiting->newest->data;
+}
+
+/* The newest edit of a key that waits, or NULL. */
+static Edit *newest_of(const Waiting *waiting, size_t key)
+{
+    size_t number = dconfdb_newest_found(numbers_of(waiting), waiting->newest->len, key);
+    return number > 0 ? g_ptr_array_index(waiting->edits, number - 1) : NULL;
 }
 
 static bool is_alone(const Edit *edit)
@@ -63,21 +80,32 @@ static bool is_alone(const Edit *edit)
     return edit->change->most == 1;
 }
 
-/* What is known of the edit's key, where `waits` is the newest edit of it that waits, or NULL. */
-static DconfdbNewEdit known_of(const Edit *edit, const Edit *waits, const DconfdbSnapshot *now)
+/* What is known of the edit's key by the newest snapshot. */
+static DconfdbNewEdit known_by_now(const Edit *edit, const DconfdbSnapshot *now)
 {
-    DconfdbNewEdit known = {.sets = edit->value != NULL, .may = now && dconfdb_snapshot_is_writable(now, edit->path)};
-    known.is_same = waits ? are_alike(&waits->asked, &edit->asked) : now && dconfdb_snapshot_has_edit(now, &edit->asked);
-    known.renews = waits && known.is_same && is_alone(waits) && !waits->change->is_taken;
-    return known;
+    return (DconfdbNewEdit){.sets = edit->value != NULL,
+                            .may = now && dconfdb_snapshot_is_writable(now, edit->path),
+                            .is_same = now && dconfdb_snapshot_has_edit(now, &edit->asked)};
+}
+
+/* The same where that edit is the newest of it that waits. */
+static DconfdbNewEdit known_beside(const Edit *edit, const Edit *waits, const DconfdbSnapshot *now)
+{
+    return (DconfdbNewEdit){.sets = edit->value != NULL,
+                            .may = now && dconfdb_snapshot_is_writable(now, edit->path),
+                            .is_same = are_alike(&waits->asked, &edit->asked),
+                            .waits = true,
+                            .is_alone = is_alone(waits),
+                            .is_taken = waits->change->is_taken};
 }
 
 uint32_t change_entry(Change *change, const Waiting *waiting, const DconfdbSnapshot *now)
 {
     for (size_t i = 0; i < change->count; i++) {
         Edit *edit = &change->edits[i];
-        edit->first = first_of(waiting, edit);
-        change->known[i] = known_of(edit, edit->first ? edit->first->newest : NULL, now);
+        edit->key = key_of(waiting, edit);
+        const Edit *newest = newest_of(waiting, edit->key);
+        change->known[i] = newest ? known_beside(edit, newest, now) : known_by_now(edit, now);
         edit->is_left_out = !change->known[i].may;
     }
     return dconfdb_entry(change->known, change->count);
@@ -100,7 +128,7 @@ GTree *change_tree(const Change *change)
     GTree *tree = g_tree_new_full(by_name, NULL, g_free, unref_value);
     for (size_t i = 0; i < change->count; i++) {
         const Edit *edit = &change->edits[i];
-        if (!edit->is_left_out && !change->known[i].is_same)
+        if (dconfdb_is_news(&change->known[i]))
             g_tree_insert(tree, g_strdup(edit->path), edit->value ? g_variant_ref(edit->value) : NULL);
     }
     return tree;
@@ -133,23 +161,62 @@ static gboolean are_of_one_key(gconstpointer one, gconstpointer other)
     return strcmp(((const Edit *)one)->path, ((const Edit *)other)->path) == 0;
 }
 
+static void move(GQueue *from, GList *change, GQueue *to)
+{
+    g_queue_unlink(from, change);
+    g_queue_push_tail_link(to, change);
+}
+
 void waiting_begin(Waiting *waiting)
 {
     g_queue_init(&waiting->changes);
-    waiting->firsts = g_hash_table_new(hash_of, are_of_one_key);
+    waiting->keys = g_hash_table_new(hash_of, are_of_one_key);
+    waiting->edits = g_ptr_array_new();
+    waiting->newest = g_array_sized_new(FALSE, FALSE, sizeof(size_t), 1);
 }
 
 void waiting_end(Waiting *waiting)
 {
-    g_hash_table_destroy(waiting->firsts);
+    g_hash_table_destroy(waiting->keys);
+    g_ptr_array_unref(waiting->edits);
+    g_array_unref(waiting->newest);
     changes_free(&waiting->changes);
 }
 
-/* Also in the place of another one. */
-static void put_first(Waiting *waiting, Edit *edit)
+/* A key's number is its edit's if that has one already. */
+static void put(Waiting *waiting, Edit *edit)
 {
-    edit->newest = edit;
-    g_hash_table_add(waiting->firsts, edit);
+    static const size_t none = 0;
+    if (edit->key == NO_KEY) {
+        edit->key = waiting->newest->len;
+        g_array_append_val(waiting->newest, none);
+        g_hash_table_add(waiting->keys, edit);
+    }
+    g_ptr_array_add(waiting->edits, edit);
+    edit->number = waiting->edits->len;
+    edit->before = dconfdb_newest_put(numbers_of(waiting), waiting->newest->len, edit->key, edit->number);
+}
+
+static void put_change(Waiting *waiting, Change *change)
+{
+    for (size_t i = 0; i < change->count; i++) {
+        if (!change->edits[i].is_left_out)
+            put(waiting, &change->edits[i]);
+    }
+}
+
+/* When changes have gone: numbers what waits anew. */
+static void put_again(Waiting *waiting)
+{
+    g_hash_table_remove_all(waiting->keys);
+    g_ptr_array_set_size(waiting->edits, 0);
+    g_array_set_size(waiting->newest, 0);
+    for (const GList *at = waiting->changes.head; at; at = at->next) {
+        Change *change = at->data;
+        for (size_t i = 0; i < change->count; i++)
+            change->edits[i].key = key_of(waiting, &change->edits[i]);
+        put_change(waiting, change);
+    }
 }
 
 bool waiting_add(Waiting *waiting, Change *change)
@@ -157,19 +224,13 @@ bool waiting_add(Waiting *waiting, Change *change)
     bool is_first = waiting->changes.length == 0;
     change->moment = order_clock();
     g_queue_push_tail_link(&waiting->changes, &change->link);
-    for (size_t i = 0; i < change->count; i++) {
-        Edit *edit = &change->edits[i];
-        if (!edit->is_left_out && edit->first)
-            edit->first->newest = edit;
-        else if (!edit->is_left_out)
-            put_first(waiting, edit);
-    }
+    put_change(waiting, change);
     return is_first;
 }
 
 void waiting_renew(Waiting *waiting, const Change *change)
 {
-    Change *waits = change->edits[0].first->newest->change;
+    Change *waits = newest_of(waiting, change->edits[0].key)->change;
     g_queue_unlink(&waiting->changes, &waits->link);
     g_queue_push_tail_link(&waiting->changes, &waits->link);
     waits->moment = order_clock();
@@ -177,11 +238,10 @@ void waiting_renew(Waiting *waiting, const Change *change)
 
 const Edit *waiting_find(const Waiting *waiting, const char *path)
 {
-    if (g_hash_table_size(waiting->firsts) == 0)
+    if (waiting->edits->len == 0)
         return NULL;
     Edit sought = {.path = (char *)path, .hash = g_str_hash(path)};
-    const Edit *first = first_of(waiting, &sought);
-    return first ? first->newest : NULL;
+    return newest_of(waiting, key_of(waiting, &sought));
 }
 
 bool waiting_asks(const Waiting *waiting)
@@ -220,16 +280,15 @@ static int by_path(const void *one, const void *other)
     return strcmp(((const Edited *)one)->path, ((const Edited *)other)->path);
 }
 
-/* The newest edits, of which none is known to be gone, by their paths. */
+/* The newest edit of each key, of which none is known to be gone, by their paths; NULL if there is none. */
 static GArray *edited_of(const Waiting *waiting)
 {
-    GHashTableIter at;
-    gpointer first;
+    if (waiting->edits->len == 0)
+        return NULL;
     GArray *all = g_array_new(FALSE, FALSE, sizeof(Edited));
     g_array_set_clear_func(all, free_edited);
-    g_hash_table_iter_init(&at, waiting->firsts);
-    while (g_hash_table_iter_next(&at, &first, NULL)) {
-        const Edit *newest = ((const Edit *)first)->newest;
+    for (size_t key = 0; key < waiting->newest->len; key++) {
+        const Edit *newest = newest_of(waiting, key);
         Edited one = {g_strdup(newest->path), value_of(newest), NULL, false};
         g_array_append_val(all, one);
     }
@@ -237,91 +296,73 @@ static GArray *edited_of(const Waiting *waiting)
     return all;
 }
 
-/* A key of which the newest edit goes has none that counts. In the place of the first comes the newest, if another one goes. */
-static void forget_edit(Waiting *waiting, const Edit *edit)
-{
-    const Edit *first = first_of(waiting, edit);
-    if (first && first->newest == edit)
-        g_hash_table_remove(waiting->firsts, edit);
-    else if (first == edit)
-        put_first(waiting, first->newest);
-}
-
-static void forget(Waiting *waiting, const GQueue *changes)
-{
-    for (const GList *at = changes->head; at; at = at->next) {
-        const Change *change = at->data;
-        for (size_t i = 0; i < change->count; i++)
-            forget_edit(waiting, &change->edits[i]);
-    }
-}
-
-/* What is known of an edit that waits, by the newest snapshot: it says what is there, and no other waits of its key. */
-static DconfdbNewEdit known_by_now(const Waiting *waiting, const Edit *edit, const DconfdbSnapshot *now)
-{
-    const Edit *first = first_of(waiting, edit);
-    bool is_only = first == edit && edit->newest == edit;
-    DconfdbNewEdit known = known_of(edit, NULL, now);
-    known.is_same = known.is_same && is_only;
-    return known;
-}
-
-/* Asked once more, as if nothing of it waited. */
+/* Asked once more, by the newest snapshot. */
 static bool is_there_already(const Waiting *waiting, Change *change, const DconfdbSnapshot *now)
 {
-    for (size_t i = 0; i < change->count; i++)
-        change->known[i] = known_by_now(waiting, &change->edits[i], now);
-    return dconfdb_entry(change->known, change->count) == DCONFDB_ENTRY_ASKS;
+    for (size_t i = 0; i < change->count; i++) {
+        const Edit *edit = &change->edits[i];
+        change->known[i] = known_by_now(edit, now);
+        change->known[i].waits = edit->before > 0 || newest_of(waiting, edit->key) != edit;
+    }
+    return dconfdb_is_there(change->known, change->count);
 }
 
 guint waiting_settle(Waiting *waiting, const DconfdbSnapshot *now)
 {
-    guint settled = 0;
+    GQueue settled = G_QUEUE_INIT;
     for (GList *at = waiting->changes.head, *next; at; at = next) {
-        Change *change = at->data;
         next = at->next;
-        if (!change->asks || !is_there_already(waiting, change, now))
-            continue;
-        for (size_t i = 0; i < change->count; i++)
-            forget_edit(waiting, &change->edits[i]);
-        g_queue_unlink(&waiting->changes, at);
-        change_free(change);
-        settled++;
+        if (((const Change *)at->data)->asks && is_there_already(waiting, at->data, now))
+            move(&waiting->changes, at, &settled);
     }
-    return settled;
+    guint count = settled.length;
+    if (count > 0)
+        put_again(waiting);
+    changes_free(&settled);
+    return count;
 }
 
-/* The later one is refused where this one would be: its key is the same. */
-static bool is_replaced(const Waiting *waiting, const Change *change)
+/* Whether a later one sets its key, and goes on waiting: that is refused where this one would be. */
+static bool is_overtaken(const Waiting *waiting, const Change *change)
 {
-    const Edit *first = change->count == 1 ? first_of(waiting, &change->edits[0]) : NULL;
-    return first && first->newest != &change->edits[0] && is_alone(first->newest);
+    const Edit *edit = &change->edits[0], *newest = newest_of(waiting, edit->key);
+    return newest && dconfdb_waiting_is_overtaken(edit->number, is_alone(edit), newest->number, is_alone(newest));
 }
 
-guint waiting_put_back(Waiting *waiting, GQueue *changes)
+/* By what became of each change: those that wait do so again, before all others, and those that are overtaken are freed, of which it
+ * gives how many there are. */
+static guint sort_by_fate(Waiting *waiting, GQueue *taken, bool is_written)
 {
-    guint gone = 0;
-    for (GList *at; (at = g_queue_pop_tail_link(changes));) {
-        if (is_replaced(waiting, at->data)) {
-            forget_edit(waiting, &((Change *)at->data)->edits[0]);
-            change_free(at->data);
-            gone++;
-        } else {
-            ((Change *)at->data)->is_taken = false;
+    GQueue overtaken = G_QUEUE_INIT;
+    for (GList *at = taken->tail, *before; at; at = before) {
+        Change *change = at->data;
+        before = at->prev;
+        switch (dconfdb_waiting_fate(is_written, false, is_overtaken(waiting, change))) {
+        case DCONFDB_FATE_WAITS:
+            change->is_taken = false;
+            g_queue_unlink(taken, at);
             g_queue_push_head_link(&waiting->changes, at);
+            break;
+        case DCONFDB_FATE_OVERTAKEN:
+            move(taken, at, &overtaken);
+            break;
+        default:
+            break;
         }
     }
-    return gone;
+    guint count = overtaken.length;
+    changes_free(&overtaken);
+    return count;
 }
 
-GArray *waiting_forget(Waiting *waiting, const GQueue *written, const GQueue *refused)
+GArray *waiting_end_try(Waiting *waiting, GQueue *taken, const GQueue *refused, bool is_written, guint *overtaken)
 {
-    if (g_hash_table_size(waiting->firsts) == 0)
-        return NULL;
     GArray *all = edited_of(waiting);
-    forget(waiting, written);
-    forget(waiting, refused);
-    for (guint i = 0; i < all->len; i++) {
+    bool was_one = taken->length + refused->length > 0;
+    *overtaken = sort_by_fate(waiting, taken, is_written);
+    if (was_one)
+        put_again(waiting);
+    for (guint i = 0; all && i < all->len; i++) {
         Edited *one = &g_array_index(all, Edited, i);
         const Edit *edit = waiting_find(waiting, one->path);
         one->is_edited = edit != NULL;
@@ -332,17 +373,6 @@ GArray *waiting_forget(Waiting *waiting, const GQueue *written, const GQueue *re
 
 /* ---- how they are written */
 
-/* The edits of all changes, in their order: what becomes of them, and those that were taken for the next write. */
-typedef struct {
-    size_t count, taken;
-    bool is_closed; /* nobody who has this program's rights may write there: no key is writable */
-    DconfdbQueued *queued; /* with all that follows in one block */
-    Edit **edits;
-    DconfdbEdit *asked; /* those that were taken, and the number, the moment and the change of each */
-    size_t *numbers;
-    Made *made;
-} Batch;
-
 static size_t edits_in(const GQueue *changes)
 {
     size_t count = 0;
@@ -351,142 +381,38 @@ static size_t edits_in(const GQueue *changes)
     return count;
 }
 
-/* With room for so many edits. */
-static Batch batch_new(size_t count)
-{
-    Batch batch = {.count = 0};
-    batch.queued = g_malloc_n(count, sizeof *batch.queued + sizeof *batch.edits + sizeof *batch.asked + sizeof *batch.numbers + sizeof *batch.made);
-    batch.edits = (Edit **)(batch.queued + count);
-    batch.asked = (DconfdbEdit *)(batch.edits + count);
-    batch.numbers = (size_t *)(batch.asked + count);
-    batch.made = (Made *)(batch.numbers + count);
-    return batch;
-}
-
 static Batch batch_of(const GQueue *changes)
 {
-    size_t first = 0;
     Batch batch = batch_new(edits_in(changes));
-    for (const GList *at = changes->head; at; at = at->next, first = batch.count) {
-        Change *change = at->data;
-        for (size_t i = 0; i < change->count; i++) {
-            Edit *edit = &change->edits[i];
-            batch.queued[batch.count] = (DconfdbQueued){first, edit->value != NULL, edit->is_left_out, false};
-            batch.edits[batch.count++] = edit;
-        }
+    for (const GList *at = changes->head; at; at = at->next) {
+        const Change *change = at->data;
+        size_t first = batch.count;
+        for (size_t i = 0; i < change->count; i++)
+            batch_add(&batch, &change->edits[i].asked, change->moment, first, change->edits[i].is_left_out);
     }
     return batch;
-}
-
-static bool has_refused(const Batch *batch)
-{
-    for (size_t i = 0; i < batch->count; i++) {
-        if (batch->queued[i].is_refused)
-            return true;
-    }
-    return false;
-}
-
-static void move(GQueue *from, GList *change, GQueue *to)
-{
-    g_queue_unlink(from, change);
-    g_queue_push_tail_link(to, change);
 }
 
 /* Tells each edit that it is left out, and takes away the changes that are refused. */
-static void batch_end(Batch *batch, GQueue *changes, GQueue *refused)
+static void sort_refused(const Batch *batch, GQueue *changes, GQueue *refused)
 {
     size_t first = 0;
-    for (size_t i = 0; i < batch->count; i++)
-        batch->edits[i]->is_left_out = batch->queued[i].is_left_out;
     for (GList *at = changes->head, *next; at; at = next) {
-        size_t count = ((const Change *)at->data)->count;
+        Change *change = at->data;
         next = at->next;
-        if (count > 0 && batch->queued[first].is_refused)
+        for (size_t i = 0; i < change->count; i++)
+            change->edits[i].is_left_out = batch_is_left_out(batch, first + i);
+        if (change->count > 0 && batch_is_refused(batch, first))
             move(changes, at, refused);
-        first += count;
-    }
-    g_free(batch->queued);
-}
-
-static void take(Batch *batch, size_t number)
-{
-    batch->asked[batch->taken] = batch->edits[number]->asked;
-    batch->made[batch->taken] = (Made){batch->edits[number]->change->moment, batch->queued[number].change};
-    batch->numbers[batch->taken++] = number;
-}
-
-static bool try_to_write(DconfdbStore *store, const Turn *turn, const Batch *batch, DconfdbError *fault)
-{
-    if (batch->taken == 0)
-        return true;
-    if (turn->fault != 0)
-        return refuse_lock(store, turn->fault, fault);
-    return locked_change(store, turn->lock, batch->asked, batch->made, batch->taken, fault);
-}
-
-/* What became of a write, as dconfdb_queue_answered has it. The first fault for which a change is refused is kept. */
-static uint32_t write_taken(DconfdbStore *store, const Turn *turn, Batch *batch, size_t *at, DconfdbError *refusal, DconfdbError *fault)
-{
-    bool done = try_to_write(store, turn, batch, fault);
-    size_t taken = batch->taken;
-    batch->taken = 0;
-    if (done)
-        return DCONFDB_QUEUE_YES;
-    if (!has_refused(batch))
-        *refusal = *fault;
-    batch->is_closed = says_closed(fault);
-    uint32_t answer = answer_of_fault(fault);
-    if (answer == DCONFDB_QUEUE_FAULT)
-        *at = fault->edit < taken ? batch->numbers[fault->edit] : batch->count;
-    return answer;
-}
-
-static bool is_writable(DconfdbStore *store, const Batch *batch, const Edit *edit)
-{
-    if (batch->is_closed)
-        return false;
-    DconfdbSnapshot *now = dconfdb_store_snapshot(store);
-    bool is = dconfdb_snapshot_is_writable(now, edit->path);
-    dconfdb_snapshot_unref(now);
-    return is;
-}
-
-/* Goes by the proved steps. False: nothing is written, for that fault. */
-static bool write_batch(DconfdbStore *store, const Turn *turn, Batch *batch, DconfdbError *refusal, DconfdbError *fault)
-{
-    DconfdbQueue queue = {.has_marked = false};
-    DconfdbNext next = {0, 0};
-    dconfdb_queue_begin(&queue);
-    for (;;) {
-        uint32_t answer = DCONFDB_QUEUE_YES;
-        size_t at = 0;
-        dconfdb_queue_next(&queue, batch->queued, batch->count, &next);
-        switch (next.kind) {
-        case DCONFDB_QUEUE_TAKE:
-            take(batch, next.number);
-            break;
-        case DCONFDB_QUEUE_PASS:
-            break;
-        case DCONFDB_QUEUE_WRITE:
-            answer = write_taken(store, turn, batch, &at, refusal, fault);
-            break;
-        case DCONFDB_QUEUE_ASK:
-            answer = is_writable(store, batch, batch->edits[next.number]) ? DCONFDB_QUEUE_YES : DCONFDB_QUEUE_LOCKED;
-            break;
-        default:
-            return next.kind == DCONFDB_QUEUE_WRITTEN;
-        }
-        dconfdb_queue_answered(&queue, batch->queued, batch->count, answer, at);
+        first += change->count;
     }
 }
 
 bool changes_write(DconfdbStore *store, const Turn *turn, GQueue *changes, GQueue *refused, DconfdbError *refusal, DconfdbError *fault)
 {
     Batch batch = batch_of(changes);
-    bool done = write_batch(store, turn, &batch, refusal, fault);
-    if (!batch.is_closed && !has_refused(&batch))
-        refusal->code = DCONFDB_ERROR_NONE;
-    batch_end(&batch, changes, refused);
+    bool done = batch_write(&batch, store, turn, refusal, fault);
+    sort_refused(&batch, changes, refused);
+    batch_end(&batch);
     return done;
 }

@@ -3,6 +3,7 @@
 #define GSETTINGS_H
 
 #define G_SETTINGS_ENABLE_BACKEND
+#include "batch.h"
 #include "dconfdb.h"
 #include "locked.h"
 #include "order.h"
@@ -22,8 +23,9 @@
 typedef struct Edit {
     char *path; /* behind the edits of its change */
     guint hash; /* of the path */
-    struct Edit *first;  /* that waits of the same key, as change_entry() found it; NULL: none */
-    struct Edit *newest; /* that waits, of the first of a key: it may be itself */
+    size_t key;    /* the number of its key, of those of which an edit waits */
+    size_t number; /* its own, of the edits that wait: greater than those of older ones */
+    size_t before; /* that of the newest edit of its key before it; 0: none */
     struct Change *change; /* that it is of */
     GVariant *value;
     DconfdbEdit asked; /* the same for the library: it lends the path and the value's bytes */
@@ -42,10 +44,12 @@ typedef struct Change {
     Edit edits[];
 } Change;
 
-/* Changes, the oldest first, and the first edit of each key, which knows the newest, but for those that are left out. */
+/* What waits, also while it is written. */
 typedef struct {
-    GQueue changes;
-    GHashTable *firsts; /* a set of edits, by their paths */
+    GQueue changes;   /* those that nobody writes, the oldest first */
+    GHashTable *keys; /* a set of edits, one of each key, which has the number of that, by their paths */
+    GPtrArray *edits; /* all but those that are left out, by their numbers less one */
+    GArray *newest;   /* of each key the number of its newest edit, as the proved calls have it */
 } Waiting;
 
 /* With room for so many edits, and so many bytes of their paths, each with a zero byte. */
@@ -89,18 +93,11 @@ typedef struct {
 /* All changes. They are still found until they are forgotten. */
 GQueue waiting_take(Waiting *waiting);
 
-/* Forgets both, and says what each key's newest edit was, and is now: an array of Edited, by their paths, to be freed. */
-GArray *waiting_forget(Waiting *waiting, const GQueue *written, const GQueue *refused);
-
-/* Changes that were taken wait again, before all others. Those of one edit go whose key a later change of one edit sets, so that
- * no more wait than there are keys, however long that takes. Gives how many go. */
-guint waiting_put_back(Waiting *waiting, GQueue *changes);
-
-/* A turn to write: the lock of the store's folder is held, or can't be had by this fault. */
-typedef struct {
-    const FolderLock *lock;
-    int fault; /* errno; 0: it is held */
-} Turn;
+/* When it was tried to write those that were taken; else both are empty. Of `taken` only those that are written are left: the others
+ * wait again, before all that came since, or are overtaken, of which it gives how many there are. So no more of them wait than there are
+ * keys, however long that takes. It says what each key's newest edit was, and is now: an array of Edited, by their paths, to be freed;
+ * or NULL. */
+GArray *waiting_end_try(Waiting *waiting, GQueue *taken, const GQueue *refused, bool is_written, guint *overtaken);
 
 /* Makes the changes. Those that are refused, each for a fault of its own, move from `changes` to `refused`. What is to be
  * told of that is in `refusal`, if it has a number; it is told too where resets were left out since nobody may write there.
@@ -125,6 +122,7 @@ typedef struct {
     GMutex turn;         /* held while files are looked at or changed. It guards: */
     DconfdbStore *store; /* NULL: it isn't opened yet, or could not be. Changed with `lock` held, too */
     struct stat seen[2]; /* the profiles as they were then; st_nlink is 0 where there is none */
+    guint last_look;     /* the number of the last look at the files that succeeded */
     gint64 failing;      /* since when nothing can be written, by no fault of a change; 0: it can */
     gint64 pause;        /* before the next try */
     bool has_warned;     /* of that */
@@ -137,9 +135,9 @@ typedef struct {
 
     GMutex lock; /* held for moments. It guards: */
     Waiting waiting;
-    GHashTable *odd; /* keys that were read past a user's value of another type */
+    GHashTable *odd; /* keys that were read past a value of another type, and the type that was asked for */
     guint64 added, settled; /* how many changes ever waited, and how many no longer do */
-    guint64 replaced;       /* of those that do, how many went for one of the same key */
+    guint64 overtaken;      /* of those that do, how many went for a later one of the same key that waits itself */
     guint64 tries, failed;  /* how often a write was tried, and which was the last that failed after others had for long; 0: none */
     guint64 last_try;       /* the program's end takes it for given if a later one fails so */
     bool is_asked;          /* a write is to be tried now */
@@ -156,6 +154,7 @@ typedef struct {
     pthread_t worker;
     int wakes; /* what wakes it; -1: nothing yet */
 
+    gint looks_begun; /* how many; atomic */
     gint is_writing;  /* the worker writes, or is to try again; atomic */
     gint is_reopened; /* other files may be the store's, and are to be watched; atomic */
     gint is_let_go;   /* nobody holds the backend any longer; atomic */
@@ -219,16 +218,15 @@ gint64 turn_next(const DconfdbBackend *self);
 /* Ends a turn that turn_take gave, be it with a fault. */
 void turn_give(DconfdbBackend *self);
 
-/* How long something that waits for its turn is waited for: so long after each turn that a program has, but not
- * for ever. Neither call takes a lock or memory. */
+/* How long something that waits for its turn is waited for. Neither call takes a lock or memory. */
 typedef struct {
-    gint64 end, each, latest;
+    DconfdbPatience time;
     struct timespec changed; /* the folder, then: a turn makes a file in it, and renames it */
 } Patience;
 
 Patience patience_of(const DconfdbBackend *self, gint64 each);
 
-/* Moves the end, where there was a turn since the last call. */
+/* To be called now and then: it is renewed if there was a turn since the last call. */
 void patience_renew(Patience *patience, const DconfdbBackend *self);
 
 /* ---- the thread that writes and watches (worker.c); `lock` is held */
@@ -265,9 +263,10 @@ typedef struct {
     DconfdbSnapshot *before, *after;
     bool is_first; /* the store was opened: nobody has seen another one */
     bool had_user, has_user;
+    bool waits_again;        /* what was taken could not be written */
     GQueue written, refused; /* changes of ours */
     GArray *edited;          /* keys that an edit of ours was for; NULL: none */
-    char **odd;              /* keys whose default may be seen below a user's value; NULL: none */
+    char **odd;              /* keys that were read past a value of another type, and that type, each pair in turn; NULL: none */
     GPtrArray *faults;       /* to warn of; NULL: none */
 } Notice;
 

@@ -2,6 +2,8 @@
  * longer. */
 #include "gsettings.h"
 
+#include "seen.h"
+
 #include <stdio.h>
 #include <stdlib.h>
 #include <string.h>
@@ -14,6 +16,7 @@ typedef struct {
     DconfdbBackend *backend;
     const Notice *notice;
     bool may_lock; /* keys may be written, or no longer; else neither locks nor the user differ */
+    const char *locks_before, *locks_after; /* NULL: nothing may be written */
     GPtrArray *changed;
     GHashTable *writable;   /* such keys */
     GPtrArray *directories; /* the same of all that is in them */
@@ -34,76 +37,6 @@ static void add_writable(Telling *telling, const char *path)
 }
 
 /* ---- what differs */
-
-typedef bool Reads(const DconfdbSnapshot *snapshot, const char *path, DconfdbValue *value);
-
-/* What is read, in normal form: the same value has the same bytes then. NULL where there is none. */
-static GVariant *seen_by(Reads *reads, const DconfdbSnapshot *snapshot, const char *path)
-{
-    DconfdbValue value;
-    if (!snapshot || !reads(snapshot, path, &value))
-        return NULL;
-    const GVariantType *type = (const GVariantType *)value.type;
-    GVariant *lent = g_variant_ref_sink(g_variant_new_from_data(type, value.data, value.size, FALSE, NULL, NULL));
-    GVariant *normal = g_variant_get_normal_form(lent);
-    g_variant_unref(lent);
-    return normal;
-}
-
-static GVariant *seen_of(const DconfdbSnapshot *snapshot, const char *path)
-{
-    return seen_by(dconfdb_snapshot_read, snapshot, path);
-}
-
-static GVariant *default_of(const DconfdbSnapshot *snapshot, const char *path)
-{
-    return seen_by(dconfdb_snapshot_read_default, snapshot, path);
-}
-
-/* Frees both. */
-static bool are_alike(GVariant *one, GVariant *other)
-{
-    bool are = one && other ? g_variant_equal(one, other) : one == other;
-    g_clear_pointer(&one, g_variant_unref);
-    g_clear_pointer(&other, g_variant_unref);
-    return are;
-}
-
-static bool is_locked(const DconfdbSnapshot *snapshot, const char *path)
-{
-    return snapshot && dconfdb_snapshot_is_locked(snapshot, path);
-}
-
-/* Of a key that differs, by its lock or its value. */
-static bool is_seen_alike(const Notice *notice, const char *path)
-{
-    if (is_locked(notice->before, path) == is_locked(notice->after, path))
-        return false;
-    return are_alike(seen_of(notice->before, path), seen_of(notice->after, path));
-}
-
-/* Whether the bytes that are read are those of a value in normal form. If not, it may be the same value. */
-static bool has_bytes_of(const DconfdbSnapshot *snapshot, const char *path, GVariant *value)
-{
-    DconfdbValue seen;
-    if (!snapshot || !dconfdb_snapshot_read(snapshot, path, &seen) || seen.size != g_variant_get_size(value))
-        return false;
-    const char *type = g_variant_get_type_string(value);
-    return strlen(type) == seen.type_size && memcmp(type, seen.type, seen.type_size) == 0
-        && (seen.size == 0 || memcmp(g_variant_get_data(value), seen.data, seen.size) == 0);
-}
-
-/* An edit with a value hides what the files have; a reset shows their default. */
-static bool is_edited_alike(const Notice *notice, const Edited *edited)
-{
-    if (edited->before && !edited->is_edited && has_bytes_of(notice->after, edited->path, edited->before))
-        return true;
-    GVariant *before = edited->before ? g_variant_ref(edited->before) : default_of(notice->before, edited->path);
-    GVariant *after = !edited->is_edited ? seen_of(notice->after, edited->path)
-        : edited->after                  ? g_variant_ref(edited->after)
-                                         : default_of(notice->after, edited->path);
-    return are_alike(before, after);
-}
 
 static bool is_writable(const DconfdbSnapshot *snapshot, const char *path)
 {
@@ -136,31 +69,58 @@ static int by_path(const void *path, const void *edited)
     return strcmp(path, ((const Edited *)edited)->path);
 }
 
-/* Whether it is a key of our edits, of which it is asked what was seen before and is seen now. */
-static bool is_ours(const Notice *notice, const char *path)
+/* What our edits of the key said before, and say now; NULL: there was none. */
+static const Edited *edited_of(const Notice *notice, const char *path)
 {
     const GArray *all = notice->edited;
-    return all && bsearch(path, all->data, all->len, sizeof(Edited), by_path);
+    return all ? bsearch(path, all->data, all->len, sizeof(Edited), by_path) : NULL;
 }
 
+static DconfdbEdit edit_of(const char *path, GVariant *value)
+{
+    if (!value)
+        return (DconfdbEdit){path, NULL, NULL, 0};
+    return (DconfdbEdit){path, g_variant_get_type_string(value), g_variant_get_data(value), g_variant_get_size(value)};
+}
+
+/* Whether the key is seen as before, by who asks for a type, or, if it is NULL, for any. */
+static bool is_seen_alike(const Notice *notice, const char *path, const char *type)
+{
+    const Edited *edited = edited_of(notice, path);
+    SeenBy before = {notice->before, NULL}, after = {notice->after, NULL};
+    if (!edited)
+        return seen_is_alike(before, after, path, type);
+    DconfdbEdit was = edit_of(path, edited->before), is = edit_of(path, edited->after);
+    before.edit = &was;
+    after.edit = edited->is_edited ? &is : NULL;
+    return seen_is_alike(before, after, path, type);
+}
+
+/* A key that may be seen otherwise. */
+static void add_key(Telling *telling, const char *path, const char *type)
+{
+    if (is_subscribed(telling->backend, path) && !is_seen_alike(telling->notice, path, type))
+        add_path(&telling->changed, path);
+}
+
+/* A key that the files have otherwise. Our own are asked by themselves. */
 static void add_difference(Telling *telling, const char *path)
 {
-    bool is = is_ours(telling->notice, path);
-    if ((is && !telling->may_lock) || !is_subscribed(telling->backend, path))
-        return;
-    if (telling->may_lock && !is_as_writable(telling->notice, path))
+    if (telling->may_lock && is_subscribed(telling->backend, path) && !is_as_writable(telling->notice, path))
         add_writable(telling, path);
-    if (!is && !is_seen_alike(telling->notice, path))
-        add_path(&telling->changed, path);
+    if (!edited_of(telling->notice, path))
+        add_key(telling, path, NULL);
 }
 
 /* Keys that no database has are locked too: by their own lock, or with all of a directory. Which
  * keys that has, only GSettings knows. */
 static void add_lock(Telling *telling, const char *path)
 {
+    if (locks_leave(telling->locks_before, path) == locks_leave(telling->locks_after, path))
+        return;
     if (g_str_has_suffix(path, "/"))
         add_path(&telling->directories, path);
-    else if (is_subscribed(telling->backend, path) && !is_as_writable(telling->notice, path))
+    else if (is_subscribed(telling->backend, path))
         add_writable(telling, path);
 }
 
@@ -180,10 +140,29 @@ static void add_locks(Telling *telling, const char *before, const char *after)
 
 /* ---- who is told */
 
+static int by_bytes(const void *one, const void *other)
+{
+    return strcmp(*(char *const *)one, *(char *const *)other);
+}
+
+/* Each once, in the order of their bytes. */
+static void put_in_order(GPtrArray *paths)
+{
+    guint count = 0;
+    g_ptr_array_sort(paths, by_bytes);
+    for (guint i = 0; i < paths->len; i++) {
+        if (count == 0 || strcmp(paths->pdata[count - 1], paths->pdata[i]) != 0)
+            paths->pdata[count++] = paths->pdata[i];
+    }
+    g_ptr_array_set_size(paths, (gint)count);
+}
+
 /* Paths without their first slash, as GSettings wants them below `/`. */
-static void send_changed(DconfdbBackend *self, const GPtrArray *paths)
+static void send_changed(DconfdbBackend *self, GPtrArray *paths)
 {
     const char *items[MOST_KEYS + 1];
+    if (paths)
+        put_in_order(paths);
     for (guint i = 0; paths && i < paths->len;) {
         guint count = 0;
         while (i < paths->len && count < MOST_KEYS)
@@ -197,7 +176,7 @@ static bool is_below(const GPtrArray *directories, const char *path)
 {
     for (guint i = 0; directories && i < directories->len; i++) {
         const char *directory = directories->pdata[i];
-        if (strcmp(directory, path) != 0 && g_str_has_prefix(path, directory))
+        if (strcmp(directory, path) != 0 && path_covers(directory, path))
             return true;
     }
     return false;
@@ -233,9 +212,10 @@ static char *differences_of(const Notice *notice)
     return dconfdb_snapshot_differences(notice->after, notice->before, NULL, NULL);
 }
 
-static char *locks_of(const DconfdbSnapshot *snapshot)
+/* NULL: nothing may be written. */
+static char *locks_of(const DconfdbSnapshot *snapshot, bool has_user)
 {
-    return snapshot ? dconfdb_snapshot_locks(snapshot, "/", NULL, NULL) : NULL;
+    return snapshot && has_user ? dconfdb_snapshot_locks(snapshot, "/", NULL, NULL) : NULL;
 }
 
 /* The first database's locks lock nothing. */
@@ -244,46 +224,49 @@ static bool has_other_locks(const DconfdbSnapshot *before, const DconfdbSnapshot
     return after && before != after && !(before && have_same_others(before, after));
 }
 
-static void add_all(Telling *telling, const char *differences, const char *before, const char *after)
+static void add_differences(Telling *telling, const char *differences)
 {
     for (const char *at = differences; at && *at; at += strlen(at) + 1)
         add_difference(telling, at);
-    add_locks(telling, before ? before : "", after ? after : "");
-    if (telling->notice->had_user != telling->notice->has_user)
-        add_path(&telling->directories, "/");
 }
 
 /* What a program set was told when it set it; so only what is seen otherwise since. */
 static void add_edited(Telling *telling)
 {
     const GArray *all = telling->notice->edited;
-    for (guint i = 0; all && i < all->len; i++) {
-        const Edited *edited = &g_array_index(all, Edited, i);
-        if (is_subscribed(telling->backend, edited->path) && !is_edited_alike(telling->notice, edited))
-            add_path(&telling->changed, edited->path);
-    }
+    for (guint i = 0; all && i < all->len; i++)
+        add_key(telling, g_array_index(all, Edited, i).path, NULL);
 }
 
-/* Keys whose user's value is of another type than the schema's: their default is seen. */
+/* Keys of which a value of another type was passed over: their default is seen. */
 static void add_odd(Telling *telling)
 {
-    const Notice *notice = telling->notice;
-    for (char **at = notice->odd; at && *at; at++) {
-        bool is_seen = is_subscribed(telling->backend, *at) && !is_ours(notice, *at);
-        if (is_seen && !are_alike(default_of(notice->before, *at), default_of(notice->after, *at)))
-            add_path(&telling->changed, *at);
-    }
+    for (char **at = telling->notice->odd; at && *at; at += 2)
+        add_key(telling, at[0], at[1]);
+}
+
+/* Whose lock came or went, or all, if the user's database did. */
+static void add_all_locks(Telling *telling)
+{
+    const char *before = telling->locks_before, *after = telling->locks_after;
+    add_locks(telling, before ? before : "", after ? after : "");
+    if (telling->notice->had_user != telling->notice->has_user)
+        add_lock(telling, "/");
 }
 
 static void send(DconfdbBackend *self, const Notice *notice)
 {
-    bool has_locks = has_other_locks(notice->before, notice->after);
-    Telling telling = {.backend = self, .notice = notice, .may_lock = has_locks || notice->had_user != notice->has_user};
+    bool has_locks = has_other_locks(notice->before, notice->after), had = notice->had_user, has = notice->has_user;
+    Telling telling = {.backend = self, .notice = notice, .may_lock = has_locks || had != has};
     char *differences = differences_of(notice);
-    char *before = has_locks ? locks_of(notice->before) : NULL, *after = has_locks ? locks_of(notice->after) : NULL;
+    char *before = telling.may_lock ? locks_of(notice->before, had) : NULL, *after = telling.may_lock ? locks_of(notice->after, has) : NULL;
+    telling.locks_before = before;
+    telling.locks_after = after;
     add_edited(&telling);
-    add_all(&telling, differences, before, after);
+    add_differences(&telling, differences);
     add_odd(&telling);
+    if (telling.may_lock)
+        add_all_locks(&telling);
     send_changed(self, telling.changed);
     send_directories(self, telling.directories);
     send_writable(&telling);

@@ -9,10 +9,9 @@
 #include <time.h>
 #include <unistd.h>
 
-/* In microseconds: how long g_settings_sync() waits; after which time a fault is one that goes on, if it may be gone in a moment,
- * and if it is the disk's; how long who catches up waits; how often who waits looks for turns of others, and who reads at the
- * files; and how often a mutex is tried. */
-enum { LONGEST_SYNC = 10000000, LONGEST_MOMENT = 10000000, LONGEST_FAULT = 1500000, LONGEST_CATCH_UP = 200000 };
+/* In microseconds: how long g_settings_sync() waits, and who catches up; how often who waits looks for turns of others, and who reads
+ * at the files; and how often a mutex is tried. */
+enum { LONGEST_SYNC = 10000000, LONGEST_CATCH_UP = 200000 };
 enum { BETWEEN_TURNS = 500000, BETWEEN_LOOKS = 10000, AFTER_A_FAULT = 1000000, TRY = 1000, MILLISECOND = 1000 };
 
 bool mutex_lock_until(GMutex *mutex, gint64 end)
@@ -119,22 +118,26 @@ static bool open_store(DconfdbBackend *self, const struct stat profiles[2], Dcon
 static char **odd_keys(const DconfdbBackend *self)
 {
     GHashTableIter at;
-    gpointer path;
+    gpointer path, type;
     guint count = g_hash_table_size(self->odd);
     if (count == 0)
         return NULL;
-    char **keys = g_new0(char *, count + 1);
+    char **keys = g_new0(char *, 2 * count + 1);
     g_hash_table_iter_init(&at, self->odd);
-    for (guint i = 0; i < count && g_hash_table_iter_next(&at, &path, NULL); i++)
-        keys[i] = g_strdup(path);
+    for (guint i = 0; i < count && g_hash_table_iter_next(&at, &path, &type); i++) {
+        keys[2 * i] = g_strdup(path);
+        keys[2 * i + 1] = g_strdup(type);
+    }
     return keys;
 }
 
 /* `lock` is held. Hands the newest snapshot to who reads, together with what no longer waits. */
 static void hand_out(DconfdbBackend *self, Notice *notice)
 {
-    notice->edited = waiting_forget(&self->waiting, &notice->written, &notice->refused);
+    guint overtaken;
+    notice->edited = waiting_end_try(&self->waiting, &notice->written, &notice->refused, !notice->waits_again, &overtaken);
     notice->odd = odd_keys(self);
+    self->overtaken += overtaken;
     self->settled += notice->written.length + notice->refused.length;
     g_cond_broadcast(&self->settles);
     notice->before = self->now;
@@ -171,9 +174,12 @@ static bool look(DconfdbBackend *self, Notice *notice)
 {
     DconfdbError error = DCONFDB_ERROR_INIT;
     struct stat profiles[2];
+    guint number = (guint)g_atomic_int_add(&self->looks_begun, 1) + 1;
     look_at_profiles(self, profiles);
     bool opens = !self->store || !is_same(&profiles[0], &self->seen[0]) || !is_same(&profiles[1], &self->seen[1]);
     bool done = opens ? open_store(self, profiles, &error) : dconfdb_store_refresh(self->store, NULL, &error);
+    if (done)
+        self->last_look = number;
     warn_once(self, notice, done ? NULL : &error);
     if (done && !opens && is_shown(self))
         return true;
@@ -323,15 +329,14 @@ static gint64 wait_again(DconfdbBackend *self, Notice *notice, const DconfdbErro
     if (self->failing == 0)
         self->failing = now;
     self->pause = (gint64)dconfdb_pause_after((uint64_t)self->pause);
-    bool goes_on = !tries_again || now - self->failing >= (is_momentary(fault) ? LONGEST_MOMENT : LONGEST_FAULT);
-    if (goes_on)
+    bool lasts = dconfdb_fault_is_lasting(is_momentary(fault), tries_again, (uint64_t)self->failing, (uint64_t)now);
+    if (lasts)
         warn_of_waiting(self, notice, fault);
+    notice->waits_again = true;
     g_mutex_lock(&self->lock);
-    self->replaced += waiting_put_back(&self->waiting, &notice->written);
-    if (goes_on) {
+    if (lasts)
         self->failed = self->tries;
-        g_cond_broadcast(&self->settles);
-    }
+    hand_out(self, notice);
     g_mutex_unlock(&self->lock);
     return now + self->pause;
 }
@@ -342,8 +347,8 @@ static void end_failing(DconfdbBackend *self)
     self->failing = self->pause = 0;
     self->has_warned = false;
     g_mutex_lock(&self->lock);
-    self->settled += self->replaced;
-    self->replaced = self->failed = 0;
+    self->settled += self->overtaken;
+    self->overtaken = self->failed = 0;
     g_mutex_unlock(&self->lock);
 }
 
@@ -360,6 +365,7 @@ static gint64 write_it(DconfdbBackend *self, const Turn *turn, Notice *notice, b
         end_failing(self);
     if (refusal.code == DCONFDB_ERROR_NONE)
         warn_once(self, notice, NULL);
+    renew(self, notice);
     return 0;
 }
 
@@ -374,8 +380,6 @@ static gint64 write_in(DconfdbBackend *self, const Turn *turn, Notice *notice, b
     g_mutex_unlock(&self->lock);
     if (notice->written.length > 0)
         again = write_it(self, turn, notice, tries_again);
-    if (notice->written.length + notice->refused.length > 0)
-        renew(self, notice);
     g_mutex_unlock(&self->turn);
     return again;
 }
@@ -462,19 +466,24 @@ static guint64 ask_for_a_try(DconfdbBackend *self)
     return tries;
 }
 
+/* `lock` is held, and let go of meanwhile. For so long, or until changes are settled, or a write has failed. */
+static void await_news(DconfdbBackend *self, Patience *patience)
+{
+    gint64 end = MIN((gint64)patience->time.end, g_get_monotonic_time() + BETWEEN_TURNS);
+    if (g_cond_wait_until(&self->settles, &self->lock, end))
+        return;
+    g_mutex_unlock(&self->lock);
+    patience_renew(patience, self);
+    g_mutex_lock(&self->lock);
+}
+
 /* Until all that waits now is settled, or a later write than these has failed after others had for long. */
 static bool await_settled(DconfdbBackend *self, Patience *patience, guint64 tries)
 {
     g_mutex_lock(&self->lock);
     guint64 added = self->added;
-    for (gint64 now, end; now = g_get_monotonic_time(), end = self->failed > tries ? now : patience->end,
-                          dconfdb_sync_goes_on(self->settled, added, (uint64_t)now, (uint64_t)end);) {
-        if (g_cond_wait_until(&self->settles, &self->lock, MIN(end, now + BETWEEN_TURNS)))
-            continue;
-        g_mutex_unlock(&self->lock);
-        patience_renew(patience, self);
-        g_mutex_lock(&self->lock);
-    }
+    while (dconfdb_patience_goes_on(&patience->time, self->settled, added, self->failed, tries, (uint64_t)g_get_monotonic_time()))
+        await_news(self, patience);
     bool is_settled = self->settled >= added;
     g_mutex_unlock(&self->lock);
     return is_settled;
@@ -495,16 +504,23 @@ static bool settle(DconfdbBackend *self)
     return false;
 }
 
+/* `turn` is held. Whether the files were looked at since so many looks had begun: the worker does after each write. */
+static bool has_looked_since(const DconfdbBackend *self, guint begun)
+{
+    return (gint)(self->last_look - begun) > 0;
+}
+
 bool store_sync(DconfdbBackend *self)
 {
     Notice notice = {.faults = NULL};
+    guint begun = (guint)g_atomic_int_get(&self->looks_begun);
     Patience patience = patience_of(self, LONGEST_SYNC);
     guint64 tries = ask_for_a_try(self);
     if (!worker_is_another(self))
-        store_write(self, patience.end, false);
-    if (!await_settled(self, &patience, tries) || !mutex_lock_until(&self->turn, patience.end))
+        store_write(self, (gint64)patience.time.end, false);
+    if (!await_settled(self, &patience, tries) || !mutex_lock_until(&self->turn, (gint64)patience.time.end))
         return false;
-    if (self->place.folder)
+    if (self->place.folder && !has_looked_since(self, begun))
         look(self, &notice);
     bool is_settled = settle(self);
     g_mutex_unlock(&self->turn);

@@ -6,9 +6,8 @@
 
 #include <errno.h>
 
-/* In microseconds: after how long it is warned of, between two tries where no thread can be had, and how long is
- * waited at most while others have their turns. */
-enum { LONG = 10000000, PAUSE = 50000, LONGEST_CROWD = 60000000 };
+/* In microseconds: after how long it is warned of, and between two tries where no thread can be had. */
+enum { LONG = 10000000, PAUSE = 50000 };
 
 struct Wait {
     DconfdbBackend *backend;
@@ -115,8 +114,9 @@ static struct timespec changed_at(const DconfdbBackend *self)
 
 Patience patience_of(const DconfdbBackend *self, gint64 each)
 {
-    gint64 now = g_get_monotonic_time();
-    return (Patience){now + each, each, now + LONGEST_CROWD, changed_at(self)};
+    Patience patience = {.changed = changed_at(self)};
+    dconfdb_patience_begin(&patience.time, (uint64_t)g_get_monotonic_time(), (uint64_t)each);
+    return patience;
 }
 
 void patience_renew(Patience *patience, const DconfdbBackend *self)
@@ -125,5 +125,5 @@ void patience_renew(Patience *patience, const DconfdbBackend *self)
     if (changed.tv_sec == patience->changed.tv_sec && changed.tv_nsec == patience->changed.tv_nsec)
         return;
     patience->changed = changed;
-    patience->end = MIN(g_get_monotonic_time() + patience->each, patience->latest);
+    dconfdb_patience_renew(&patience->time, (uint64_t)g_get_monotonic_time());
 }

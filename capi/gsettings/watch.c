@@ -13,13 +13,12 @@ static void carry_out(DconfdbBackend *self)
 {
     gint64 until;
     for (;;) {
+        if (g_atomic_int_compare_and_exchange(&self->is_reopened, TRUE, FALSE))
+            watch_opened_anew(self->watch);
         WatchStep step = watch_step(self->watch, &until);
-        bool is_anew = g_atomic_int_compare_and_exchange(&self->is_reopened, TRUE, FALSE);
-        if (is_anew && step != WATCH_FILES) /* which watches what was opened */
-            watch_tell(self->watch, WATCHED_FOLDER);
-        else if (step == WATCH_REST)
+        if (step == WATCH_REST)
             return;
-        else if (step == WATCH_FILES)
+        if (step == WATCH_FILES)
             begin(self);
         else
             watch_answer(self->watch, store_look(self));
@@ -41,17 +40,12 @@ static bool has_listeners(DconfdbBackend *self)
 }
 
 /* Where not all is watched each read looks by itself: without listeners nobody else is to. */
-static bool minds_time(DconfdbBackend *self)
-{
-    return watch_is_whole(self->watch) || has_listeners(self);
-}
-
 void watch_turn(DconfdbBackend *self)
 {
     if (!self->watch)
         self->watch = watch_new(false);
-    else if (minds_time(self))
-        watch_pass_time(self->watch);
+    else
+        watch_pass_time(self->watch, has_listeners(self));
     if (self->watch) /* else no memory is left: the next turn tries it again */
         carry_out(self);
 }
@@ -63,9 +57,7 @@ int watch_file(const DconfdbBackend *self)
 
 gint64 watch_next(DconfdbBackend *self)
 {
-    gint64 until = 0;
-    bool rests = self->watch && watch_step(self->watch, &until) == WATCH_REST;
-    return rests && minds_time(self) ? until : 0;
+    return self->watch ? watch_due(self->watch, has_listeners(self)) : 0;
 }
 
 void watch_end(DconfdbBackend *self)

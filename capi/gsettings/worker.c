@@ -53,15 +53,15 @@ static int sleep_of(DconfdbBackend *self)
     return is ? (int)MIN(wait, INT_MAX) : -1;
 }
 
-/* At the program's end, when a write has failed again. */
-static bool gives_up(DconfdbBackend *self)
+/* Whether there is more to do; else it has given up what waits, if something does: the program ends, and a write has failed again. */
+static bool goes_on(DconfdbBackend *self, bool ends, bool waits)
 {
     g_mutex_lock(&self->lock);
-    bool gives = self->failed > self->last_try;
+    bool goes = dconfdb_writer_goes_on(ends, waits, self->failed, self->last_try);
     g_mutex_unlock(&self->lock);
-    if (gives)
+    if (!goes && waits)
         g_atomic_int_set(&self->has_given_up, TRUE);
-    return gives;
+    return goes;
 }
 
 /* Does what is to be done. False: the program ends, and nothing waits, or can be written. */
@@ -84,7 +84,7 @@ static bool takes_turn(DconfdbBackend *self)
         waits = store_has_waiting(self);
         g_atomic_int_set(&self->is_writing, self->again != 0 || self->wait);
     }
-    return !ends || (waits && !gives_up(self));
+    return goes_on(self, ends, waits);
 }
 
 /* Who let go of the backend waits for that, or has left it to this thread. */
@@ -237,7 +237,7 @@ void worker_end(DconfdbBackend *self)
     g_mutex_unlock(&self->lock);
     if (has_worker)
         worker_wake(self);
-    while (has_worker && dconfdb_exit_goes_on((uint64_t)now, (uint64_t)patience.end, (uint64_t)moved)) {
+    while (has_worker && dconfdb_exit_goes_on((uint64_t)now, patience.time.end, (uint64_t)moved)) {
         is_over = is_this ? has_done_here(self) : has_done(self);
         if (is_over)
             break;
@@ -250,9 +250,17 @@ void worker_end(DconfdbBackend *self)
         say_what_waits(self);
 }
 
+/* `lock` is held, and let go of meanwhile: until the thread is over, or a later write than these has failed. */
+static void await_over(DconfdbBackend *self, guint64 tries)
+{
+    DconfdbPatience patience;
+    dconfdb_patience_begin(&patience, (uint64_t)g_get_monotonic_time(), LONGEST_END);
+    while (dconfdb_patience_goes_on(&patience, self->is_over, 1, self->failed, tries, (uint64_t)g_get_monotonic_time()))
+        g_cond_wait_until(&self->settles, &self->lock, (gint64)patience.end);
+}
+
 bool worker_let_go(DconfdbBackend *self)
 {
-    gint64 end = g_get_monotonic_time() + LONGEST_END;
     g_mutex_lock(&self->lock);
     bool has_worker = self->has_worker, is_this = has_worker && pthread_equal(self->worker, pthread_self());
     guint64 tries = self->tries;
@@ -260,8 +268,8 @@ bool worker_let_go(DconfdbBackend *self)
     g_atomic_int_set(&self->is_let_go, TRUE);
     if (has_worker)
         worker_wake(self);
-    while (has_worker && !is_this && !self->is_over && self->failed <= tries && g_cond_wait_until(&self->settles, &self->lock, end))
-        ;
+    if (has_worker && !is_this)
+        await_over(self, tries);
     self->is_left = has_worker && !self->is_over;
     if (self->is_left)
         g_object_ref(self);

@@ -1,4 +1,4 @@
-/* dconfdb-home: the proved program where HOME names no folder. It asks the system for the user's home, as the library does (getpwuid_r, and so
+/* dconfdb-home: the proved program where the environment names no folder. It asks the system for the user's home, as the library does (getpwuid_r, and so
  * LDAP and whatever else nsswitch.conf(5) names), and hands it on. It is no part of the launcher, since what it asks can't be linked into a
  * program without shared libraries. */
 #define _DEFAULT_SOURCE
@@ -19,7 +19,7 @@ static bool set_home(void)
     char *room = malloc(ROOM_OF_PASSWD);
     int fault = room ? getpwuid_r(getuid(), &entry, room, ROOM_OF_PASSWD, &found) : ENOMEM;
     bool is_set = fault != ENOMEM;
-    if (fault == 0 && found && found->pw_dir && found->pw_dir[0] == '/')
+    if (fault == 0 && found && found->pw_dir)
         is_set = setenv("HOME", found->pw_dir, 1) == 0;
     free(room);
     return is_set;

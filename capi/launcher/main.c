@@ -1,7 +1,10 @@
 /* dconfdb, as it is installed: `watch` and `lint` are programs of their own in the folder LIBEXEC, and every other
- * command is the proved program's, which is handed the arguments as they are, by dconfdb-home if the environment names no home. */
+ * command is the proved program's, which is handed the arguments as they are, by dconfdb-home if the store's folder may be in
+ * the home that the system has for the user. */
 #define _DEFAULT_SOURCE
 #define _POSIX_C_SOURCE 200809L
+#include "environment.h"
+
 #include <errno.h>
 #include <stdbool.h>
 #include <stdio.h>
@@ -26,11 +29,22 @@ static Program *program_of(const char *word)
     return &proved;
 }
 
-/* A home counts by its whole path, as for the library. */
-static bool has_home(void)
+/* As for the library: what the environment says doesn't count for a program that has more rights than whoever started it. */
+static void forget_environment(void)
 {
-    const char *home = getenv("HOME");
-    return home && home[0] == '/';
+    static const char *const names[] = {"DCONFDB_STORE", "XDG_CONFIG_HOME", "HOME", "DCONFDB_PROFILE"};
+    for (size_t i = 0; i < sizeof names / sizeof *names; i++)
+        unsetenv(names[i]);
+}
+
+/* The proved program, by what has to be asked to know where a store is that nobody names. */
+static Program *proved_program(void)
+{
+    const DconfdbEnvironment environment = environment_now();
+    const DconfdbBytes nothing = DCONFDB_NOTHING;
+    if (!environment.counts)
+        forget_environment();
+    return dconfdb_folder_base(&environment, DCONFDB_GIVEN_BY_NOBODY, nothing.at, nothing.len) == DCONFDB_ASK_HOME ? &homeless : &proved;
 }
 
 int main(int count, char **words)
@@ -42,8 +56,8 @@ int main(int count, char **words)
         words = asks_help ? helped : words + 1;
         words[0] = program->name;
     }
-    if (program == &proved && !has_home())
-        program = &homeless;
+    if (program == &proved)
+        program = proved_program();
     execv(program->file, words);
     fprintf(stderr, "error: %s %s\n", errno == ENOENT ? "NoFile" : "Device", program->file);
     return 1;

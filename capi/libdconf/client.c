@@ -71,7 +71,7 @@ gchar **dconf_client_list(DConfClient *client, const gchar *dir, gint *length)
 {
     g_return_val_if_fail (DCONF_IS_CLIENT (client), NULL);
     g_return_val_if_fail (dir != NULL, NULL);
-    DconfdbSnapshot *now = engine_look(client->engine);
+    DconfdbSnapshot *now = engine_current(client->engine);
     char *names = now ? dconfdb_snapshot_list(now, dir, NULL, NULL) : NULL;
     dconfdb_snapshot_unref(now);
     return array_of(names, length);
@@ -81,7 +81,7 @@ gchar **dconf_client_list_locks(DConfClient *client, const gchar *dir, gint *len
 {
     g_return_val_if_fail (DCONF_IS_CLIENT (client), NULL);
     g_return_val_if_fail (dconf_is_dir (dir, NULL), NULL);
-    DconfdbSnapshot *now = engine_look(client->engine);
+    DconfdbSnapshot *now = engine_current(client->engine);
     char *locks = now ? dconfdb_snapshot_locks(now, dir, NULL, NULL) : NULL;
     dconfdb_snapshot_unref(now);
     if (engine_has_user(client->engine))
@@ -98,7 +98,7 @@ gboolean dconf_client_is_writable(DConfClient *client, const gchar *key)
 {
     g_return_val_if_fail (DCONF_IS_CLIENT (client), FALSE);
     g_return_val_if_fail (key != NULL, FALSE);
-    DconfdbSnapshot *now = engine_look(client->engine);
+    DconfdbSnapshot *now = engine_current(client->engine);
     gboolean is = engine_is_writable(client->engine, now, key);
     dconfdb_snapshot_unref(now);
     return is;

@@ -1,10 +1,14 @@
 /* A client's store, and what is read of it. */
 #include "libdconf.h"
 
+#include "dconfdb_calls.h"
 #include "lent_value.h"
+#include "seen.h"
 
+#include <poll.h>
 #include <stdlib.h>
 #include <string.h>
+#include <unistd.h>
 
 /* ---- the store */
 
@@ -145,6 +149,18 @@ DconfdbSnapshot *engine_newest(Engine *self)
     return now ? now : engine_look(self);
 }
 
+/* Whether nothing has been told. A child of fork() shares the descriptor with its parent, who may have taken what was. */
+static bool has_heard_all(Engine *self)
+{
+    struct pollfd file = {g_atomic_int_get(&self->hears) - 1, POLLIN, 0};
+    return file.fd >= 0 && poll(&file, 1, 0) == 0 && g_atomic_int_get(&self->hearer) == getpid();
+}
+
+DconfdbSnapshot *engine_current(Engine *self)
+{
+    return has_heard_all(self) ? engine_newest(self) : engine_look(self);
+}
+
 void engine_begin_write(Engine *self)
 {
     g_mutex_lock(&self->lock);
@@ -236,6 +252,27 @@ static gboolean find_edit(Engine *self, const gchar *key, const GQueue *read_thr
     return is;
 }
 
+/* What is read of the store beside an edit, as the proved calls have it; NULL: what is seen is `value`, which the edit sets, or none. */
+static Reads *reads_own(gboolean is_edited, GVariant **value, gboolean has_user)
+{
+    uint32_t own = dconfdb_own(is_edited, *value != NULL, has_user);
+    if (own == DCONFDB_OWN_NONE)
+        g_clear_pointer(value, g_variant_unref);
+    return own == DCONFDB_OWN_FIRST ? dconfdb_snapshot_read_user : NULL;
+}
+
+static Reads *reads_seen(gboolean is_edited, const GVariant *value, gboolean may_write)
+{
+    switch (dconfdb_shown(is_edited, value != NULL, may_write, true, true)) {
+    case DCONFDB_SHOWN_EDIT:
+        return NULL;
+    case DCONFDB_SHOWN_DEFAULT:
+        return dconfdb_snapshot_read_default;
+    default:
+        return dconfdb_snapshot_read;
+    }
+}
+
 GVariant *engine_read(Engine *self, const gchar *key, DConfReadFlags flags, const GQueue *read_through)
 {
     gboolean is_user = (flags & DCONF_READ_USER_VALUE) != 0, is_default = (flags & DCONF_READ_DEFAULT_VALUE) != 0;
@@ -244,37 +281,25 @@ GVariant *engine_read(Engine *self, const gchar *key, DConfReadFlags flags, cons
         return NULL;
     /* Before the look: what is written meanwhile is in one of the two. */
     gboolean is_edited = !is_default && find_edit(self, key, read_through, &value);
-    DconfdbSnapshot *now = engine_look(self);
-    if (is_edited)
-        is_edited = is_user ? engine_has_user(self) : engine_is_writable(self, now, key);
-    if (is_edited && (value || is_user)) {
+    DconfdbSnapshot *now = engine_current(self);
+    Reads *reads = NULL;
+    if (is_default)
+        reads = dconfdb_snapshot_read_default;
+    else if (is_user)
+        reads = reads_own(is_edited, &value, engine_has_user(self));
+    else
+        reads = reads_seen(is_edited, value, is_edited && engine_is_writable(self, now, key));
+    if (!reads) {
         dconfdb_snapshot_unref(now);
         return value;
     }
     g_clear_pointer(&value, g_variant_unref);
-    is_default = is_default || is_edited;
-    Reads *reads = is_default ? dconfdb_snapshot_read_default : is_user ? dconfdb_snapshot_read_user : dconfdb_snapshot_read;
     value = lent_value(now, reads, key);
     return value ? g_variant_ref_sink(value) : NULL;
 }
 
-/* Whether no lock covers the directory. */
-static gboolean is_uncovered(const DconfdbSnapshot *now, const gchar *path)
-{
-    char *locks = dconfdb_snapshot_locks(now, "/", NULL, NULL);
-    gboolean is = TRUE;
-    for (const char *lock = locks; is && lock && *lock; lock += strlen(lock) + 1)
-        is = !g_str_has_suffix(lock, "/") || !g_str_has_prefix(path, lock);
-    free(locks);
-    return is;
-}
-
 gboolean engine_is_writable(Engine *self, const DconfdbSnapshot *now, const gchar *path)
 {
-    if (!now || !engine_has_user(self))
-        return FALSE;
-    if (dconf_is_key(path, NULL))
-        return dconfdb_snapshot_is_writable(now, path);
     /* What is no path is locked by nobody, as dconf has it. */
-    return is_uncovered(now, path);
+    return engine_has_user(self) && seen_is_writable(now, path);
 }

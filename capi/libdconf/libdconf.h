@@ -32,6 +32,9 @@ typedef struct {
     gboolean has_thread;     /* one writes what waits */
     GHashTable *watched;     /* paths, and how often each is watched */
     GSource *source;         /* NULL: nothing is watched */
+    gint hears;              /* one more than the descriptor by which all that happens to the files is told, as long as all that was told
+                              * is looked at; 0: none; atomic */
+    gint hearer;             /* the process that has it; atomic */
     DconfdbSnapshot *told;   /* what listeners know of; NULL: nothing is watched, or no store could be opened yet */
 } Engine;
 
@@ -49,6 +52,9 @@ DconfdbSnapshot *engine_look(Engine *self);
 
 /* The same without a look, where the files are watched. */
 DconfdbSnapshot *engine_newest(Engine *self);
+
+/* The same without a look where they are watched, and nothing has been told of them since they were looked at: for who reads. */
+DconfdbSnapshot *engine_current(Engine *self);
 
 /* Logs a warning, unless it was logged before. */
 void engine_warn_once(Engine *self, const gchar *text);

@@ -1,6 +1,8 @@
 /* Whether a text is a path, of a key or of a directory, and if not, why. */
 #include "libdconf.h"
 
+#include "dconfdb_calls.h"
+
 #include <string.h>
 
 G_DEFINE_QUARK(dconf_error, dconf_error)
@@ -10,16 +12,21 @@ typedef enum { ANY, OF_KEY, OF_DIRECTORY } Kind;
 /* What is wrong with the text; NULL: nothing. A relative path is what comes after a directory's slash. */
 static const char *fault_of(const gchar *text, Kind kind, gboolean is_relative)
 {
-    if ((*text == '/') == is_relative)
-        return is_relative ? "must not begin with a slash" : "must begin with a slash";
-    if (strstr(text, "//"))
+    bool is_short;
+    const uint8_t *bytes = (const uint8_t *)text;
+    size_t len = strlen(text);
+    switch (is_relative ? dconfdb_relative_kind(bytes, len) : dconfdb_path_kind(bytes, len, &is_short)) {
+    case DCONFDB_PATH_KEY:
+        return kind == OF_DIRECTORY ? "must end with a slash" : NULL;
+    case DCONFDB_PATH_DIRECTORY:
+        return kind == OF_KEY ? "must not end with a slash" : NULL;
+    case DCONFDB_PATH_NOT_ABSOLUTE:
+        return "must begin with a slash";
+    case DCONFDB_PATH_ABSOLUTE:
+        return "must not begin with a slash";
+    default:
         return "must not contain two consecutive slashes";
-    gboolean ends_in_slash = *text ? g_str_has_suffix(text, "/") : is_relative;
-    if (kind == OF_KEY && ends_in_slash)
-        return "must not end with a slash";
-    if (kind == OF_DIRECTORY && !ends_in_slash)
-        return "must end with a slash";
-    return NULL;
+    }
 }
 
 static gboolean is_one(const gchar *text, Kind kind, gboolean is_relative, GError **error)

@@ -1,7 +1,10 @@
 /* Which paths a client watches, and the source that watches the store's files in its context. */
 #include "libdconf.h"
 
+#include "seen.h"
 #include "watch.h"
+
+#include <unistd.h>
 
 typedef struct {
     GSource source;
@@ -21,7 +24,14 @@ static void begin(FileSource *self)
     watch_answer(self->watch, is_whole);
 }
 
-/* Until there is nothing to do but to wait. */
+/* Whether who reads is to ask it first, from now on. */
+static void hears(FileSource *self, bool is)
+{
+    g_atomic_int_set(&self->engine->hearer, getpid());
+    g_atomic_int_set(&self->engine->hears, is ? watch_descriptor(self->watch) + 1 : 0);
+}
+
+/* Until there is nothing to do but to wait. Where only what inotify tells is waited for all that it told is looked at. */
 static void carry_out(FileSource *self)
 {
     gint64 until;
@@ -34,12 +44,14 @@ static void carry_out(FileSource *self)
         }
     }
     g_source_set_ready_time(&self->source, until == 0 ? -1 : until);
+    hears(self, until == 0 && watch_is_whole(self->watch));
 }
 
 static gboolean dispatch(GSource *source, GSourceFunc callback, gpointer data)
 {
     FileSource *self = (FileSource *)source;
     (void)callback, (void)data;
+    hears(self, false);
     watch_hear(self->watch);
     carry_out(self);
     return G_SOURCE_CONTINUE;
@@ -107,6 +119,7 @@ static void end_watching(Engine *self)
     DconfdbSnapshot *told = is_last ? g_steal_pointer(&self->told) : NULL;
     g_mutex_unlock(&self->lock);
     if (source) {
+        g_atomic_int_set(&self->hears, 0);
         g_source_destroy(source);
         g_source_unref(source);
     }
@@ -134,13 +147,6 @@ void engine_unwatch_all(Engine *self)
     end_watching(self);
 }
 
-/* Whether one is the other, or a directory above it: dconf asks its bus for such. */
-static gboolean meet(const gchar *one, const gchar *other)
-{
-    return g_str_equal(one, other) || (g_str_has_suffix(one, "/") && g_str_has_prefix(other, one))
-        || (g_str_has_suffix(other, "/") && g_str_has_prefix(one, other));
-}
-
 gboolean engine_is_watched(Engine *self, const gchar *path)
 {
     GHashTableIter at;
@@ -149,7 +155,7 @@ gboolean engine_is_watched(Engine *self, const gchar *path)
     g_mutex_lock(&self->lock);
     g_hash_table_iter_init(&at, self->watched);
     while (!is && g_hash_table_iter_next(&at, &watched, NULL))
-        is = meet(watched, path);
+        is = paths_meet(watched, path); /* dconf asks its bus for such */
     g_mutex_unlock(&self->lock);
     return is;
 }

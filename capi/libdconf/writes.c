@@ -2,8 +2,8 @@
 #define _GNU_SOURCE
 #include "libdconf.h"
 
+#include "batch.h"
 #include "faults.h"
-#include "locked.h"
 #include "order.h"
 #include "threads.h"
 
@@ -67,34 +67,41 @@ static bool is_reset_of_locked(const DconfdbSnapshot *now, const DconfdbEdit *ed
     return !edit->type && dconf_is_key(edit->path, NULL) && !dconfdb_snapshot_is_writable(now, edit->path);
 }
 
-/* Leaves out the resets of locked keys, which do nothing; and all, if the user has all of it. */
-static void leave_out(Edits *self, const DconfdbSnapshot *now)
+/* What is known of each edit, to be freed: the reset of a locked key does nothing, and the user has what it says or not. */
+static DconfdbNewEdit *known_of(const Edits *self, const DconfdbSnapshot *now)
 {
-    gboolean changes_nothing = TRUE;
-    for (guint at = self->edits->len; now && at > 0; at--) {
-        const DconfdbEdit *edit = edit_at(self, at - 1);
-        if (is_reset_of_locked(now, edit))
-            g_array_remove_index(self->edits, at - 1);
-        else
-            changes_nothing = changes_nothing && dconfdb_snapshot_has_edit(now, edit);
+    DconfdbNewEdit *known = g_new0(DconfdbNewEdit, self->edits->len);
+    for (guint at = 0; at < self->edits->len; at++) {
+        const DconfdbEdit *edit = edit_at(self, at);
+        known[at].sets = edit->type != NULL;
+        known[at].may = !is_reset_of_locked(now, edit);
+        known[at].is_same = dconfdb_snapshot_has_edit(now, edit);
     }
-    if (now && changes_nothing)
-        g_array_set_size(self->edits, 0);
+    return known;
 }
 
 /* The changes of which the user has something else. */
-static DConfChangeset *effective(const Edits *self, const DconfdbSnapshot *now, DConfChangeset *changes)
+static DConfChangeset *effective(const Edits *self, const DconfdbNewEdit *known, DConfChangeset *changes)
 {
     DConfChangeset *found = dconf_changeset_new();
-    for (guint at = 0; now && at < self->edits->len; at++) {
-        const DconfdbEdit *edit = edit_at(self, at);
+    for (guint at = 0; at < self->edits->len; at++) {
+        const gchar *path = edit_at(self, at)->path;
         GVariant *value = NULL;
-        if (dconfdb_snapshot_has_edit(now, edit) || !dconf_changeset_get(changes, edit->path, &value))
+        if (!dconfdb_is_news(&known[at]) || !dconf_changeset_get(changes, path, &value))
             continue;
-        dconf_changeset_set(found, edit->path, value);
+        dconf_changeset_set(found, path, value);
         g_clear_pointer(&value, g_variant_unref);
     }
     return found;
+}
+
+/* Keeps those that may be made. */
+static void leave_out(Edits *self, const DconfdbNewEdit *known)
+{
+    for (guint at = self->edits->len; at > 0; at--) {
+        if (!known[at - 1].may)
+            g_array_remove_index(self->edits, at - 1);
+    }
 }
 
 /* ---- refusals */
@@ -117,11 +124,13 @@ static gboolean refuse(const DconfdbError *fault, GError **error)
 /* Whether all that is set may be; a reset may always, as dconf has it. */
 static gboolean may_change(Engine *self, const DconfdbSnapshot *now, const Edits *edits, GError **error)
 {
+    g_autofree DconfdbNewEdit *known = g_new0(DconfdbNewEdit, edits->edits->len);
     for (guint at = 0; at < edits->edits->len; at++) {
-        if (edit_at(edits, at)->type && !engine_is_writable(self, now, edit_at(edits, at)->path))
-            return refuse_locked(error);
+        const DconfdbEdit *edit = edit_at(edits, at);
+        known[at].sets = edit->type != NULL;
+        known[at].may = !edit->type || engine_is_writable(self, now, edit->path);
     }
-    return TRUE;
+    return dconfdb_entry(known, edits->edits->len) != DCONFDB_ENTRY_REFUSED || refuse_locked(error);
 }
 
 /* ---- `turn` is held */
@@ -133,61 +142,51 @@ static void set_writing(Engine *self, DConfChangeset *changes)
     g_mutex_unlock(&self->lock);
 }
 
-/* What of the edits others have set since, which were left out. */
-static void add_overtaken(DconfdbStore *store, const Edits *edits, DConfChangeset *overtaken)
+/* Waits for the turn to write, before anybody who reads is kept from the files. False: that fault. */
+static bool turn_begin(Engine *self, DconfdbStore *store, FolderLock *lock, Turn *turn)
 {
-    DconfdbSnapshot *now = dconfdb_store_snapshot(store);
-    for (guint at = 0; at < edits->edits->len; at++) {
-        if (!dconfdb_snapshot_has_edit(now, edit_at(edits, at)))
-            dconf_changeset_set(overtaken, edit_at(edits, at)->path, NULL);
-    }
-    dconfdb_snapshot_unref(now);
+    bool has_user = engine_has_user(self);
+    *turn = (Turn){has_user ? lock : NULL, has_user ? folder_lock(dconfdb_store_folder(store), LONGEST_WAIT, lock) : 0};
+    if (turn->fault != 0)
+        return false;
+    engine_begin_write(self);
+    return true;
 }
 
-/* As dconfdb_store_change, but that the others are waited for before anybody who reads is kept from the files. Without `made` all
- * counts as set now; with it what is overtaken comes into that set. */
-static gboolean put(Engine *self, const Edits *edits, const Made *made, DConfChangeset *overtaken, DconfdbError *fault)
+static void turn_end(Engine *self, const Turn *turn, FolderLock *lock)
+{
+    if (turn->lock)
+        folder_unlock(lock);
+    engine_end_write(self);
+}
+
+/* The store; or the fault that it can't be opened. */
+static DconfdbStore *store_of(Engine *self, DconfdbError *fault)
+{
+    DconfdbStore *store = engine_store(self);
+    if (!store) {
+        *fault = (DconfdbError){.code = DCONFDB_ERROR_FILE};
+        g_strlcpy(fault->text, "the store can't be opened", sizeof fault->text);
+    }
+    return store;
+}
+
+/* As dconfdb_store_change, with the turn to write: all counts as set now. */
+static gboolean put(Engine *self, const Edits *edits, DconfdbError *fault)
 {
     FolderLock lock;
-    DconfdbStore *store = engine_store(self);
-    fault->code = DCONFDB_ERROR_FILE;
-    fault->errnum = 0;
-    g_strlcpy(fault->text, "the store can't be opened", sizeof fault->text);
+    Turn turn;
+    DconfdbStore *store = store_of(self, fault);
     if (!store || edits->edits->len == 0)
         return store != NULL;
-    int failed = engine_has_user(self) ? folder_lock(dconfdb_store_folder(store), LONGEST_WAIT, &lock) : 0;
-    if (failed != 0)
-        return refuse_lock(store, failed, fault);
-    engine_begin_write(self);
-    gboolean is_done = locked_change(store, engine_has_user(self) ? &lock : NULL, edit_at(edits, 0), made, edits->edits->len, fault);
-    if (engine_has_user(self))
-        folder_unlock(&lock);
-    if (is_done && made)
-        add_overtaken(store, edits, overtaken);
-    engine_end_write(self);
+    if (!turn_begin(self, store, &lock, &turn))
+        return refuse_lock(store, turn.fault, fault);
+    gboolean is_done = locked_change(store, turn.lock, edit_at(edits, 0), NULL, edits->edits->len, fault);
+    turn_end(self, &turn, &lock);
     return is_done;
 }
 
-static void refuse_edit(Edits *self, guint at, DConfChangeset *refused)
-{
-    dconf_changeset_set(refused, edit_at(self, at)->path, NULL);
-    g_array_remove_index(self->edits, at);
-}
-
-/* Refuses all that is locked now, so that not each costs a try; or else the one that was found to be. */
-static void refuse_locked_edits(Edits *self, Engine *engine, size_t found, DConfChangeset *refused)
-{
-    DconfdbSnapshot *now = engine_look(engine);
-    guint count = self->edits->len;
-    for (guint at = count; now && at > 0; at--) {
-        const char *path = edit_at(self, at - 1)->path;
-        if (dconf_is_key(path, NULL) && !dconfdb_snapshot_is_writable(now, path))
-            refuse_edit(self, at - 1, refused);
-    }
-    if (self->edits->len == count)
-        refuse_edit(self, (guint)found, refused);
-    dconfdb_snapshot_unref(now);
-}
+/* ---- what waited */
 
 /* `lock` is held. */
 static uint64_t moment_of(Engine *self, const DconfdbEdit *edit)
@@ -204,44 +203,65 @@ static gint by_moment(gconstpointer one, gconstpointer other, gpointer self)
     return first < second ? -1 : 1;
 }
 
-/* When each was asked for, the oldest first: what others have set since stays. A directory is reset in this moment, and with it
- * counts all else: NULL. */
-static GArray *made_of(Engine *self, Edits *edits)
+/* The edits, the oldest first. Those of a change were asked for in one moment: all of them are made, or none. A directory is reset in
+ * this moment, and with it counts all else. */
+static Batch batch_of(Engine *self, Edits *edits)
 {
-    for (guint at = 0; at < edits->edits->len; at++) {
-        if (g_str_has_suffix(edit_at(edits, at)->path, "/"))
-            return NULL;
-    }
-    GArray *made = g_array_new(FALSE, FALSE, sizeof(Made));
+    Batch batch = batch_new(edits->edits->len);
     g_mutex_lock(&self->lock);
     g_array_sort_with_data(edits->edits, by_moment, self);
     for (guint at = 0; at < edits->edits->len; at++) {
-        Made one = {moment_of(self, edit_at(edits, at)), at};
-        g_array_append_val(made, one);
+        const DconfdbEdit *edit = edit_at(edits, at);
+        uint64_t moment = moment_of(self, edit);
+        bool is_next = at > 0 && batch.moments[at - 1] == moment;
+        batch_add(&batch, edit, moment, is_next ? batch.queued[at - 1].change : at, false);
+        batch.is_timed = batch.is_timed && !g_str_has_suffix(edit->path, "/");
     }
     g_mutex_unlock(&self->lock);
-    return made;
+    return batch;
 }
 
-static gboolean put_waiting(Engine *self, Edits *edits, DConfChangeset *overtaken, DconfdbError *fault)
+/* What of the edits isn't made: what is refused or left out, and what others have set since. */
+static void add_unmade(const Batch *batch, DconfdbStore *store, gboolean is_done, DConfChangeset *unmade)
 {
-    GArray *made = made_of(self, edits);
-    gboolean is_done = put(self, edits, made ? (const Made *)(gpointer)made->data : NULL, overtaken, fault);
-    g_clear_pointer(&made, g_array_unref);
+    DconfdbSnapshot *now = dconfdb_store_snapshot(store);
+    for (size_t at = 0; at < batch->count; at++) {
+        bool is = batch_is_refused(batch, at) || batch_is_left_out(batch, at);
+        if (is || (is_done && batch->is_timed && !dconfdb_snapshot_has_edit(now, batch->edits[at])))
+            dconf_changeset_set(unmade, batch->edits[at]->path, NULL);
+    }
+    dconfdb_snapshot_unref(now);
+}
+
+static gboolean put_batch(Engine *self, Batch *batch, DConfChangeset *unmade, DconfdbError *refusal, DconfdbError *fault)
+{
+    FolderLock lock;
+    Turn turn;
+    DconfdbStore *store = store_of(self, fault);
+    if (!store)
+        return FALSE;
+    bool has_begun = turn_begin(self, store, &lock, &turn);
+    gboolean is_done = batch_write(batch, store, &turn, refusal, fault);
+    add_unmade(batch, store, is_done, unmade);
+    if (has_begun)
+        turn_end(self, &turn, &lock);
     return is_done;
 }
 
-/* Makes the changes, but for those of keys that were locked since they were asked for, or that others have set: they come into
- * `refused`. */
-static gboolean put_unlocked(Engine *self, DConfChangeset *changes, DConfChangeset *refused, DconfdbError *fault)
+/* Makes the changes that waited, but for those that are refused, or that others have set since: they come into `unmade`. What is to be
+ * told of that is in `refusal`, if it has a number. */
+static gboolean put_waiting(Engine *self, DConfChangeset *changes, DConfChangeset *unmade, DconfdbError *refusal, DconfdbError *fault)
 {
     DconfdbSnapshot *now = engine_look(self);
     Edits edits = edits_of(changes);
-    gboolean is_done;
-    leave_out(&edits, now);
-    while (!(is_done = put_waiting(self, &edits, refused, fault)) && fault->code == DCONFDB_ERROR_LOCKED && fault->edit < edits.edits->len) {
-        g_warning("failed to commit changes to dconf: %s", fault->text);
-        refuse_locked_edits(&edits, self, fault->edit, refused);
+    g_autofree DconfdbNewEdit *known = now ? known_of(&edits, now) : NULL;
+    gboolean is_done = known && dconfdb_is_there(known, edits.edits->len);
+    if (!is_done) {
+        if (known)
+            leave_out(&edits, known);
+        Batch batch = batch_of(self, &edits);
+        is_done = put_batch(self, &batch, unmade, refusal, fault);
+        batch_end(&batch);
     }
     edits_clear(&edits);
     dconfdb_snapshot_unref(now);
@@ -259,8 +279,8 @@ static DConfChangeset *take_waiting(Engine *self)
     return taken;
 }
 
-/* All of a set but what is refused. */
-static DConfChangeset *without(DConfChangeset *taken, DConfChangeset *refused)
+/* All of a set but what isn't made. */
+static DConfChangeset *without(DConfChangeset *taken, DConfChangeset *unmade)
 {
     const gchar *prefix, *const *paths;
     GVariant *const *values;
@@ -268,7 +288,7 @@ static DConfChangeset *without(DConfChangeset *taken, DConfChangeset *refused)
     guint count = dconf_changeset_describe(taken, &prefix, &paths, &values);
     for (guint i = 0; i < count; i++) {
         g_autofree gchar *path = g_strconcat(prefix, paths[i], NULL);
-        if (!dconf_changeset_get(refused, path, NULL))
+        if (!dconf_changeset_get(unmade, path, NULL))
             dconf_changeset_set(left, path, values[i]);
     }
     return left;
@@ -314,22 +334,22 @@ static gboolean write_waiting(Engine *self, DconfdbError *fault)
     DConfChangeset *taken = take_waiting(self);
     if (!taken)
         return TRUE;
-    g_autoptr(DConfChangeset) refused = dconf_changeset_new();
-    gboolean is_done = put_unlocked(self, taken, refused, fault);
-    if (!is_done && answer_of_fault(fault) == DCONFDB_QUEUE_LATER) {
-        put_back(self, taken, refused);
-        notice_changed(self, refused, NULL, FALSE);
+    DconfdbError refusal = DCONFDB_ERROR_INIT;
+    g_autoptr(DConfChangeset) unmade = dconf_changeset_new();
+    gboolean is_done = put_waiting(self, taken, unmade, &refusal, fault);
+    if (refusal.code != DCONFDB_ERROR_NONE)
+        g_warning("failed to commit changes to dconf: %s", refusal.text);
+    if (is_done) {
+        end_flying(self);
+        notice_others(self);
+        set_writing(self, NULL);
+        dconf_changeset_unref(taken);
+    } else {
+        put_back(self, taken, unmade);
         warn_of_waiting(self, fault);
-        return FALSE;
     }
-    end_flying(self);
-    notice_others(self);
-    set_writing(self, NULL);
-    if (!is_done)
-        g_warning("failed to commit changes to dconf: %s", fault->text);
-    notice_changed(self, is_done ? refused : taken, NULL, FALSE);
-    dconf_changeset_unref(taken);
-    return TRUE;
+    notice_changed(self, unmade, NULL, FALSE);
+    return is_done;
 }
 
 /* ---- `turn` isn't held */
@@ -411,26 +431,43 @@ static gboolean is_redundant(Engine *self, const DconfdbSnapshot *now, const Dco
     return dconfdb_snapshot_has_edit(now, edit);
 }
 
+/* `lock` is held. What becomes of the changes, as each may be made: whether anything is seen otherwise by them. */
+static uint32_t entry_of(Engine *self, const DconfdbSnapshot *now, const Edits *edits, DConfChangeset *changes)
+{
+    g_autofree DconfdbNewEdit *known = g_new0(DconfdbNewEdit, edits->edits->len);
+    for (guint at = 0; at < edits->edits->len; at++) {
+        const DconfdbEdit *edit = edit_at(edits, at);
+        g_autoptr(GVariant) value = NULL;
+        dconf_changeset_get(changes, edit->path, &value);
+        known[at].sets = value != NULL;
+        known[at].may = true;
+        known[at].is_same = is_redundant(self, now, edit, value);
+    }
+    return dconfdb_entry(known, edits->edits->len);
+}
+
+/* `lock` is held. They were asked for in this moment. */
+static void set_moments(Engine *self, const Edits *edits)
+{
+    uint64_t now = order_clock();
+    for (guint at = 0; at < edits->edits->len; at++) {
+        uint64_t *moment = g_new(uint64_t, 1);
+        *moment = now;
+        g_hash_table_replace(self->moments, g_strdup(edit_at(edits, at)->path), moment);
+    }
+}
+
 /* Lets the changes wait, and says whether they change anything. */
 static gboolean add_waiting(Engine *self, const DconfdbSnapshot *now, const Edits *edits, DConfChangeset *changes)
 {
-    gboolean changes_nothing = TRUE;
     g_mutex_lock(&self->lock);
-    for (guint at = 0; changes_nothing && at < edits->edits->len; at++) {
-        g_autoptr(GVariant) value = NULL;
-        dconf_changeset_get(changes, edit_at(edits, at)->path, &value);
-        changes_nothing = is_redundant(self, now, edit_at(edits, at), value);
-    }
+    uint32_t entry = entry_of(self, now, edits, changes);
     if (!self->waiting)
         self->waiting = dconf_changeset_new();
     dconf_changeset_change(self->waiting, changes);
-    for (guint at = 0; at < edits->edits->len; at++) {
-        uint64_t *moment = g_new(uint64_t, 1);
-        *moment = order_clock();
-        g_hash_table_replace(self->moments, g_strdup(edit_at(edits, at)->path), moment);
-    }
+    set_moments(self, edits);
     g_mutex_unlock(&self->lock);
-    return !changes_nothing;
+    return entry == DCONFDB_ENTRY_WAITS;
 }
 
 gboolean engine_change_fast(Engine *self, DConfChangeset *changes, GError **error)
@@ -457,21 +494,31 @@ static gchar *new_tag(void)
     return g_strdup_printf(":%d:dconfdb:%d", (int)getpid(), g_atomic_int_add(&count, 1));
 }
 
+/* Makes the changes, as far as they aren't there: what they change comes into `told`. */
+static gboolean put_news(Engine *self, DConfChangeset *changes, Edits *edits, const DconfdbSnapshot *now, DConfChangeset **told,
+                         DconfdbError *fault)
+{
+    g_autofree DconfdbNewEdit *known = known_of(edits, now);
+    bool has_user = engine_has_user(self), are_there = has_user && dconfdb_is_there(known, edits->edits->len);
+    *told = effective(edits, known, changes);
+    if (has_user)
+        leave_out(edits, known);
+    return are_there || put(self, edits, fault);
+}
+
 /* `turn` is held, and nothing waits. */
 static gboolean write_now(Engine *self, DConfChangeset *changes, Edits *edits, const gchar *tag, DconfdbError *fault)
 {
     DconfdbSnapshot *now = engine_look(self);
+    g_autoptr(DConfChangeset) told = NULL;
     const gchar *prefix;
-    if (engine_has_user(self))
-        leave_out(edits, now);
-    g_autoptr(DConfChangeset) told = effective(edits, now, changes);
     set_writing(self, changes);
-    gboolean is_done = put(self, edits, NULL, NULL, fault);
+    gboolean is_done = now ? put_news(self, changes, edits, now, &told, fault) : put(self, edits, fault);
     if (!is_done)
         set_writing(self, NULL);
     notice_others(self);
     set_writing(self, NULL);
-    if (is_done && dconf_changeset_describe(told, &prefix, NULL, NULL) > 0 && engine_is_watched(self, prefix))
+    if (is_done && told && dconf_changeset_describe(told, &prefix, NULL, NULL) > 0 && engine_is_watched(self, prefix))
         notice_changed(self, told, tag, FALSE);
     dconfdb_snapshot_unref(now);
     return is_done;

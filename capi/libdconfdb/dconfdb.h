@@ -266,8 +266,9 @@ DCONFDB_NODISCARD DCONFDB_API DconfdbSnapshot *dconfdb_store_snapshot(DconfdbSto
  * last asked for, or since the store was opened: what this call finds, and what a change in between
  * has read. That is another value at a path, a key that may be set and might not, or the other way
  * round, or a file that can't be read, or can again. A file that others replaced by one that says the
- * same is none of it, and the store's own edits don't count. False: it failed, and the newest snapshot
- * stays the newest. */
+ * same is none of it, and the store's own edits don't count. But a mapped file of more than 64 KiB that got
+ * another time where it lies, by `touch` as by who wrote over it, counts as changed: nobody has its old
+ * bytes. False: it failed, and the newest snapshot stays the newest. */
 DCONFDB_API bool dconfdb_store_refresh(DconfdbStore *store, bool *changed, DconfdbError *error)
     DCONFDB_NOEXCEPT DCONFDB_NONNULL((1));
 
@@ -289,8 +290,8 @@ DCONFDB_API const char *dconfdb_snapshot_file(const DconfdbSnapshot *snapshot, s
 DCONFDB_API bool dconfdb_snapshot_fault(const DconfdbSnapshot *snapshot, size_t database, DconfdbError *error)
     DCONFDB_NOEXCEPT DCONFDB_NONNULL((1));
 
-/* Whether the user's file is still the snapshot's, as far as one stat() can tell: by its device, inode, size
- * and time of writing. False if stat() fails. True if there is no user's database. */
+/* Whether the user's file is still the snapshot's, as far as one stat() can tell: by its device, inode, size,
+ * time of writing and time of change. False if stat() fails. True if there is no user's database. */
 DCONFDB_API bool dconfdb_snapshot_is_newest(const DconfdbSnapshot *snapshot) DCONFDB_NOEXCEPT DCONFDB_NONNULL((1));
 
 /* ---- dconfdb_snapshot_read: values, and what is locked */

@@ -25,8 +25,9 @@ bool locked_change(DconfdbStore *store, const FolderLock *lock, const DconfdbEdi
  * is made nobody else has a turn. */
 bool is_amid_change(const DconfdbStore *store);
 
-/* As dconfdb_store_refresh, but that it waits for no other thread's change: then it doesn't look. */
-bool refresh_unless_amid(DconfdbStore *store, bool *has_looked, DconfdbError *error);
+/* The newest snapshot after a look as dconfdb_store_refresh's, but that it waits for no other thread's change: then it doesn't look. NULL:
+ * the look failed. */
+DconfdbSnapshot *newest_unless_amid(DconfdbStore *store, bool *has_looked, DconfdbError *error);
 
 /* While edits wait: what others changed between two snapshots, which the next locked_change heeds. */
 void heed_others(DconfdbStore *store, const DconfdbSnapshot *before, const DconfdbSnapshot *after);

@@ -55,13 +55,10 @@ static bool set_clock(const Notices *it, int flags, struct timespec when)
     return timerfd_settime(it->clock, flags, &time, NULL) == 0;
 }
 
-/* For the next step: a look comes with the next dispatch, which is at once. */
-static bool set_clock_for_next(const Notices *it)
+/* At that moment, for the next step; 0 is none. */
+static bool set_clock_at(const Notices *it, int64_t due)
 {
-    int64_t until = 0;
-    if (watch_step(it->watch, &until) != WATCH_REST)
-        return set_clock(it, 0, at_once);
-    return set_clock(it, TFD_TIMER_ABSTIME, (struct timespec){until / SECOND, until % SECOND * NANOSECONDS});
+    return set_clock(it, TFD_TIMER_ABSTIME, (struct timespec){due / SECOND, due % SECOND * NANOSECONDS});
 }
 
 /* Watches the store's files. Where there was no inotify there may be by now. */
@@ -109,13 +106,27 @@ int dconfdb_store_fd(DconfdbStore *store, DconfdbError *error)
 
 /* ---- what is told */
 
+/* Of a snapshot from itself. */
+static char *no_differences(size_t *size, DconfdbError *error)
+{
+    char *none = malloc(1);
+    if (!none) {
+        refuse_memory(error);
+        return NULL;
+    }
+    *none = 0;
+    if (size)
+        *size = 0;
+    return none;
+}
+
 /* What differs from what was told last. Amid a change of another thread nobody looks. */
 static char *differences(Notices *it, DconfdbStore *store, bool *has_looked, size_t *size, DconfdbError *error)
 {
-    if (!refresh_unless_amid(store, has_looked, error))
+    DconfdbSnapshot *now = newest_unless_amid(store, has_looked, error);
+    if (!now)
         return NULL;
-    DconfdbSnapshot *now = dconfdb_store_snapshot(store);
-    char *paths = dconfdb_snapshot_differences(now, it->told, size, error);
+    char *paths = now == it->told ? no_differences(size, error) : dconfdb_snapshot_differences(now, it->told, size, error);
     dconfdb_snapshot_unref(paths ? it->told : now);
     if (paths)
         it->told = now;
@@ -126,21 +137,16 @@ static char *differences(Notices *it, DconfdbStore *store, bool *has_looked, siz
  * that the file stays readable. */
 static char *look(Notices *it, DconfdbStore *store, size_t *size, DconfdbError *error)
 {
-    int64_t until = 0;
     if (!set_clock(it, 0, a_second)) {
         refuse_file(error, errno, dconfdb_store_folder(store), nowhere);
         return NULL;
     }
-    watch_hear(it->watch);
-    if (watch_step(it->watch, &until) == WATCH_REST)
-        watch_tell(it->watch, WATCHED_DATABASE);
-    if (watch_step(it->watch, &until) == WATCH_FILES)
+    if (watch_ask(it->watch) == WATCH_FILES)
         watch_anew(it, store);
     bool has_looked = false;
     char *paths = differences(it, store, &has_looked, size, error);
-    watch_answer(it->watch, paths && has_looked);
     /* If it can't be set for that it is readable after the second. */
-    (void)set_clock_for_next(it);
+    (void)set_clock_at(it, watch_answer(it->watch, paths && has_looked));
     return paths;
 }
 

@@ -15,12 +15,18 @@ typedef struct {
  * failed, and there is nothing to release. */
 bool place_find(const char *folder, StorePlace *place, DconfdbError *error);
 
+/* The same, but that a folder that is given has its own profile, whatever $DCONFDB_PROFILE names. */
+bool place_of_caller(const char *folder, StorePlace *place, DconfdbError *error);
+
 void place_release(StorePlace *place);
 
 /* dconfdb_store_open_lenient and dconfdb_store_files, of a place. Where the profile is named, and can't be had, there
  * is no database. `are_all` is false where the profile can't be read now, and may name others. */
 DconfdbStore *place_open(const StorePlace *place, DconfdbError *error);
 char *place_files(const StorePlace *place, bool *are_all, DconfdbError *error);
+
+/* False: the profile that is named couldn't be had. */
+bool place_has_profile(const DconfdbStore *store);
 
 /* Where an open store is. It isn't to be released. */
 const StorePlace *place_of(const DconfdbStore *store);

@@ -1,7 +1,12 @@
 /* What is in a value, and the value of a text, over the proved calls. */
+#define _DEFAULT_SOURCE
+#define _POSIX_C_SOURCE 200809L
+#define _FILE_OFFSET_BITS 64
 #include "dconfdb.h"
 #include "dconfdb_calls.h"
 #include "errors.h"
+#include "snapshot.h"
+#include "texts.h"
 
 #include <stddef.h>
 #include <stdlib.h>
@@ -146,4 +151,16 @@ bool dconfdb_value_parse(const char *text, DconfdbValue *value, DconfdbError *er
         free(room);
     } while (number == DCONFDB_OK);
     return refuse_text(error, number, start, end);
+}
+
+static uint32_t prints_value(const DconfdbSnapshot *snapshot, const void *of, uint8_t *room, size_t room_len, size_t *len)
+{
+    const DconfdbValue *value = of;
+    (void)snapshot;
+    return dconfdb_print_value(bytes_of(value->type), value->type_size, value->data, value->size, room, room_len, len);
+}
+
+char *dconfdb_value_print(const DconfdbValue *value, DconfdbError *error)
+{
+    return snapshot_listed(prints_value, NULL, value, "the value", NULL, error);
 }

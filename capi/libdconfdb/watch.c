@@ -18,16 +18,32 @@ enum { SECOND = 1000000, NANOSECONDS = 1000, MOST_LINKS = 40, PROFILES = 2 };
 
 static const char busy[] = "/etc";
 
-/* What happens to a name: a file is replaced, or has been written, closed to others or opened; a link or a folder is made. What is
- * written beside it, as NAME.new, wakes nobody before it is whole. And what happens to a folder itself. */
+/* What inotify is asked for, by what is watched. What is written beside a file, as NAME.new, wakes nobody before it is whole. */
 #define OF_FILES (IN_CLOSE_WRITE | IN_ATTRIB | IN_MOVED_FROM | IN_MOVED_TO | IN_DELETE)
 #define OF_NAMES (IN_CREATE | IN_MOVED_FROM | IN_MOVED_TO | IN_DELETE)
-#define OF_ITSELF (IN_MOVE_SELF | IN_DELETE_SELF)
+static const uint32_t asked[] = {
+    [DCONFDB_WATCH_ITSELF] = IN_MOVE_SELF | IN_DELETE_SELF,
+    [DCONFDB_WATCH_PASSAGE] = OF_NAMES,
+    [DCONFDB_WATCH_OWN] = OF_FILES,
+    [DCONFDB_WATCH_AWAITED] = OF_FILES | IN_CREATE,
+};
+
+/* What it tells. */
+static const struct {
+    uint32_t mask, event;
+} told[] = {
+    {IN_Q_OVERFLOW | IN_UNMOUNT, DCONFDB_EVENT_LOST},
+    {IN_MOVED_FROM | IN_DELETE, DCONFDB_EVENT_WENT},
+    {IN_CREATE, DCONFDB_EVENT_MADE},
+    {IN_MOVED_TO, DCONFDB_EVENT_CAME},
+    {IN_CLOSE_WRITE, DCONFDB_EVENT_WRITTEN},
+    {IN_ATTRIB, DCONFDB_EVENT_ACCESS},
+    {IN_MOVE_SELF | IN_DELETE_SELF, DCONFDB_EVENT_GONE},
+};
 
 typedef struct {
     int number; /* inotify's, of a folder */
-    uint32_t what;
-    WatchedKind kind;
+    DconfdbWatchedName name;
     char *path; /* a name in the folder; NULL: the folder itself */
 } Watched;
 
@@ -91,33 +107,46 @@ static bool is_watched(const Watch *watch, const Watched *wanted)
     for (size_t i = 0; i < watch->count; i++) {
         const Watched *one = &watch->all[i];
         bool is_same = one->path && wanted->path ? strcmp(one->path, wanted->path) == 0 : one->path == wanted->path;
-        if (is_same && one->number == wanted->number && one->what == wanted->what && one->kind == wanted->kind)
+        if (is_same && one->number == wanted->number && one->name.watch == wanted->name.watch && one->name.comes == wanted->name.comes)
             return true;
     }
     return false;
 }
 
 /* A folder above the files may be closed to us: then it isn't known when it is moved. */
-static void watch_one(Watch *watch, const char *folder, char *path, uint32_t what, WatchedKind kind)
+static void watch_one(Watch *watch, const char *folder, char *path, const DconfdbWatchedName *name)
 {
-    int number = inotify_add_watch(watch->inotify, folder, what | IN_MASK_ADD | IN_ONLYDIR);
-    if (is_watched(watch, &(Watched){number, what, kind, path}))
+    int number = inotify_add_watch(watch->inotify, folder, asked[name->watch] | IN_MASK_ADD | IN_ONLYDIR);
+    if (is_watched(watch, &(Watched){number, *name, path}))
         return;
     char *kept = path && number >= 0 ? strdup(path) : NULL;
     bool is_had = number >= 0 && (kept || !path) && grow(watch);
     if (is_had)
-        watch->all[watch->count++] = (Watched){number, what, kind, kept};
+        watch->all[watch->count++] = (Watched){number, *name, kept};
     else
         free(kept);
     if (!is_had && path)
         watch->is_whole = false;
 }
 
+/* What stands at a path. */
+static uint32_t found_at(const char *path)
+{
+    struct stat found;
+    if (lstat(path, &found) != 0)
+        return DCONFDB_FOUND_NOTHING;
+    if (S_ISLNK(found.st_mode))
+        return DCONFDB_FOUND_LINK;
+    if (S_ISDIR(found.st_mode))
+        return DCONFDB_FOUND_FOLDER;
+    return S_ISREG(found.st_mode) && found.st_nlink == 1 ? DCONFDB_FOUND_FILE : DCONFDB_FOUND_OTHER;
+}
+
 /* A path on the way to a file. */
 typedef struct {
     char folder[PATH_MAX];   /* so far; there is no link in it, and it is empty for `/` */
     char rest[2 * PATH_MAX]; /* behind that */
-    WatchedKind kind;
+    uint32_t role;           /* what is heard if the file changes */
     int links;
 } Way;
 
@@ -138,11 +167,22 @@ static bool follow(Way *way, const char *link, const char *behind)
     return true;
 }
 
-/* One name of a path, and those behind it. True: the path goes on, in a folder, or where a link leads. Where a folder is missing
- * its name is waited for. */
+/* Much happens in /etc. */
+static bool is_busy(const Watch *watch, const char *folder)
+{
+    return !watch->minds_etc && strcmp(folder, busy) == 0;
+}
+
+static void enter(Way *way, const char *path, const char *behind)
+{
+    snprintf(way->folder, sizeof way->folder, "%s", path);
+    memmove(way->rest, behind, strlen(behind) + 1);
+}
+
+/* One name of a path, and those behind it. True: the path goes on. */
 static bool watch_name(Watch *watch, Way *way, const char *name, size_t len, const char *behind)
 {
-    struct stat found;
+    DconfdbWatchedName watched;
     char path[PATH_MAX];
     const char *folder = *way->folder ? way->folder : "/";
     int size = snprintf(path, sizeof path, "%s/%.*s", way->folder, (int)len, name);
@@ -150,22 +190,16 @@ static bool watch_name(Watch *watch, Way *way, const char *name, size_t len, con
         watch->is_whole = false;
         return false;
     }
-    bool is_there = lstat(path, &found) == 0, is_last = *behind == 0;
-    bool is_link = is_there && S_ISLNK(found.st_mode), is_folder = is_there && S_ISDIR(found.st_mode) && !is_last;
-    bool is_missing = !is_there && (watch->minds_etc || strcmp(folder, busy) != 0);
-    if (is_last)
-        watch_one(watch, folder, path, OF_FILES | (is_there && !is_link ? 0U : (uint32_t)IN_CREATE), is_link ? WATCHED_FOLDER : way->kind);
-    else if (is_link || is_missing)
-        watch_one(watch, folder, path, OF_NAMES, WATCHED_FOLDER);
-    else if (is_folder && (watch->minds_etc || strcmp(path, busy) != 0))
-        watch_one(watch, path, NULL, OF_ITSELF, WATCHED_FOLDER);
-    if (is_link)
+    dconfdb_watched_name(found_at(path), *behind == 0, is_busy(watch, folder), is_busy(watch, path), way->role, &watched);
+    if (watched.watch == DCONFDB_WATCH_ITSELF)
+        watch_one(watch, path, NULL, &watched);
+    else if (watched.watch != DCONFDB_WATCH_NOTHING)
+        watch_one(watch, folder, path, &watched);
+    if (watched.way == DCONFDB_WAY_FOLLOWS)
         return follow(way, path, behind);
-    if (is_folder) {
-        memcpy(way->folder, path, (size_t)size + 1);
-        memmove(way->rest, behind, strlen(behind) + 1);
-    }
-    return is_folder;
+    if (watched.way == DCONFDB_WAY_ENTERS)
+        enter(way, path, behind);
+    return watched.way == DCONFDB_WAY_ENTERS;
 }
 
 static void go_up(Way *way, const char *behind)
@@ -177,9 +211,9 @@ static void go_up(Way *way, const char *behind)
 }
 
 /* The folders on the way to a file, each link of it, and the file's own name. */
-static void watch_path(Watch *watch, const char *path, WatchedKind kind)
+static void watch_path(Watch *watch, const char *path, uint32_t role)
 {
-    Way way = {.folder = "", .kind = kind};
+    Way way = {.folder = "", .role = role};
     int size = snprintf(way.rest, sizeof way.rest, "%s", path);
     bool goes_on = size >= 0 && (size_t)size < sizeof way.rest;
     if (!goes_on)
@@ -206,7 +240,7 @@ static void watch_all(Watch *watch, const char *files, int profiles)
         int count = 0;
         watch->is_whole = true;
         for (const char *at = files; *at; at += strlen(at) + 1)
-            watch_path(watch, at, count++ < profiles ? WATCHED_FOLDER : WATCHED_DATABASE);
+            watch_path(watch, at, count++ < profiles ? DCONFDB_NOTICE_FOLDER : DCONFDB_NOTICE_FILE);
     }
 }
 
@@ -243,77 +277,62 @@ bool watch_is_whole(const Watch *watch)
 
 /* ---- what happened */
 
-/* A new file is written after its name comes: another event says when it has been. A link is whole at once. */
-static bool is_whole_file(const char *path)
+static uint32_t event_of(uint32_t mask)
 {
-    struct stat found;
-    return lstat(path, &found) == 0 && (!S_ISREG(found.st_mode) || found.st_nlink > 1);
+    for (size_t i = 0; i < sizeof told / sizeof told[0]; i++)
+        if ((mask & told[i].mask) != 0)
+            return told[i].event;
+    return DCONFDB_EVENT_OTHER;
 }
 
-static bool is_of(const Watched *one, const struct inotify_event *event)
+/* To what of a name that is watched an event happened. */
+static uint32_t of_what(const Watched *one, const struct inotify_event *event)
 {
-    if (one->number != event->wd || (event->mask & one->what) == 0)
-        return false;
-    if (!one->path)
-        return (event->mask & OF_ITSELF) != 0;
     if (event->len == 0)
-        return (event->mask & IN_ATTRIB) != 0;
-    if (strcmp(strrchr(one->path, '/') + 1, event->name) != 0)
-        return false;
-    return (event->mask & IN_CREATE) == 0 || is_whole_file(one->path);
+        return DCONFDB_OF_FOLDER;
+    return one->path && strcmp(strrchr(one->path, '/') + 1, event->name) == 0 ? DCONFDB_OF_NAME : DCONFDB_OF_ANOTHER;
 }
 
-static bool has_link(const char *path)
+/* What is heard at one that is watched, after that. */
+static uint32_t hear_one(const Watched *one, const struct inotify_event *event, uint32_t before)
 {
-    struct stat found;
-    return lstat(path, &found) == 0 && S_ISLNK(found.st_mode);
+    uint32_t of = of_what(one, event), found = of == DCONFDB_OF_NAME ? found_at(one->path) : DCONFDB_FOUND_NOTHING;
+    return dconfdb_heard(before, one->name.watch, one->name.comes, event_of(event->mask), of, found);
 }
 
-/* Where a name goes, or a link comes, another name is on the way to the file; or it is waited for otherwise. */
-static WatchedKind kind_by(const Watched *one, const struct inotify_event *event)
+/* What is heard of an event, after that: of one that isn't of a folder, by none that is watched. */
+static uint32_t hear_event(const Watch *watch, const struct inotify_event *event, uint32_t before)
 {
-    if ((event->mask & (IN_MOVED_FROM | IN_DELETE)) != 0 || event->len == 0)
-        return WATCHED_FOLDER;
-    return (event->mask & (IN_CREATE | IN_MOVED_TO)) != 0 && has_link(one->path) ? WATCHED_FOLDER : one->kind;
+    uint32_t heard = dconfdb_heard(before, DCONFDB_WATCH_NOTHING, DCONFDB_NOTICE_NOTHING, event_of(event->mask), DCONFDB_OF_ANOTHER, DCONFDB_FOUND_NOTHING);
+    for (size_t i = 0; i < watch->count; i++)
+        if (watch->all[i].number == event->wd)
+            heard = hear_one(&watch->all[i], event, heard);
+    return heard;
 }
 
-static WatchedKind kind_of(const Watch *watch, const struct inotify_event *event)
+/* What is heard of these events, which stand one behind another. */
+static uint32_t hear_all(const Watch *watch, const char *room, size_t len, uint32_t before)
 {
-    WatchedKind kind = (event->mask & (IN_Q_OVERFLOW | IN_UNMOUNT)) != 0 ? WATCHED_FOLDER : WATCHED_NOTHING;
-    for (size_t i = 0; i < watch->count; i++) {
-        const Watched *one = &watch->all[i];
-        WatchedKind of_one = kind < WATCHED_FOLDER && is_of(one, event) ? kind_by(one, event) : WATCHED_NOTHING;
-        kind = of_one > kind ? of_one : kind;
-    }
-    return kind;
-}
-
-/* What these events say, which stand one behind another. */
-static WatchedKind kind_in(const Watch *watch, const char *room, size_t len)
-{
-    WatchedKind kind = WATCHED_NOTHING;
+    uint32_t heard = before;
     for (size_t at = 0; at < len;) {
         const struct inotify_event *event = (const void *)(room + at);
-        WatchedKind of_event = kind_of(watch, event);
-        kind = of_event > kind ? of_event : kind;
+        heard = hear_event(watch, event, heard);
         at += sizeof *event + event->len;
     }
-    return kind;
+    return heard;
 }
 
 /* What happened since the last time. No thread is cancelled amid it. */
-static WatchedKind read_events(const Watch *watch)
+static uint32_t read_events(const Watch *watch)
 {
     _Alignas(struct inotify_event) char room[16384];
-    WatchedKind kind = WATCHED_NOTHING;
+    uint32_t heard = DCONFDB_NOTICE_NOTHING;
     ssize_t len;
     int cancels = hold_cancellation();
-    while ((len = read(watch->inotify, room, sizeof room)) > 0) {
-        WatchedKind of_room = kind_in(watch, room, (size_t)len);
-        kind = of_room > kind ? of_room : kind;
-    }
+    while ((len = read(watch->inotify, room, sizeof room)) > 0)
+        heard = hear_all(watch, room, (size_t)len, heard);
     cancel_as_before(cancels);
-    return kind;
+    return heard;
 }
 
 static bool has_events(const Watch *watch)
@@ -337,34 +356,57 @@ static uint64_t time_now(void)
     return (uint64_t)now.tv_sec * SECOND + (uint64_t)now.tv_nsec / NANOSECONDS;
 }
 
-WatchStep watch_step(const Watch *watch, int64_t *until)
+/* As far as timers go. */
+static int64_t moment_of(uint64_t moment)
+{
+    return moment > INT64_MAX ? INT64_MAX : (int64_t)moment;
+}
+
+static WatchStep step_of(uint32_t step)
 {
     static const WatchStep steps[] = {[DCONFDB_NOTICE_WATCH] = WATCH_FILES, [DCONFDB_NOTICE_LOOK] = WATCH_LOOK, [DCONFDB_NOTICE_REST] = WATCH_REST};
-    uint64_t moment = 0;
-    uint32_t step = dconfdb_notice_next(&watch->notice, &moment);
-    *until = moment > INT64_MAX ? INT64_MAX : (int64_t)moment;
     return steps[step];
 }
 
-void watch_answer(Watch *watch, bool yes)
+WatchStep watch_step(const Watch *watch, int64_t *until)
 {
-    dconfdb_notice_answered(&watch->notice, yes, time_now());
+    uint64_t moment = 0;
+    uint32_t step = dconfdb_notice_next(&watch->notice, &moment);
+    *until = moment_of(moment);
+    return step_of(step);
 }
 
-void watch_tell(Watch *watch, WatchedKind kind)
+int64_t watch_answer(Watch *watch, bool yes)
 {
-    if (kind != WATCHED_NOTHING)
-        dconfdb_notice_told(&watch->notice, kind == WATCHED_FOLDER ? DCONFDB_NOTICE_FOLDER : DCONFDB_NOTICE_FILE, time_now());
+    return moment_of(dconfdb_notice_answered(&watch->notice, yes, time_now()));
 }
 
-void watch_pass_time(Watch *watch)
+int64_t watch_due(const Watch *watch, bool listens)
 {
-    dconfdb_notice_told(&watch->notice, DCONFDB_NOTICE_TIME, time_now());
+    return moment_of(dconfdb_notice_due(&watch->notice, listens));
+}
+
+static uint32_t heard(const Watch *watch)
+{
+    return has_events(watch) ? read_events(watch) : DCONFDB_NOTICE_NOTHING;
 }
 
 void watch_hear(Watch *watch)
 {
-    if (has_events(watch))
-        watch_tell(watch, read_events(watch));
-    watch_pass_time(watch);
+    dconfdb_notice_heard(&watch->notice, heard(watch), time_now());
+}
+
+WatchStep watch_ask(Watch *watch)
+{
+    return step_of(dconfdb_notice_asked(&watch->notice, heard(watch), time_now()));
+}
+
+void watch_pass_time(Watch *watch, bool listens)
+{
+    dconfdb_notice_passed(&watch->notice, listens, time_now());
+}
+
+void watch_opened_anew(Watch *watch)
+{
+    dconfdb_notice_opened_anew(&watch->notice, time_now());
 }

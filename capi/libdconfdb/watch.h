@@ -8,9 +8,6 @@
 #include <stdbool.h>
 #include <stdint.h>
 
-/* What a name is to the store: where a folder, a link or a profile changes, other files may be the store's. */
-typedef enum { WATCHED_NOTHING, WATCHED_DATABASE, WATCHED_FOLDER } WatchedKind;
-
 /* What comes next, as the proved machine says. */
 typedef enum { WATCH_FILES, WATCH_LOOK, WATCH_REST } WatchStep;
 
@@ -23,16 +20,21 @@ void watch_free(Watch *watch);
 
 /* The next step: the caller carries it out, and answers. WATCH_FILES is to be answered by what watch_files or watch_begin give,
  * WATCH_LOOK by whether the look at the files succeeded. While it rests watch_hear or watch_pass_time are called when something
- * happened, or at `until`, in microseconds of the monotonic clock; 0: inotify tells. */
+ * happened, or at `until`, in microseconds of the monotonic clock; 0: inotify tells. An answer gives when the next step is due: 0 is
+ * no moment, and a moment that is over is at once. */
 WatchStep watch_step(const Watch *watch, int64_t *until);
-void watch_answer(Watch *watch, bool yes);
+int64_t watch_answer(Watch *watch, bool yes);
 
-/* Takes what inotify tells, and what the time is; or only that. */
+/* Takes what inotify tells, and what the time is; or the same, as somebody asks for a look: then the step is no rest. */
 void watch_hear(Watch *watch);
-void watch_pass_time(Watch *watch);
+WatchStep watch_ask(Watch *watch);
 
-/* Somebody asks for a look; or other files may be the store's. */
-void watch_tell(Watch *watch, WatchedKind kind);
+/* Takes what the time is; and when a step is due by time. Where not all is watched, only a listener minds. */
+void watch_pass_time(Watch *watch, bool listens);
+int64_t watch_due(const Watch *watch, bool listens);
+
+/* Other files are the store's, which was opened anew. */
+void watch_opened_anew(Watch *watch);
 
 /* Watches these files, and nothing else; a zero byte is after each, and one more. The first ones are so many profiles. False: not
  * all can be watched; NULL, none. What happened before is to be looked for. */

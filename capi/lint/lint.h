@@ -108,15 +108,16 @@ bool is_of_folder(const Asked *one, const Asked *other);
 
 bool is_same_file(const Asked *one, const Asked *other);
 
-/* ---- texts.c, database.c: what stands in a file */
+/* ---- texts.c, database.c, profiles.c: what stands in a file */
 
 void check_keyfile(const Lint *lint, const char *file, const char *text, size_t len);
 void check_locks(const Lint *lint, const char *file, const char *text, size_t len);
 void check_database(const Lint *lint, const char *file, FileBytes *bytes);
+void check_profile(const Asked *asked, const char *text, size_t len);
 
-/* What a text is, by the first line that begins with `[`, or with `/`. One of comments alone is empty, and
- * a keyfile without keys. */
-typedef enum { KEYFILE, LOCKS, EMPTY, NEITHER } TextKind;
+/* What a text is, by the first line that begins with `[`, or with `/`; or, if its first line names a database, a profile. One of comments
+ * alone is empty, and a keyfile without keys. */
+typedef enum { KEYFILE, LOCKS, PROFILE, EMPTY, NEITHER } TextKind;
 
 TextKind kind_of_text(const char *text, size_t len);
 

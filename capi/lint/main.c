@@ -47,7 +47,7 @@ static int read_file(const char *file, FileBytes *bytes, FileState *state)
 
 static void find_neither(const char *file)
 {
-    find((Place){file, 0}, "it is neither a keyfile, nor a file of locks, nor a database");
+    find((Place){file, 0}, "it is neither a keyfile, nor a file of locks, nor a profile, nor a database");
 }
 
 /* `update` takes what is in its folders for keyfiles and for locks, whatever stands there. */
@@ -58,6 +58,8 @@ static void check_text(const Lint *lint, const Asked *asked, const FileBytes *by
     bool is_binary = bytes->len > 0 && memchr(text, 0, bytes->len);
     if (kind == NEITHER && (is_binary || asked->role == BY_ITS_TEXT))
         find_neither(asked->file);
+    else if (asked->role == BY_ITS_TEXT && kind == PROFILE)
+        check_profile(asked, text, bytes->len);
     else if (asked->role == LOCK_SOURCE || (asked->role != SOURCE && kind == LOCKS))
         check_locks(lint, asked->file, text, bytes->len);
     else

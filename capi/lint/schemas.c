@@ -1,6 +1,8 @@
 /* Which keys the installed schemas have, by their paths. */
 #include "lint.h"
 
+#include "dconfdb_calls.h"
+
 #include <string.h>
 
 struct Schemas {
@@ -137,7 +139,8 @@ const char *schemas_place(Schemas *schemas, const char *words)
     if (!path)
         return "there is no ':' between a schema and a path";
     path++;
-    if (path[0] != '/' || !g_str_has_suffix(path, "/") || strstr(path, "//"))
+    bool is_short;
+    if (dconfdb_path_kind((const uint8_t *)path, strlen(path), &is_short) != DCONFDB_PATH_DIRECTORY)
         return "the path is not a directory's";
     char *id = g_strndup(words, (size_t)(path - 1 - words));
     GSettingsSchema *schema = g_settings_schema_source_lookup(schemas->source, id, TRUE);

@@ -3,9 +3,9 @@
 #define _GNU_SOURCE
 #include "lint.h"
 
-#include <string.h>
+#include "dconfdb_calls.h"
 
-enum { LONGEST_PATH = 65535 };
+#include <string.h>
 
 /* A part of a text, without a zero byte at its end. */
 typedef struct {
@@ -28,9 +28,17 @@ static bool has(Part part, char c)
     return part.len > 0 && memchr(part.at, c, part.len) != NULL;
 }
 
-static bool has_double_slash(Part part)
+static const uint8_t *bytes_in(Part part)
 {
-    return part.len > 0 && memmem(part.at, part.len, "//", 2) != NULL;
+    return part.len > 0 ? (const uint8_t *)part.at : dconfdb_empty_file;
+}
+
+/* Whether a text that starts with a slash is a path, of a key or of a directory. */
+static bool is_path(Part part)
+{
+    bool is_short = false;
+    uint32_t kind = dconfdb_path_kind(bytes_in(part), part.len, &is_short);
+    return is_short && (kind == DCONFDB_PATH_KEY || kind == DCONFDB_PATH_DIRECTORY);
 }
 
 /* The next line, without its line feed. False: there is none. What follows the last line feed is a line, too, unless
@@ -76,6 +84,15 @@ static bool is_utf8(Part part)
     return part.len == 0 || g_utf8_validate(part.at, (gssize)part.len, NULL);
 }
 
+static bool names_database(Part line)
+{
+    static const char *const kinds[] = {"user-db:", "system-db:", "file-db:", "service-db:"};
+    bool names = false;
+    for (size_t i = 0; !names && i < G_N_ELEMENTS(kinds); i++)
+        names = line.len >= strlen(kinds[i]) && memcmp(line.at, kinds[i], strlen(kinds[i])) == 0;
+    return names;
+}
+
 TextKind kind_of_text(const char *text, size_t len)
 {
     TextKind kind = EMPTY;
@@ -88,6 +105,8 @@ TextKind kind_of_text(const char *text, size_t len)
             return KEYFILE;
         if (begins(line, '/'))
             return LOCKS;
+        if (kind == EMPTY && names_database(trimmed))
+            return PROFILE;
         if (trimmed.len > 0 && trimmed.at[0] != '#')
             kind = NEITHER;
     }
@@ -111,7 +130,7 @@ static bool is_group(Part part)
 {
     if (part.len == 1 && part.at[0] == '/')
         return true;
-    return part.len > 0 && !begins(part, '/') && !ends(part, '/') && !has_double_slash(part) && is_plain(part);
+    return dconfdb_relative_kind(bytes_in(part), part.len) == DCONFDB_PATH_KEY && is_plain(part);
 }
 
 /* A keyfile, as far as it is read. */
@@ -150,7 +169,7 @@ static GVariant *value_of(Place at, const char *path, Part text)
 static void read_row(const Reading *reading, Part key, Part text)
 {
     char *path = g_strdup_printf("%s%.*s", reading->directory, (int)key.len, key.at);
-    if (strlen(path) > LONGEST_PATH) {
+    if (!is_path((Part){path, strlen(path)})) {
         find(reading->at, "TooLong: the path of the key has more than 65,535 bytes");
     } else {
         GVariant *value = value_of(reading->at, path, text);
@@ -212,7 +231,7 @@ static void read_lock(const Lint *lint, Place at, Part line)
     } else if (!begins(line, '/')) {
         if (trimmed.len > 0 && !begins(trimmed, '#'))
             find(at, "the line locks nothing: it doesn't start with '/'");
-    } else if (has(line, 0) || has_double_slash(line) || line.len > LONGEST_PATH) {
+    } else if (!is_path(line)) {
         find(at, "LockNotKey: the line starts with '/' and is not a path");
     } else {
         char *path = g_strndup(line.at, line.len);

@@ -269,8 +269,29 @@ static void leaves_rights(void)
     TRY(syscall(SYS_capset, &head, rights) == 0);
 }
 
+static bool has_news(DconfdbStore *store)
+{
+    bool changed = false;
+    TRY(dconfdb_store_refresh(store, &changed, &error));
+    return changed;
+}
+
+/* A site's file is read no longer, once it may not be, and again once it may. Other bits are no news, nor is another time. */
+static void tries_file_that_is_closed(void)
+{
+    DconfdbStore *store = opens(), *strict = dconfdb_store_open(".", &error);
+    TRY(strict && chmod("site.db", 0640) == 0 && !has_news(store) && utimensat(AT_FDCWD, "site.db", NULL, 0) == 0 && !has_news(store));
+    TRY(chmod("site.db", 0) == 0 && has_news(store) && has_fault(store, 1, "Permission denied", "kept nothing of it") && !has_news(store));
+    TRY(!dconfdb_store_refresh(strict, NULL, &error) && error.errnum == EACCES);
+    TRY(chmod("site.db", 0644) == 0 && has_news(store) && has_fault(store, 1, NULL, NULL) && !has_news(store));
+    TRY(dconfdb_store_refresh(strict, NULL, &error));
+    dconfdb_store_close(strict);
+    dconfdb_store_close(store);
+}
+
 static void tries_closed_files(void)
 {
+    tries_file_that_is_closed();
     writes("me.user", "", 0);
     TRY(chmod("me.user", 0) == 0);
     DconfdbStore *store = opens();

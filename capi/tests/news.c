@@ -59,6 +59,10 @@ static void tries_own(DconfdbStore *store)
     TRY(utimensat(AT_FDCWD, "me.user", NULL, 0) == 0 && !has_news(store));
     copies("me.user", "copied");
     TRY(rename("copied", "me.user") == 0 && !has_news(store));
+    TRY(utimensat(AT_FDCWD, "site.db", NULL, 0) == 0 && !has_news(store));
+    copies("site.db", "copied");
+    copies("copied", "site.db");
+    TRY(!has_news(store));
     fails = true;
     TRY(!changes(store, "/k", "two") && error.outcome == DCONFDB_OUTCOME_EITHER);
     fails = false;

@@ -3,6 +3,7 @@
 #include "dconfdb.h"
 #include "dconfdb_calls.h"
 #include "place.h"
+#include "seen.h"
 #include "watch.h"
 
 #include <errno.h>
@@ -14,7 +15,7 @@
 #include <string.h>
 #include <time.h>
 
-enum { LONGEST_PATH = 65535, PROFILES = 2 };
+enum { PROFILES = 2 };
 enum { SECOND = 1000000, NANOSECONDS = 1000 };
 
 /* Of share/help/commands, by capi/command. */
@@ -65,24 +66,10 @@ static void warn_of_faults(Watching *watch, const DconfdbSnapshot *now)
 
 /* ---- what is told */
 
-static bool is_asked(const char *path, const char *asked)
-{
-    size_t len = strlen(asked);
-    return strcmp(path, asked) == 0 || (asked[len - 1] == '/' && strncmp(path, asked, len) == 0);
-}
-
-/* The same bytes: what differs is a lock. */
-static bool is_same(const DconfdbValue *one, const DconfdbValue *other)
-{
-    return one->size == other->size && one->type_size == other->type_size && memcmp(one->data, other->data, one->size) == 0
-        && memcmp(one->type, other->type, one->type_size) == 0;
-}
-
+/* Of a key that differs, by its lock or its value. */
 static bool is_seen_otherwise(const DconfdbSnapshot *now, const DconfdbSnapshot *before, const char *path)
 {
-    DconfdbValue value, old;
-    bool is = dconfdb_snapshot_read(now, path, &value), was = dconfdb_snapshot_read(before, path, &old);
-    return is != was || (is && !is_same(&value, &old));
+    return !seen_is_alike((SeenBy){before, NULL}, (SeenBy){now, NULL}, path, NULL);
 }
 
 static uint32_t print_into(const DconfdbValue *value, char *room, size_t room_len, size_t *len)
@@ -128,7 +115,7 @@ static bool tell(const Watching *watch, const DconfdbSnapshot *now, DconfdbError
     if (!paths)
         return false;
     for (const char *at = paths; is_told && *at; at += strlen(at) + 1) {
-        if (is_asked(at, watch->path) && is_seen_otherwise(now, watch->before, at)) {
+        if (path_covers(watch->path, at) && is_seen_otherwise(now, watch->before, at)) {
             is_told = put_key(now, at);
             any = any || is_told;
         }
@@ -215,7 +202,7 @@ static void rest(Watching *watch, int64_t until)
     if (poll(&file, 1, !ends ? -1 : wait > INT_MAX ? INT_MAX : (int)wait) > 0)
         watch_hear(watch->names);
     else
-        watch_pass_time(watch->names);
+        watch_pass_time(watch->names, true);
 }
 
 /* The next step. */
@@ -246,8 +233,9 @@ static int watch_until_interrupted(Watching *watch)
 static bool has_named_profile(const Watching *watch)
 {
     DconfdbError fault = DCONFDB_ERROR_INIT;
-    if (!watch->place.profile || !dconfdb_store_profile_fault(watch->store, &fault) || fault.code != DCONFDB_ERROR_FILE)
+    if (place_has_profile(watch->store))
         return true;
+    dconfdb_store_profile_fault(watch->store, &fault);
     fprintf(stderr, "error: %s %s\n", fault.errnum == ENOENT ? "NoFile" : "Device", watch->place.profile);
     return false;
 }
@@ -301,11 +289,13 @@ static int start_at(const char *folder, Watching *watch)
 
 static const char *fault_of_path(const char *path)
 {
-    if (path[0] != '/')
+    bool is_short = false;
+    uint32_t kind = dconfdb_path_kind((const uint8_t *)path, strlen(path), &is_short);
+    if (kind == DCONFDB_PATH_NOT_ABSOLUTE)
         return "NotAbsolute";
-    if (strstr(path, "//"))
+    if (kind == DCONFDB_PATH_DOUBLE_SLASH)
         return "DoubleSlash";
-    return strlen(path) > LONGEST_PATH ? "TooLong" : NULL;
+    return is_short ? NULL : "TooLong";
 }
 
 static int refuse_words(const char *why)

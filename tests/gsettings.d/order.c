@@ -3,7 +3,8 @@
  *   order NAME [MILLISECONDS]   sets the size, and so many milliseconds later the name (at once, and no size, where none are given); says
  *                               so, and then which keys change, until stdin ends
  */
-#include <gio/gio.h>
+#include "told.h"
+
 #include <poll.h>
 #include <stdbool.h>
 #include <stdio.h>
@@ -11,16 +12,6 @@
 #include <unistd.h>
 
 enum { PAUSE = 1000 };
-
-static void is_told(GSettings *desk, const char *key)
-{
-    GVariant *value = g_settings_get_value(desk, key);
-    char *text = g_variant_print(value, FALSE);
-    printf("%s %s\n", key, text);
-    fflush(stdout);
-    g_free(text);
-    g_variant_unref(value);
-}
 
 static bool has_ended(void)
 {

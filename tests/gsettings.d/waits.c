@@ -3,14 +3,15 @@
  *   waits again       no descriptor is left, and the name is set to `older`; once a line comes, again; once another comes there are
  *   waits apply       descriptors. Or the name and the tags are applied to `older`, and nothing is set again
  *   waits turned      $FLAG is made, so that each stat of the user's file takes $STAT milliseconds, after a main loop has turned; then
- *   waits unturned    the milliseconds of the longest of the calls get, is_writable, set, set of what is there, and of 20 sets. Or
- *                     before a main loop has turned
+ *   waits unturned    the milliseconds of the longest of the calls get, is_writable, set, set of what is there, of 20 sets, and of a sync
+ *                     of them. Or before a main loop has turned
  *   waits deep        sets a value of 100 levels, in a program whose threads have 64 KiB of stack, and says `kept`
  *   waits ends        a handler of warnings calls exit(); says when it was called, in ms of a clock
  */
 #define _GNU_SOURCE
+#include "told.h"
+
 #include <fcntl.h>
-#include <gio/gio.h>
 #include <pthread.h>
 #include <stdio.h>
 #include <stdlib.h>
@@ -33,15 +34,6 @@ static void says(const char *text)
 {
     puts(text);
     fflush(stdout);
-}
-
-static void is_told(GSettings *settings, const char *key)
-{
-    GVariant *value = g_settings_get_value(settings, key);
-    char *text = g_variant_print(value, FALSE);
-    printf("%s %s\n", key, text);
-    g_free(text);
-    g_variant_unref(value);
 }
 
 static void awaits_a_line(void)
@@ -128,8 +120,10 @@ static void on_slow_stats(gboolean turned)
     for (int i = 0; i < SETS; i++)
         g_settings_set_boolean(desk, "on", i % 2 == 0);
     takes("sets", began);
-    unlink(getenv("FLAG"));
+    began = g_get_monotonic_time();
     g_settings_sync();
+    takes("sync", began);
+    unlink(getenv("FLAG"));
 }
 
 /* ---- threads */

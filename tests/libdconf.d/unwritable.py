@@ -1,6 +1,9 @@
 """A store that can't be written, one that is damaged, and one that others hold: what a sync change answers, and what becomes of a fast one."""
+import contextlib
 import fcntl
+import os
 import resource
+import shutil
 import signal
 import subprocess
 import threading
@@ -62,6 +65,68 @@ def full(both, driver):
         raise Stop(f'a fast change that waits: {err}')
 
 
+@contextlib.contextmanager
+def small_disk(folder):
+    """A file system of 64 KiB in the place of that folder, with its files."""
+    files = [it for it in folder.iterdir() if it.is_file()] if folder.exists() else []
+    kept = [(it.name, it.read_bytes()) for it in files]
+    folder.mkdir(parents=True, exist_ok=True)
+    subprocess.run(['mount', '-t', 'tmpfs', '-o', 'size=64k,mode=0700', 'none', folder], check=True)
+    try:
+        for name, content in kept:
+            (folder / name).write_bytes(content)
+        yield folder / 'fill'
+    finally:
+        subprocess.run(['umount', '-l', folder], check=True)
+
+
+def fill(file):
+    """The disk that it is on."""
+    with open(file, 'wb', buffering=0) as rest, contextlib.suppress(OSError):
+        while rest.write(bytes(4096)):
+            pass
+
+
+def says(program, given):
+    """What the driver answers to these lines."""
+    program.stdin.write(given + 'writable /\n')
+    program.stdin.flush()
+    found = []
+    while not found or found[-1] != 'writable /':
+        found.append(program.stdout.readline().rstrip('\n'))
+        if program.poll() is not None:
+            raise Stop(f'the driver ended: {found}')
+    program.stdout.readline()
+    return [it for it in found if it.startswith('  ')]
+
+
+def on_a_full_disk(both, driver, whose):
+    """What is read of a fast change on a full disk; what is stored then, and when there is room again; and what is said of it."""
+    folder = both.homes[whose] / 'config' / ('dconfdb' if whose == 'ours' else 'dconf')
+    with small_disk(folder) as filler, subprocess.Popen([driver], env=both.environment(whose), stdin=subprocess.PIPE, stdout=subprocess.PIPE,
+                                                        stderr=subprocess.PIPE, text=True) as program:
+        says(program, 'write sync /v/k 1\n')
+        fill(filler)
+        first = says(program, 'write fast /v/k 2\nread 0 /v/k\n')
+        amid = says(program, 'settle 300\nread 0 /v/k\n')
+        filler.unlink()
+        later = says(program, 'settle 2500\nread 0 /v/k\n')
+        stored = both.ran(whose, [driver], 'read 0 /v/k\n')[1].split('\n')[1]
+        err = program.communicate(timeout=60)[1]
+    return first[-1], amid[-1], later[-1], stored, err
+
+
+def without_room(both, driver):
+    """A full disk, which has room again later: with ours a fast change is read, waits, and is kept; dconf's library takes it back, and it is lost."""
+    if os.getuid() != 0:
+        return
+    ours, theirs = (on_a_full_disk(both, driver, whose) for whose in ('ours', 'theirs'))
+    same('a fast change on a full disk, with ours', ours[:4], ('  2', '  2', '  2', '  2'))
+    same('one that is lost, with dconf', theirs[3], '  1')
+    if ours[4].count('No space left') != 1:
+        raise Stop(f'the warnings of a full disk: {ours[4]}')
+
+
 def no_user(both, driver):
     """A profile without a user's database: nothing is writable."""
     given = 'writable /u/k\nwrite sync /u/k 1\nwrite fast /u/k 1\nwrite sync /u/k -\nwrite fast /u/k -\nlocks /\n'
@@ -91,25 +156,39 @@ def held(both, driver):
     same('a held lock, on stderr', err, '')
 
 
+def compile_site(store, locks):
+    """The site's database, with these locks alone."""
+    (store / 'site').mkdir(exist_ok=True)
+    (store / 'site' / 'locks').write_text(locks, encoding='utf-8')
+    subprocess.run([frame.program(), 'compile', 'db', '--locks', 'locks'], cwd=store / 'site', check=True)
+
+
+def lock_meanwhile(store):
+    """Others hold the store's lock for two seconds, and after one the site locks a key."""
+    (store / 'profile').write_text('user-db:user\nfile-db:site/db\n', encoding='utf-8')
+    compile_site(store, '')
+    with open(store / '.lock', 'w', encoding='utf-8') as file:
+        fcntl.flock(file, fcntl.LOCK_EX)
+        subprocess.Popen(['sleep', '2'], pass_fds=[file.fileno()])
+    threading.Timer(1, compile_site, (store, '/u/k\n')).start()
+
+
 def locked_meanwhile(both, driver):
     """While others hold the store's lock, the site locks a key that was changed: it is taken back, and told, and what waits with it is written."""
-    def compile_site(store, locks):
-        (store / 'site').mkdir(exist_ok=True)
-        (store / 'site' / 'locks').write_text(locks, encoding='utf-8')
-        subprocess.run([frame.program(), 'compile', 'db', '--locks', 'locks'], cwd=store / 'site', check=True)
-
-    def setup(store):
-        (store / 'profile').write_text('user-db:user\nfile-db:site/db\n', encoding='utf-8')
-        compile_site(store, '')
-        with open(store / '.lock', 'w', encoding='utf-8') as file:
-            fcntl.flock(file, fcntl.LOCK_EX)
-            subprocess.Popen(['sleep', '2'], pass_fds=[file.fileno()])
-        threading.Timer(1, compile_site, (store, '/u/k\n')).start()
     given = 'write fast /u/k 1\nwrite fast /u/m 2\nread 0 /u/k\nsettle 1500\nread 0 /u/k\nread 0 /u/m\nsync\nsettle 50\nread 0 /u/k\nread 0 /u/m\n'
-    out, err = asked(both, driver, given, setup)
+    out, err = asked(both, driver, given, lock_meanwhile)
     wanted = ['  changed /u/k [] NULL', '  1', '  changed /u/m [] NULL', '  1', '  1', '  NULL', '  2', '  changed /u/k [] NULL', '  NULL', '  2']
     same('a key that is locked meanwhile', [line for line in out.split('\n') if line.startswith('  ')], wanted)
     same('a key that is locked meanwhile, on stderr', err.count('failed to commit changes to dconf: '), 1)
+
+
+def whole(both, driver):
+    """The same, where the key is one of a change of two: both are taken back, and what another change sets is written."""
+    given = 'change fast /u/k=1 /u/l=1\nwrite fast /u/m 2\nsettle 1500\nsync\nsettle 50\nread 0 /u/k\nread 0 /u/l\nread 0 /u/m\n'
+    out, err = asked(both, driver, given, lock_meanwhile)
+    wanted = ['  changed /u/ [k l] NULL', '  1', '  changed /u/m [] NULL', '  1', '  changed /u/ [k l] NULL', '  NULL', '  NULL', '  2']
+    same('a change of a key that is locked meanwhile', [line for line in out.split('\n') if line.startswith('  ')], wanted)
+    same('a change of a key that is locked meanwhile, on stderr', err.count('failed to commit changes to dconf: '), 1)
 
 
 def left(both, driver):
@@ -120,6 +199,6 @@ def left(both, driver):
 
 def main(both):
     driver = both.compiled('driver')
-    for part in (without_files, full, no_user, damaged, held, locked_meanwhile, left):
+    for part in (without_files, without_room, full, no_user, damaged, held, locked_meanwhile, whole, left):
         part(both, driver)
     return 'stores that can\'t be written, have no user, are damaged or held: the right errors, warnings and signals'

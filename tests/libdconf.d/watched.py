@@ -5,6 +5,7 @@ import os
 import random
 import shutil
 import subprocess
+import time
 
 import homes
 from frame import Stop, needs, program
@@ -99,6 +100,29 @@ def refused_at_first(both, driver):
     it.end()
 
 
+def on_a_slow_disk(both, driver):
+    """Who watches reads without a look at the files, unless something happened to them: no stat is waited for. What another sets is read at once."""
+    library, flag = both.folder / 'slow.so', both.folder / 'slow'
+    subprocess.run(['gcc', '-shared', '-fPIC', homes.HERE / 'refuses.c', '-o', library], check=True)
+    for whose in ('theirs', 'ours'):
+        both.ran(whose, ['dconf', 'write', '/w/slow', '1'])
+        it = Watcher(both, whose, driver, LD_PRELOAD=str(library), STAT='500', FLAG=str(flag))
+        it.says('watch sync /')
+        it.says('settle 300')
+        flag.touch()
+        began = time.monotonic()
+        said = [it.says(words) for words in ('read 0 /w/slow', 'writable /w/slow', 'list /w/', 'read 0 /w/slow')]
+        took = time.monotonic() - began
+        flag.unlink()
+        if took > 0.4 or said[0] != ['  1'] or said[3] != ['  1']:
+            raise Stop(f'{whose}: four reads of who watches, where each stat takes half a second: {took:.1f} s, {said}')
+        for value in ('2', '3'):
+            both.ran(whose, ['dconf', 'write', '/w/slow', value])
+            if it.says('read 0 /w/slow') != [f'  {value}']:
+                raise Stop(f'{whose}: what another set is not read at once')
+        it.end()
+
+
 def main(both):
     needs('gsettings', 'libglib2.0-bin')
     rand, driver = random.Random(13), both.compiled('driver')
@@ -121,5 +145,7 @@ def main(both):
     for it in (theirs, ours):
         it.end()
     refused_at_first(both, driver)
+    on_a_slow_disk(both, driver)
     shutil.rmtree(modules)
-    return f'{COUNT} changes by dconf\'s command, by dconfdb\'s and by GSettings: the same {told} signals as of dconf\'s; without file descriptors; a store that opens late'
+    told = f'the same {told} signals as of dconf\'s; without file descriptors; a store that opens late'
+    return f'{COUNT} changes by dconf\'s command, by dconfdb\'s and by GSettings: {told}; who watches reads without a stat'

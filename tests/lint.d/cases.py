@@ -62,7 +62,7 @@ CASES = {
         {'site.d/00': '/org/example/desk/on\n', 'site.d/10': 'hello\n', 'site.d/20': b'GVariant\0\0\0', 'site.d/30': b'x\0\n', 'site.d/locks/k': DESK + 'on=true\n',
          'site.d/locks/l': 'hello\n'},
         [('site.d/00:1', "BadLine: the line is no 'key=value'"), ('site.d/10:1', "BadLine: the line is no 'key=value'"), ('site.d/20:0', 'it is a database, and no source of one'),
-         ('site.d/30:0', 'it is neither a keyfile, nor a file of locks, nor a database'), ('site.d/locks/k:1', "the line locks nothing: it doesn't start with '/'"),
+         ('site.d/30:0', 'it is neither a keyfile, nor a file of locks, nor a profile, nor a database'), ('site.d/locks/k:1', "the line locks nothing: it doesn't start with '/'"),
          ('site.d/locks/k:2', "the line locks nothing: it doesn't start with '/'"), ('site.d/locks/l:1', "the line locks nothing: it doesn't start with '/'")]),
     'lines that are none': ({'k': 'on=true\n[a//b]\nx=1\n[org/example/desk]\non\n=1\na/b=1\n[org/example/desk\n'}, [
         ('k:1', 'NoGroup: the key comes before the first group'), ('k:2', 'BadGroup: the line names no group; its keys are left out here'),
@@ -79,6 +79,11 @@ CASES = {
         ('l:2', f'no schema has a key below the locked directory /org/example/desc/{NEAR}'),
         ('l:3', f'no schema has the locked key /org/example/desk/on {NEAR}on'),
         ('l:4', "the line locks nothing: it doesn't start with '/'"), ('l:5', "LockNotKey: the line starts with '/' and is not a path")]),
-    'neither': ({'x': 'hello\n'}, [('x:0', 'it is neither a keyfile, nor a file of locks, nor a database')]),
+    'a profile that names no database in a line': (
+        {'profile': '# of all\nuser-db:user\nsystem\nservice-db:keyfile/user\n'}, [('profile:3', 'a line of the profile names no database')]),
+    'a profile that names a database of a service': (
+        {'profile': 'user-db:user\nservice-db:keyfile/user\n'}, [('profile:2', 'a line of the profile names a service-db')]),
+    'a profile that is not of this folder': ({'profiles/kiosk': 'user-db:kiosk\nsystem-db:gone\n'}, []),
+    'neither': ({'x': 'hello\n'}, [('x:0', 'it is neither a keyfile, nor a file of locks, nor a profile, nor a database')]),
     'a control character in a name of a file': ({'k\n1': DESK + 'onn=1\n'}, [('k\\0121:2', f'{NO_KEY}/org/example/desk/onn{NEAR}on')]),
 }

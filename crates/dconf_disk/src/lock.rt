@@ -1,6 +1,7 @@
 //! The lock by which the programs that replace files in a folder take turns.
 ghost use Rattle.std.specs.Prelude.{◌≡◌, Some};
 
+use dconf_files::lock_bits;
 use dconf_steps::{LockWait, WaitAnswer, WaitEnd, WaitStep};
 use std::alloc::{AllocError, Global};
 use std::error::Error;
@@ -200,24 +201,11 @@ fn hand_over(lock: &File, above: &Metadata) -> io::Result<()> {
         let _ = fchown(lock, None, Some(above.gid()));
     }
     let now = lock.metadata()?;
-    let bits = bits_for_writers(above.mode(), now.gid() == above.gid());
+    let bits = lock_bits(above.mode(), now.gid() == above.gid());
     if now.mode() & PERMISSION_BITS != bits {
         let _ = lock.set_permissions(Permissions::from_mode(bits));
     }
     Ok(())
-}
-
-/// The bits of a lock's file, by those of its folder. One of another group than its folder's is open to that where all may write.
-fn bits_for_writers(folder: u32, has_its_group: bool) -> u32 {
-    let all_write = folder & 0o002 != 0;
-    let group_writes = if has_its_group {
-        folder & 0o020 != 0
-    } else {
-        all_write
-    };
-    let group = if group_writes { 0o060 } else { 0 };
-    let all = if all_write { 0o006 } else { 0 };
-    READ_AND_WRITE | group | all
 }
 
 /// Whether the name still stands for the file: after a wait it may be another one's, as the folder's name may.

@@ -2,6 +2,7 @@
 ghost use Rattle.std.specs.Prelude.{◌≡◌, ◌∷◌, true};
 ghost use Rattle.dconf_folders.specs.SystemCalls.{given_mode};
 
+use dconf_files::bits_for;
 use dconf_folders::Record;
 use std::fs::{Metadata, OpenFile, OpenOptions, Permissions};
 use std::io::ErrorKind;
@@ -11,11 +12,6 @@ use std::{fs, io};
 
 /// Who may read, write and run a file: the owner, its group, all others.
 const PERMISSION_BITS: u32 = 0o777;
-
-/// Those of the owner, and those of all others.
-const OWNER: u32 = 0o700;
-
-const OTHERS: u32 = 0o7;
 
 /// The number of the call as it is noted, and of its answer.
 const SET_MODE: u64 = 7;
@@ -54,6 +50,7 @@ pub(crate) fn keep_mode<R: Files>(
     let Some(old) = replaced(rt, name)? else {
         return Ok(());
     };
+    // No call here gives a file another group.
     let new = file.metadata()?;
     let bits = bits_for(bits_of(&old), old.gid() == new.gid());
     if bits_of(&new) == bits {
@@ -65,18 +62,6 @@ pub(crate) fn keep_mode<R: Files>(
 /// The permission bits of a file.
 fn bits_of(file: &Metadata) -> u32 {
     file.permissions().mode() & PERMISSION_BITS
-}
-
-/// The bits of a file that takes the place of one with these. No call here gives a file another group. So where the new one's group is not
-/// the old one's, its group and all others may do what both of these might, and nobody more than before.
-fn bits_for(bits: u32, is_of_group: bool) -> u32
-    ensures same { is_of_group ≡ true → result ≡ bits }
-{
-    if is_of_group {
-        return bits;
-    }
-    let both = (bits >> 3) & bits & OTHERS;
-    (bits & OWNER) | (both << 3) | both
 }
 
 /// The file whose place that of this name is to take, if there is one.

@@ -1,7 +1,9 @@
 -- A walk over directories with a list of places that wait, the next at its end.
-use Rattle.std.specs.Prelude.{Contains, IsTrue, filter, flat_map}
-use Rattle.std.proofs.Common.{◌≡◌, ◌<◌, ◌+◌, ℕ, true, false, inl, inr, get_or, Option, List, [], ◌∷◌, ◌++◌, cond, map, reverse, refl, subst, sym, ap, ◌∙◌, arith, append_assoc, append-nil}
+use Rattle.std.specs.Prelude.{Contains, IfOk, IsTrue, filter, flat_map, string_bytes}
+use Rattle.std.proofs.Common.{Result, Ok, Err, ◌≡◌, ◌<◌, ◌+◌, ℕ, true, false, inl, inr, get_or, Option, List, [], ◌∷◌, ◌++◌, cond, map, reverse, refl, subst, sym, ap, ◌∙◌, arith, append_assoc, append-nil}
 use Rattle.std.specs.FinMap.{keys}
+use Rattle.std.specs.declared.alloc.Global.{Global}
+use Rattle.std.specs.declared.string.String.{String}
 use Rattle.std.specs.List.{All, sum_by}
 use Rattle.std.proofs.Math.Bool.{Bool-set}
 use Rattle.std.proofs.Math.Logic.{∥∥₁_elim}
@@ -64,6 +66,15 @@ pub children_start : (directory : List ℕ) (w : Keys) (children : List Child) (
     → texts w ++ reverse (places directory children) ≡ texts w ++ reverse (map {B = List ℕ} (λ name. directory ++ name) listed)
 children_start directory w children listed e =
     ap (λ (l : List (List ℕ)). texts w ++ reverse l) (places_of_names directory children ∙ ap (map {B = List ℕ} (λ (n : List ℕ). directory ++ n)) e)
+
+-- a path that was named becomes a key
+pub named_next : (keys new : Keys) (key : SeenKey) (path : String Global) (now rest : List (String Global)) (all : List (List ℕ)) → new ≡ keys ++ key ∷ []
+    → seen_path key ≡ string_bytes path → now ≡ path ∷ rest → texts keys ++ map string_bytes now ≡ all → texts new ++ map string_bytes rest ≡ all
+named_next keys new key path now rest all pushed is cut e =
+    let left : List (List ℕ) = map string_bytes rest in
+    let one : texts new ≡ texts keys ++ seen_path key ∷ [] = ap texts pushed ∙ map-append seen_path keys (key ∷ []) in
+    ap (λ (l : List (List ℕ)). l ++ left) one ∙ (append_assoc (texts keys) (seen_path key ∷ []) left
+    ∙ (ap (λ (p : List ℕ). texts keys ++ p ∷ left) is ∙ (ap (λ (ps : List (String Global)). texts keys ++ map string_bytes ps) (sym cut) ∙ e)))
 
 -- ---- places that wait
 
@@ -158,6 +169,11 @@ module _ (l : Layers) where
 
   pub all_shown : AreKeyPaths (all_paths l.layers) → (directory : List ℕ) (keys : Keys) → texts keys ≡ found directory → All (IsShown l) keys → map seen_row keys ≡ map (shown_at l) (found directory)
   all_shown are directory keys e shown = rows_shown keys (found_are_keys are directory keys e) shown ∙ ap (map (shown_at l)) e
+
+-- of an answer, if there is one
+pub ok_both : {T E : Type 0} (r : Result T E) (P Q R : T → Type 0) → ((x : T) → P x → Q x → R x) → IfOk r P → IfOk r Q → IfOk r R
+ok_both (Ok x) P Q R both p q = both x p q
+ok_both (Err e) P Q R both p q = tt
 
 -- ---- the layers have the paths of keys alone
 

@@ -70,7 +70,7 @@ impl<'a, 'l> LentLayers<'a, 'l> {
 
     /// Where the value that is seen at a path is: its layer, and its bytes, which are a variant's.
     #[inline(always)]
-    fn place(self, path: KeyPath<'_>) -> Option<(usize, &'a [u8])>
+    pub(crate) fn place(self, path: KeyPath<'_>) -> Option<(usize, &'a [u8])>
         ensures { option_map {U = ℕ × List ℕ} (λ p. (p.0, p.1.now)) result ≡ place_of (seen_in self.entry) (key_text path.entry) }
     {
         let name = hashed(path);

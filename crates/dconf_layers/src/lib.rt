@@ -12,6 +12,7 @@ mod fault;
 mod layer;
 mod layer_lists;
 mod lent;
+mod named;
 mod nearest_lock;
 mod seen;
 mod texts;

@@ -1,5 +1,5 @@
-//! What is seen at the keys below a directory, by a walk over what directories have. They may lie tens of thousands deep, so the walk
-//! has a list of its own.
+//! What is seen at the keys below a directory, by a walk over what directories have. The walk has a list of its own. A search for a
+//! directory costs what its path is long, so where they lie tens of thousands deep, it gives way to the names of all values.
 ghost use Rattle.std.specs.Prelude.{◌≡◌, ◌++◌, ◌+◌, ◌<◌, IfNone, IfOk, IfSome, IsTrue, OnOk, false, flat_map, map, option_map, reverse, string_bytes};
 ghost use Rattle.std.specs.List.{All, sum_by};
 ghost use Rattle.dconf_model.specs.Layers.{all_paths, first_from, visible_bytes};
@@ -14,7 +14,10 @@ use dconf_path::{DirPath, KeyPath};
 use std::alloc::{AllocError, Global};
 
 /// For how many bytes more a key's path has room, since most callers append the value's text.
-const ROOM: usize = 24;
+pub(crate) const ROOM: usize = 24;
+
+/// How many bytes a directory's path may have for which a walk searches.
+const LONGEST: usize = 1024;
 
 /// A key, and the bytes of the value that is seen there, if any, which are a variant's.
 #[derive(Drop)]
@@ -31,7 +34,8 @@ impl<'a> LentLayers<'a, '_> {
 
     /// The keys below a directory, in byte order, and what is seen at them. Of a key without a value a lock hides it.
     ///
-    /// An error comes if an allocation fails. It searches for each directory once, and for no key but a locked one.
+    /// An error comes if an allocation fails. It searches for each directory once, and for no key but a locked one. If directories
+    /// lie deep, it searches for no directory, but names each value of the layers: so it takes no longer than the paths are.
     pub fn keys_below(
         self,
         alloc: Global,
@@ -40,13 +44,31 @@ impl<'a> LentLayers<'a, '_> {
         ensures seen { IfOk result (λ keys. map seen_row keys.items ≡ map (shown_at (seen_in self.entry)) (keys_below (all_paths (seen_in self.entry).layers) (directory_text directory.entry))) }
         ensures paths { IfOk result (λ keys. All (λ key. IsTrue (is_key_path (string_bytes key.path))) keys.items) }
     {
+        match self.walked(alloc, directory)? {
+            Some(keys) => Ok(keys),
+            None => self.named(alloc, directory),
+        }
+    }
+
+    /// The same by a walk, which gives up at a directory that lies deep.
+    fn walked(
+        self,
+        alloc: Global,
+        directory: DirPath<'_>,
+    ) -> Result<Option<Vec<SeenKey<'a>>>, AllocError>
+        ensures found { IfOk result (λ walked. IfSome walked (λ keys. map seen_path keys.items ≡ keys_below (all_paths (seen_in self.entry).layers) (directory_text directory.entry))) }
+        ensures shown { IfOk result (λ walked. IfSome walked (λ keys. All (IsShown (seen_in self.entry)) keys.items)) }
+    {
         let mut keys = Vec::new(alloc);
         let mut waiting = Vec::new(alloc);
         self.push_places(alloc, directory, &mut waiting)?;
         while let Some(place) = waiting.pop() {
+            if lies_deep(place.path.as_str()) {
+                return Ok(None);
+            }
             self.visit(alloc, place, &mut keys, &mut waiting)?;
         }
-        Ok(keys)
+        Ok(Some(keys))
     }
 
     /// Goes on at a place: a key is found, and of a directory the places that it leads to are waiting.
@@ -126,6 +148,12 @@ impl<'a> LentLayers<'a, '_> {
             Err(_) => None,
         }
     }
+}
+
+/// Whether a place is a directory with so long a path that searches of all those above it would be dear. It decides alone how keys
+/// are found: both ways give the same.
+fn lies_deep(place: &str) -> bool {
+    place.len() > LONGEST && place.ends_with("/")
 }
 
 /// The directory that a place is, if it is one. Of a key's path it looks at the last byte alone.

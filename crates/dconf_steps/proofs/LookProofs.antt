@@ -2,6 +2,9 @@
 use Rattle.std.proofs.Common.{ℕ, zero, suc, ◌+◌, ◌*◌, ◌-◌, ◌<◌, ◌≤◌, ◌≡◌, ◌⊎◌, Bool, true, false, not, ◌&&◌, List, [], ◌∷◌, length, Option, Some, None, refl, sym, ◌∙◌, ap, subst, arith, ⊎_elim, inl, inr}
 use Rattle.std.specs.Prelude.{if◌then◌else◌, ◌==◌, IsTrue}
 use Rattle.std.proofs.lemmas.Bool.{cases_Bool, cases_lt, not-true, not-false}
+use Rattle.dconf_files.proofs.SameLaws.{same_holds}
+use Rattle.dconf_verdicts.specs.declared.faults.FaultKind.{FaultKind}
+use Rattle.dconf_verdicts.specs.Faults.{is_files_own}
 use Rattle.dconf_steps.specs.declared.refresh.Refresh.{Refresh}
 use Rattle.dconf_steps.specs.declared.refresh.LookStage.TheVariants.{Asking, Reading}
 use Rattle.dconf_steps.specs.declared.refresh.LookEnd.{LookEnd}
@@ -9,7 +12,7 @@ use Rattle.dconf_steps.specs.declared.refresh.LookEnd.TheVariants.{Failed, Same,
 use Rattle.dconf_steps.specs.declared.refresh.LookStep.{LookStep}
 use Rattle.dconf_steps.specs.declared.refresh.LookStep.TheVariants.{Stat, Read, Compare, Keep, Open, Done}
 use Rattle.dconf_steps.specs.Looks.{look_step_at, look_step, IsLookDone, first_look, after_reading, end_of, AreNext, LookGoes, newer_after, IsRefreshBegun, IsLookAnswered}
-use Rattle.dconf_steps.specs.RefreshLaws.{Looked, RanLook, HasLooked, SaysSame, IsKeptWell, AreKeptWell, had_by, had_of, numbers_from, IsOpening, HasOpened, IsRefusal, HasRefused, Files, StatTells, IsTrueOf, AreTrueOf, WhateverIsSeen}
+use Rattle.dconf_steps.specs.RefreshLaws.{Looked, RanLook, HasLooked, SaysSame, IsKeptWell, AreKeptWell, had_by, had_of, numbers_from, IsOpening, HasOpened, IsRefusal, HasRefused, IsJudged, AreJudged, IsNotOwn, HasRefusedOtherwise, IsUnread, HasUnread, Files, was, is, NoteChanges, IsSaidSame, IsTrueOf, AreTrueOf, WhateverIsSeen}
 
 -- ---- which step comes
 
@@ -389,14 +392,17 @@ abbrev BeforeTrue : Files → Option Looked → Type 0
 BeforeTrue f None = Unit {0}
 BeforeTrue f (Some s) = IsTrueOf f s.step s.said
 
-same_of : (f : Files) (before : Option Looked) (at : ℕ) → StatTells f → BeforeTrue f before → SaysSame before at → (f.now at).content ≡ (f.old at).content
+stat_tells : (f : Files) → NoteChanges f → (at : ℕ) → IsSaidSame f at → is f at ≡ was f at
+stat_tells f notes at same = same_holds (f.course at) (notes at) (f.reading at) (f.now at) (f.later at) same
+
+same_of : (f : Files) (before : Option Looked) (at : ℕ) → NoteChanges f → BeforeTrue f before → SaysSame before at → is f at ≡ was f at
 same_of f None at tells t s = absurd s
 same_of f (Some b) at tells t s =
-    ⊎_elim (λ (e : b.step ≡ Stat at). tells at (subst (λ y. IsTrueOf f (Stat at) y) s.1 (subst (λ x. IsTrueOf f x b.said) e t)))
+    ⊎_elim (λ (e : b.step ≡ Stat at). stat_tells f tells at (subst (λ y. IsTrueOf f (Stat at) y) s.1 (subst (λ x. IsTrueOf f x b.said) e t)))
     (λ (e : b.step ≡ Compare at). subst (λ y. IsTrueOf f (Compare at) y) s.1 (subst (λ x. IsTrueOf f x b.said) e t)) s.0
 
-kept_true : (f : Files) (before : Option Looked) (taken : List Looked) (at : ℕ) (said : Bool) → StatTells f → AreKeptWell before taken → BeforeTrue f before → AreTrueOf f taken
-    → HasLooked (Keep at) said taken → (f.now at).content ≡ (f.old at).content
+kept_true : (f : Files) (before : Option Looked) (taken : List Looked) (at : ℕ) (said : Bool) → NoteChanges f → AreKeptWell before taken → BeforeTrue f before → AreTrueOf f taken
+    → HasLooked (Keep at) said taken → is f at ≡ was f at
 kept_true f before [] at said tells k b t h = absurd h
 kept_true f before (s ∷ more) at said tells k b t h =
     ⊎_elim (λ here. same_of f before at tells b (subst (λ x. IsKeptWell before x) here.0 k.0))
@@ -408,7 +414,7 @@ none_or_some : (count : ℕ) → (count ≡ 0) ⊎ (0 < count)
 none_or_some zero = inl refl
 none_or_some (suc n) = inr (omega arith)
 
-module _ (count : ℕ) (has_old in_turn : Bool) (r : Refresh) (b : IsRefreshBegun count has_old in_turn r) where
+module _ (count : ℕ) (has_old in_turn is_lenient : Bool) (r : Refresh) (b : IsRefreshBegun count has_old in_turn is_lenient r) where
   abbrev FirstOf : LookStep → Type 0
   FirstOf step = ((0 < count) × IsFirst step 0) ⊎ ((count ≡ 0) × (step ≡ Done (end_of (not has_old))))
 
@@ -454,26 +460,62 @@ module _ (count : ℕ) (has_old in_turn : Bool) (r : Refresh) (b : IsRefreshBegu
   in_turn_not_asked t e =
       ⊎_elim (λ none. (let bad : Done (end_of (not has_old)) ≡ Stat 0 = sym (b.none none) ∙ e in cc)) (λ some. (let bad : Read 0 ≡ Stat 0 = sym (in_turn_read t some) ∙ e in cc)) (none_or_some count)
 
+-- ---- faults of the host
+
+not_own : (lenient : Bool) (step : LookStep) (said : Bool) (fault : Option FaultKind) → lenient ≡ true → IsJudged lenient step said fault → IsRefusal step said
+    → IsNotOwn step fault
+not_own lenient (Read at) true fault l j r = absurd r
+not_own lenient (Read at) false None l j r = tt
+not_own lenient (Read at) false (Some kind) l j r = subst (λ x. (x && is_files_own kind) ≡ false) l (sym j)
+not_own lenient (Stat at) said fault l j r = absurd r
+not_own lenient (Compare at) said fault l j r = absurd r
+not_own lenient (Keep at) said fault l j r = absurd r
+not_own lenient (Open at) said fault l j r = tt
+not_own lenient (Done end) said fault l j r = absurd r
+
+refused_otherwise : (lenient : Bool) (taken : List Looked) → lenient ≡ true → AreJudged lenient taken → HasRefused taken → HasRefusedOtherwise taken
+refused_otherwise lenient [] l j r = absurd r
+refused_otherwise lenient (s ∷ more) l j r =
+    ⊎_elim (λ here. inl (here, not_own lenient s.step s.said s.fault l j.0 here)) (λ later. inr (refused_otherwise lenient more l j.1 later)) r
+
+refuses : (lenient : Bool) (step : LookStep) (said : Bool) (fault : Option FaultKind) → lenient ≡ false → IsJudged lenient step said fault → IsUnread step fault
+    → IsRefusal step said
+refuses lenient (Read at) said None l j u = absurd u
+refuses lenient (Read at) said (Some kind) l j u =
+    subst (λ x. IsRefusal (Read at) x) (sym (j ∙ ap (λ x. x && is_files_own kind) l)) tt
+refuses lenient (Stat at) said fault l j u = absurd u
+refuses lenient (Compare at) said fault l j u = absurd u
+refuses lenient (Keep at) said fault l j u = absurd u
+refuses lenient (Open at) said fault l j u = absurd u
+refuses lenient (Done end) said fault l j u = absurd u
+
+unread_refuses : (lenient : Bool) (taken : List Looked) → lenient ≡ false → AreJudged lenient taken → HasUnread taken → HasRefused taken
+unread_refuses lenient [] l j u = absurd u
+unread_refuses lenient (s ∷ more) l j u =
+    ⊎_elim (λ here. inl (refuses lenient s.step s.said s.fault l j.0 here)) (λ later. inr (unread_refuses lenient more l j.1 later)) u
+
 pub whatever_is_seen : WhateverIsSeen
-whatever_is_seen count has_old in_turn taken r u b ran =
-    let kept : AreKeptWell None taken = kept_well None taken r u ran (first_kept count has_old in_turn r b) in
-    let range = first_range count has_old in_turn r b in
-    let parts = λ (g : IsGoodEnd (look_step u)). whole taken r u ran range g ∙ first_rest count has_old in_turn r b in
+whatever_is_seen count has_old in_turn is_lenient taken r u b ran =
+    let kept : AreKeptWell None taken = kept_well None taken r u ran (first_kept count has_old in_turn is_lenient r b) in
+    let range = first_range count has_old in_turn is_lenient r b in
+    let parts = λ (g : IsGoodEnd (look_step u)). whole taken r u ran range g ∙ first_rest count has_old in_turn is_lenient r b in
     record {
       kept = kept;
-      unasked = λ t said x. never_asked taken r u ran (in_turn_not_asked count has_old in_turn r b t) said x;
-      read = λ t some g. first_read taken r u ran (in_turn_read count has_old in_turn r b t some) g;
+      unasked = λ t said x. never_asked taken r u ran (in_turn_not_asked count has_old in_turn is_lenient r b t) said x;
+      read = λ t some g. first_read taken r u ran (in_turn_read count has_old in_turn is_lenient r b t some) g;
       same = λ e. (
         parts (inl e),
-        ⊎_elim (λ was. not-false has_old (end_same (not has_old) (first_end count has_old in_turn r b Same was).1)) (λ it. not-false has_old (sym b.newer ∙ it.0)) (same_end taken r u ran e),
+        ⊎_elim (λ was. not-false has_old (end_same (not has_old) (first_end count has_old in_turn is_lenient r b Same was).1)) (λ it. not-false has_old (sym b.newer ∙ it.0)) (same_end taken r u ran e),
         λ o. ⊎_elim (λ was. subst HasOpened (ended_at taken r u Same ran was).1 o) (λ it. it.1 o) (same_end taken r u ran e),
       );
       newer = λ e. (
         parts (inr e),
-        ⊎_elim (λ was. inl (not-true has_old (end_newer (not has_old) (first_end count has_old in_turn r b Newer was).1)))
+        ⊎_elim (λ was. inl (not-true has_old (end_newer (not has_old) (first_end count has_old in_turn is_lenient r b Newer was).1)))
             (λ it. ⊎_elim (λ n. inl (not-true has_old (sym b.newer ∙ n))) (λ o. inr o) it) (newer_end taken r u ran e),
       );
-      failed = λ e. ⊎_elim (λ was. absurd (end_failed (not has_old) (first_end count has_old in_turn r b Failed was).1)) (λ x. x) (failed_end taken r u ran e);
-      count_is = (let c = counted taken r u ran range in let l = first_left count has_old in_turn r b in omega arith);
+      failed = λ e. ⊎_elim (λ was. absurd (end_failed (not has_old) (first_end count has_old in_turn is_lenient r b Failed was).1)) (λ x. x) (failed_end taken r u ran e);
+      lenient = λ lenient judged e. refused_otherwise is_lenient taken lenient judged (⊎_elim (λ was. absurd (end_failed (not has_old) (first_end count has_old in_turn is_lenient r b Failed was).1)) (λ x. x) (failed_end taken r u ran e));
+      strict = λ strict judged unread. unread_refuses is_lenient taken strict judged unread;
+      count_is = (let c = counted taken r u ran range in let l = first_left count has_old in_turn is_lenient r b in omega arith);
       seen = λ f tells t at c p. ⊎_elim (λ k. k.1 ∙ sym (kept_true f None taken at k.0.0 tells kept tt t k.0.1)) (λ o. o.1) p;
     }

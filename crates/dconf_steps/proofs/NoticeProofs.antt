@@ -1,5 +1,5 @@
 -- What holds of a notice of changes after any events and answers.
-use Rattle.std.proofs.Common.{ℕ, ◌+◌, ◌≤◌, ◌≡◌, ◌≢◌, ◌⊎◌, Bool, true, false, IsTrue, List, [], ◌∷◌, refl, sym, ◌∙◌, ap, subst, arith, ⊎_elim, inl, inr}
+use Rattle.std.proofs.Common.{if◌then◌else◌, ◌↔◌, map, ℕ, ◌+◌, ◌≤◌, ◌≡◌, ◌≢◌, ◌⊎◌, Bool, true, false, IsTrue, List, [], ◌∷◌, refl, sym, ◌∙◌, ap, subst, arith, ⊎_elim, inl, inr}
 use Rattle.dconf_steps.specs.declared.notice.Notice.{Notice}
 use Rattle.dconf_steps.specs.declared.notice.Owed.{Owed}
 use Rattle.dconf_steps.specs.declared.notice.Owed.TheVariants.{Nothing, Another, Anew}
@@ -7,8 +7,8 @@ use Rattle.dconf_steps.specs.declared.notice.NoticeStep.{NoticeStep}
 use Rattle.dconf_steps.specs.declared.notice.NoticeStep.TheVariants.{Watch, Look, Rest}
 use Rattle.dconf_steps.specs.declared.notice.NoticeEvent.{NoticeEvent}
 use Rattle.dconf_steps.specs.declared.notice.NoticeEvent.TheVariants.{File, Folder, Time}
-use Rattle.dconf_steps.specs.Notices.{notice_step, is_come, at_its_time, woken_by, owed_by, owed_after, look_again, after_look, answered_by, owed_behind, IsNoticeTold}
-use Rattle.dconf_steps.specs.NoticeLaws.{NoticeMoment, Noticed, NoticeGoes, RanNotice, IsSeen, HasSeen, behind_moment, behind_answer, HasSeenSince, IsToLook, is_heard, is_heard_by, AreFollowed, one_if, heard_in, look_by, looks_in, answered_at, last_answer, IsSoon, WhateverIsNoticed}
+use Rattle.dconf_steps.specs.Notices.{notice_step, is_come, at_its_time, woken_by, owed_by, owed_after, look_again, after_look, answered_by, owed_behind, AreTold, IsNoticeTold, due_at}
+use Rattle.dconf_steps.specs.NoticeLaws.{NoticeMoment, Noticed, NoticeGoes, RanNotice, IsSeen, HasSeen, behind_moment, behind_answer, HasSeenSince, IsToLook, is_heard, is_heard_by, AreFollowed, heard_in, look_by, looks_in, answered_at, last_answer, IsSoon, WhateverIsNoticed, WhatIsToldIsNoticed, WhatComesIsDue, told_at}
 use Rattle.dconf_steps.specs.NoticeLaws.NoticeMoment.{tells, answers}
 
 -- what is owed of a look that comes
@@ -133,6 +133,9 @@ owed_weight Anew = 1
 abbrev weight : Notice → ℕ
 weight w = step_weight (notice_step w) + owed_weight w.owed
 
+abbrev one_if : Bool → ℕ
+one_if b = if b then 1 else 0
+
 at_weighs : (come whole : Bool) (until : ℕ) → step_weight (at_its_time come whole until) ≤ one_if come
 at_weighs true true until = omega arith
 at_weighs true false until = omega arith
@@ -256,3 +259,16 @@ whatever_is_noticed taken w u begun ran =
           omega arith
           );
     }
+
+-- ---- what is told at once, and when the next look is due
+
+pub what_is_told_is_noticed : WhatIsToldIsNoticed
+what_is_told_is_noticed [] now w v told = ([], refl, told)
+what_is_told_is_noticed (event ∷ events) now w v told =
+    let rest = what_is_told_is_noticed events now told.0 v told.2 in
+    (record { step = notice_step w; moment = tells event now } ∷ rest.0, ap (λ (l : List NoticeMoment). tells event now ∷ l) rest.1, (refl, (told.0, told.1, rest.2)))
+
+pub what_comes_is_due : WhatComesIsDue
+what_comes_is_due Watch = (λ l e. omega (arith, e), λ d. tt)
+what_comes_is_due Look = (λ l e. omega (arith, e), λ d. tt)
+what_comes_is_due (Rest until) = (λ l. l, λ d. d)

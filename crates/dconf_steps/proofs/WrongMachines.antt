@@ -1,5 +1,5 @@
 -- Wrong machines: of what each would do it is proved that the laws alone exclude it.
-use Rattle.std.proofs.Common.{ℕ, ◌≡◌, ◌≤◌, Bool, true, false, List, [], ◌∷◌, length, Option, Some, refl, ap, subst, arith, ⊎_elim, inl}
+use Rattle.std.proofs.Common.{ℕ, ◌≡◌, ◌≤◌, Bool, true, false, List, [], ◌∷◌, length, Option, Some, None, refl, ap, subst, arith, ⊎_elim, inl}
 use Rattle.dconf_steps.specs.declared.notice.Notice.{Notice}
 use Rattle.dconf_steps.specs.declared.notice.NoticeStep.{NoticeStep}
 use Rattle.dconf_steps.specs.declared.notice.NoticeStep.TheVariants as notice
@@ -83,23 +83,23 @@ refused_while_busy u g = ⊎_elim (λ (was : false ≡ true). cc) (λ r. ⊎_eli
 -- ---- a look at files
 
 abbrev looked : LookStep → Bool → Looked
-looked step said = record { step = step; said = said }
+looked step said = record { step = step; said = said; fault = None }
 
 -- a part is kept though the host said that the file is another one
-pub kept_otherwise : (u : Refresh) → IsGoodLook 1 true false (looked (Stat 0) false ∷ looked (Keep 0) true ∷ []) u → ⊥
+pub kept_otherwise : (u : Refresh) → IsGoodLook 1 true false false (looked (Stat 0) false ∷ looked (Keep 0) true ∷ []) u → ⊥
 kept_otherwise u g = let bad : false ≡ true = g.kept.1.0.1 in cc
 
 -- the newer snapshot has one part of two
-pub half_a_snapshot : (u : Refresh) → IsGoodLook 2 true false (looked (Stat 0) false ∷ looked (Read 0) true ∷ looked (Compare 0) false ∷ looked (Open 0) true ∷ []) u
+pub half_a_snapshot : (u : Refresh) → IsGoodLook 2 true false false (looked (Stat 0) false ∷ looked (Read 0) true ∷ looked (Compare 0) false ∷ looked (Open 0) true ∷ []) u
     → look_step u ≡ Done Newer → ⊥
 half_a_snapshot u g e = one_is_not_two (ap (λ (l : List ℕ). length l) (g.newer e).0)
 
 -- in a turn the host's word is taken for the file
-pub unread_in_turn : (u : Refresh) → IsGoodLook 1 true true (looked (Stat 0) true ∷ looked (Keep 0) true ∷ []) u → ⊥
+pub unread_in_turn : (u : Refresh) → IsGoodLook 1 true true false (looked (Stat 0) true ∷ looked (Keep 0) true ∷ []) u → ⊥
 unread_in_turn u g = g.unasked refl true (inl (refl, refl))
 
 -- the snapshot is called newer though each part is the old one
-pub called_newer : (u : Refresh) → IsGoodLook 1 true false (looked (Stat 0) true ∷ looked (Keep 0) true ∷ []) u → look_step u ≡ Done Newer → ⊥
+pub called_newer : (u : Refresh) → IsGoodLook 1 true false false (looked (Stat 0) true ∷ looked (Keep 0) true ∷ []) u → look_step u ≡ Done Newer → ⊥
 called_newer u g e =
     ⊎_elim (λ (none : true ≡ false). cc) (λ o. ⊎_elim (λ x. x) (λ r. ⊎_elim (λ x. x) (λ x. x) r) o) (g.newer e).1
 

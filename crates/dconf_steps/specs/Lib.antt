@@ -7,7 +7,6 @@ pub mod QueueLaws
 pub mod LookRecords
 pub mod WaitRecords
 pub mod QueueRecords
-pub mod Dues
 pub mod Notices
 pub mod NoticeLaws
 pub mod NoticeRecords

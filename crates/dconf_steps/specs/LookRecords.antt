@@ -15,7 +15,7 @@ look_stage_of n =
     if n == 6 then Over Same else if n == 7 then Over Newer else Over Failed
 
 abbrev pub look_of : RefreshRecord → Refresh
-look_of r = record { stage = look_stage_of r.stage; at = r.at; count = r.count; has_old = r.has_old; in_turn = r.in_turn; is_newer = r.is_newer }
+look_of r = record { stage = look_stage_of r.stage; at = r.at; count = r.count; has_old = r.has_old; in_turn = r.in_turn; is_lenient = r.is_lenient; is_newer = r.is_newer }
 
 abbrev pub IsLookTold : LookStep → NextStep → Type 0
 IsLookTold (Stat at) told = (told.kind ≡ 0) × (told.number ≡ at)

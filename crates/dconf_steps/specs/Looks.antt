@@ -1,5 +1,7 @@
 -- The steps of a look at the files of a store: what may follow which.
 use Rattle.std.specs.Prelude.{ℕ, ◌≡◌, ◌+◌, ◌≤◌, ◌<◌, Bool, true, false, not, ◌&&◌, if◌then◌else◌, ◌==◌}
+use Rattle.dconf_verdicts.specs.declared.faults.FaultKind.{FaultKind}
+use Rattle.dconf_verdicts.specs.Faults.{is_files_own}
 use Rattle.dconf_steps.specs.declared.refresh.Refresh.{Refresh}
 use Rattle.dconf_steps.specs.declared.refresh.LookStage.{LookStage}
 use Rattle.dconf_steps.specs.declared.refresh.LookStage.TheVariants.{Asking, Reading, Comparing, Keeping, Opening, Over}
@@ -56,13 +58,22 @@ abbrev pub newer_after : LookStep → Bool → Bool → Bool
 newer_after (Open at) true before = true
 newer_after step said before = before
 
+abbrev pub is_read_leniently : LookStep → Bool → Bool
+is_read_leniently (Read at) lenient = lenient
+is_read_leniently step lenient = false
+
+-- What a fault of the host is to a step: to a lenient look a file that can't be read by a fault of its own is had, and counts as nothing.
+abbrev pub is_had : LookStep → Bool → FaultKind → Bool
+is_had step lenient kind = is_read_leniently step lenient && is_files_own kind
+
 -- nothing is done yet
-pub record IsRefreshBegun (count : ℕ) (has_old in_turn : Bool) (r : Refresh) : Type 0 where
+pub record IsRefreshBegun (count : ℕ) (has_old in_turn is_lenient : Bool) (r : Refresh) : Type 0 where
   pub some : 0 < count → look_step r ≡ look_step_at (first_look has_old in_turn 0) 0
   pub none : count ≡ 0 → look_step r ≡ Done (end_of (not has_old))
   pub count_is : r.count ≡ count
   pub old : r.has_old ≡ has_old
   pub turn : r.in_turn ≡ in_turn
+  pub lenient : r.is_lenient ≡ is_lenient
   pub newer : r.is_newer ≡ not has_old
 
 -- What became of a look when a step's answer was given, whatever the answer was.
@@ -72,6 +83,7 @@ pub record IsLookAnswered (r : Refresh) (said : Bool) (v : Refresh) : Type 0 whe
   pub count : v.count ≡ r.count
   pub old : v.has_old ≡ r.has_old
   pub turn : v.in_turn ≡ r.in_turn
+  pub lenient : v.is_lenient ≡ r.is_lenient
 
 -- ---- words of private parts
 
@@ -81,3 +93,4 @@ pub record IsNextFile (r v : Refresh) : Type 0 where
   pub count : v.count ≡ r.count
   pub old : v.has_old ≡ r.has_old
   pub turn : v.in_turn ≡ r.in_turn
+  pub lenient : v.is_lenient ≡ r.is_lenient

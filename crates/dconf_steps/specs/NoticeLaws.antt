@@ -1,11 +1,11 @@
 -- Looks at files that others change, whatever is answered.
-use Rattle.std.specs.Prelude.{ℕ, ◌≡◌, ◌≢◌, ◌⊎◌, ◌+◌, ◌≤◌, Bool, true, false, IsTrue, List, [], ◌∷◌}
+use Rattle.std.specs.Prelude.{ℕ, ◌≡◌, ◌≢◌, ◌⊎◌, ◌↔◌, ◌+◌, ◌≤◌, Bool, true, false, IsTrue, List, [], ◌∷◌, map, if◌then◌else◌}
 use Rattle.dconf_steps.specs.declared.notice.Notice.{Notice}
 use Rattle.dconf_steps.specs.declared.notice.NoticeStep.{NoticeStep}
 use Rattle.dconf_steps.specs.declared.notice.NoticeStep.TheVariants.{Watch, Look, Rest}
 use Rattle.dconf_steps.specs.declared.notice.NoticeEvent.{NoticeEvent}
 use Rattle.dconf_steps.specs.declared.notice.NoticeEvent.TheVariants.{File, Folder, Time}
-use Rattle.dconf_steps.specs.Notices.{notice_step, is_come, IsNoticeBegun, IsNoticeTold, IsNoticeAnswered}
+use Rattle.dconf_steps.specs.Notices.{notice_step, is_come, AreTold, IsNoticeBegun, IsNoticeTold, IsNoticeAnswered, due_at}
 
 pub data NoticeMoment : Type 0 where
   -- an event, and when it was told
@@ -77,13 +77,9 @@ AreFollowed (m ∷ more) u = (IsTrue (is_heard m.step m.moment) → HasSeenSince
 
 -- ---- how often, and when
 
-abbrev pub one_if : Bool → ℕ
-one_if true = 1
-one_if false = 0
-
 abbrev pub heard_in : List Noticed → ℕ
 heard_in [] = 0
-heard_in (m ∷ more) = one_if (is_heard m.step m.moment) + heard_in more
+heard_in (m ∷ more) = (if is_heard m.step m.moment then 1 else 0) + heard_in more
 
 abbrev pub look_by : NoticeStep → NoticeMoment → ℕ
 look_by Look (answers said now) = 1
@@ -117,3 +113,18 @@ pub record IsGoodNotice (taken : List Noticed) (u : Notice) : Type 0 where
 
 abbrev pub WhateverIsNoticed : Type 0
 WhateverIsNoticed = (taken : List Noticed) (w u : Notice) → IsNoticeBegun w → RanNotice taken w u → IsGoodNotice taken u
+
+-- ---- what is told at once, and when the next look is due
+
+abbrev pub told_at : ℕ → List NoticeEvent → List NoticeMoment
+told_at now events = map {B = NoticeMoment} (λ event. tells event now) events
+
+-- The notice took just these events. So what holds of each run holds where several are told at once.
+abbrev pub WhatIsToldIsNoticed : Type 0
+WhatIsToldIsNoticed =
+    (events : List NoticeEvent) (now : ℕ) (w v : Notice) → AreTold events now w v →
+    (taken : List Noticed) × (map (λ m. m.moment) taken ≡ told_at now events) × RanNotice taken w v
+
+-- Whoever waits until a step is due misses no look: it is due at some moment just if a look is to come.
+abbrev pub WhatComesIsDue : Type 0
+WhatComesIsDue = (step : NoticeStep) → IsToLook step ↔ (due_at step ≢ 0)

@@ -1,5 +1,5 @@
 -- When whoever is told of changes looks at the files. All moments are of one clock, in microseconds; 0 is none.
-use Rattle.std.specs.Prelude.{ℕ, ◌≡◌, ◌+◌, ◌*◌, min, max, Bool, true, false, not, ◌&&◌, nat_eq, nat_le}
+use Rattle.std.specs.Prelude.{ℕ, ◌≡◌, ◌+◌, ◌*◌, min, max, Bool, true, false, not, ◌&&◌, nat_eq, nat_le, List, [], ◌∷◌, Option, None, Some}
 use Rattle.dconf_steps.specs.declared.notice.Notice.{Notice}
 use Rattle.dconf_steps.specs.declared.notice.NoticeStage.{NoticeStage}
 use Rattle.dconf_steps.specs.declared.notice.NoticeStage.TheVariants.{Watching, Looking, Resting}
@@ -65,6 +65,45 @@ pub record IsNoticeTold (w : Notice) (event : NoticeEvent) (now : ℕ) (v : Noti
   pub owed : v.owed ≡ owed_after (notice_step w) event w.owed
   pub whole : v.is_whole ≡ w.is_whole
   pub pause : v.pause ≡ w.pause
+
+-- these were told, one after another
+abbrev pub AreTold : List NoticeEvent → ℕ → Notice → Notice → Type 0
+AreTold [] now w v = v ≡ w
+AreTold (event ∷ more) now w v = (u : Notice) × IsNoticeTold w event now u × AreTold more now u v
+
+-- what was heard since the last time, if anything, and that time passed
+abbrev pub heard_events : Option NoticeEvent → List NoticeEvent
+heard_events None = Time ∷ []
+heard_events (Some event) = event ∷ Time ∷ []
+
+-- whoever rests is asked to look; another look comes anyway
+abbrev pub asked_events : NoticeStep → List NoticeEvent
+asked_events (Rest until) = File ∷ []
+asked_events step = []
+
+abbrev pub IsNoticeAsked : Notice → Option NoticeEvent → ℕ → Notice → Type 0
+IsNoticeAsked w event now v = (u : Notice) × AreTold (heard_events event) now w u × AreTold (asked_events (notice_step u)) now u v
+
+-- that time passed, if somebody minds
+abbrev pub time_events : Bool → List NoticeEvent
+time_events true = Time ∷ []
+time_events false = []
+
+-- other files are the store's: a watch that comes is of those
+abbrev pub anew_events : NoticeStep → List NoticeEvent
+anew_events Watch = []
+anew_events step = Folder ∷ []
+
+-- when a step is due: a rest ends at its moment, if it has one, and any other step is due at once
+abbrev pub due_at : NoticeStep → ℕ
+due_at (Rest until) = until
+due_at step = 1
+
+-- no rest ends by time, unless somebody minds
+abbrev pub due_if : Bool → NoticeStep → ℕ
+due_if true step = due_at step
+due_if false (Rest until) = 0
+due_if false step = due_at step
 
 -- ---- what is answered
 

@@ -10,9 +10,8 @@
 ghost use Rattle.dconf_steps.specs.WaitLaws.{HoweverLongItWaits};
 ghost use Rattle.dconf_steps.specs.RefreshLaws.{WhateverIsSeen};
 ghost use Rattle.dconf_steps.specs.QueueLaws.{WhateverIsWritten};
-ghost use Rattle.dconf_steps.specs.NoticeLaws.{WhateverIsNoticed};
+ghost use Rattle.dconf_steps.specs.NoticeLaws.{WhatComesIsDue, WhatIsToldIsNoticed, WhateverIsNoticed};
 
-mod due;
 mod next_step;
 mod notice;
 mod notice_record;
@@ -23,7 +22,6 @@ mod refresh_record;
 mod wait;
 mod wait_record;
 
-pub use due::{exit_goes_on, is_to_write, pause_after, sleep_until, sync_goes_on};
 pub use next_step::NextStep;
 pub use notice::{Notice, NoticeEvent, NoticeStep};
 pub use notice_record::NoticeRecord;
@@ -56,4 +54,14 @@ pub fn whatever_is_written()
 /// or at a moment that is said: 20 milliseconds to a second after the last answer. No other look is made.
 pub fn whatever_is_noticed()
     ensures { WhateverIsNoticed }
+{}
+
+/// What is told at once is told event by event: so the law above holds of it.
+pub fn what_is_told_is_noticed()
+    ensures { WhatIsToldIsNoticed }
+{}
+
+/// The next step is due at some moment just if a look is to come: whoever waits until then misses none.
+pub fn what_comes_is_due()
+    ensures { WhatComesIsDue }
 {}

@@ -1,7 +1,7 @@
 //! When whoever is told of changes looks at the files: at each event, and again after a look that failed.
-ghost use Rattle.std.specs.Prelude.{ℕ, ◌≡◌};
+ghost use Rattle.std.specs.Prelude.{ℕ, ◌≡◌, ◌||◌};
 ghost use Rattle.dconf_steps.specs.declared.notice.NoticeStage.TheVariants as NoticeStage;
-ghost use Rattle.dconf_steps.specs.Notices.{IsNoticeAnswered, IsNoticeBegun, IsNoticeTold, after_look, at_its_time, is_come, look_again, next_look_pause, notice_step, notice_step_at, owed_after, owed_by, pause_by, woken_by};
+ghost use Rattle.dconf_steps.specs.Notices.{AreTold, IsNoticeAnswered, IsNoticeAsked, IsNoticeBegun, IsNoticeTold, after_look, anew_events, at_its_time, due_if, heard_events, is_come, look_again, next_look_pause, notice_step, notice_step_at, owed_after, owed_by, pause_by, time_events, woken_by};
 
 /// The pause before a look that failed is repeated: the first one, and the longest, in microseconds.
 const SHORTEST_LOOK_PAUSE: u64 = 20_000;
@@ -10,6 +10,9 @@ const LONGEST_LOOK_PAUSE: u64 = 1_000_000;
 
 /// Until the next look, if not all can be watched.
 const BETWEEN_LOOKS: u64 = 1_000_000;
+
+/// A moment that is over.
+const AT_ONCE: u64 = 1;
 
 /// What whoever is told of changes does next.
 #[derive(Clone, Copy)]
@@ -95,6 +98,59 @@ impl Notice {
             owed: self.owed_after(event),
             ..*self
         };
+    }
+
+    /// Takes what was heard since the last time, if anything, and that time passed.
+    pub fn heard(&mut self, event: Option<NoticeEvent>, now: u64)
+        ensures { AreTold (heard_events event) now self.old self.new }
+    {
+        if let Some(event) = event {
+            self.told(event, now);
+        }
+        self.told(NoticeEvent::Time, now);
+    }
+
+    /// The same, as somebody asks for a look: and what comes next, which is no rest.
+    pub fn asked(&mut self, event: Option<NoticeEvent>, now: u64) -> NoticeStep
+        ensures taken { IsNoticeAsked self.old event now self.new }
+        ensures step { result ≡ notice_step self.new }
+    {
+        self.heard(event, now);
+        if let NoticeStage::Resting = self.stage {
+            self.told(NoticeEvent::File, now);
+        }
+        self.next()
+    }
+
+    /// Takes that time passed. Where not all is watched, and nobody listens, no look is made for that.
+    pub fn passed(&mut self, listens: bool, now: u64)
+        ensures { AreTold (time_events (self.old.is_whole || listens)) now self.old self.new }
+    {
+        if self.is_whole || listens {
+            self.told(NoticeEvent::Time, now);
+        }
+    }
+
+    /// Takes that other files are the store's, unless those are to be watched next.
+    pub fn opened_anew(&mut self, now: u64)
+        ensures { AreTold (anew_events (notice_step self.old)) now self.old self.new }
+    {
+        match self.stage {
+            NoticeStage::Watching => {}
+            _ => self.told(NoticeEvent::Folder, now),
+        }
+    }
+
+    /// When the next step is due; 0 is never, unless something happens. Where not all is watched, and nobody listens, no rest ends by
+    /// time.
+    pub fn due(&self, listens: bool) -> u64
+        ensures { result ≡ due_if (self.now.is_whole || listens) (notice_step self.now) }
+    {
+        match (self.stage, self.is_whole || listens) {
+            (NoticeStage::Resting, true) => self.until,
+            (NoticeStage::Resting, false) => 0,
+            _ => AT_ONCE,
+        }
     }
 
     /// Takes the answer to the step that `next` says, and when that was: whether all files are watched, or whether the look

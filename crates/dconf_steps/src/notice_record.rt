@@ -1,7 +1,7 @@
 //! A notice of changes as plain numbers, for a caller that is not Rust.
-ghost use Rattle.std.specs.Prelude.{◌≡◌};
-ghost use Rattle.dconf_steps.specs.NoticeRecords.{IsNoticeSaid, notice_event_of, notice_of, notice_stage_of, owed_of};
-ghost use Rattle.dconf_steps.specs.Notices.{IsNoticeAnswered, IsNoticeBegun, IsNoticeTold, notice_step};
+ghost use Rattle.std.specs.Prelude.{◌≡◌, ◌||◌};
+ghost use Rattle.dconf_steps.specs.NoticeRecords.{notice_event_of, notice_of, notice_stage_of, notice_step_number, owed_of, rest_until};
+ghost use Rattle.dconf_steps.specs.Notices.{AreTold, IsNoticeAnswered, IsNoticeAsked, IsNoticeBegun, anew_events, due_at, due_if, heard_events, notice_step, time_events};
 
 use crate::notice::{Notice, NoticeEvent, NoticeStage, NoticeStep, Owed};
 
@@ -26,7 +26,8 @@ impl NoticeRecord {
 
     /// What comes next: 0 watch, 1 look, 2 rest; and until when, of a rest.
     pub fn next(&self) -> (u32, u64)
-        ensures { IsNoticeSaid (notice_step (notice_of self.now)) result.0 result.1 }
+        ensures step { result.0 ≡ notice_step_number (notice_step (notice_of self.now)) }
+        ensures until { result.1 ≡ rest_until (notice_step (notice_of self.now)) }
     {
         match self.notice().next() {
             NoticeStep::Watch => (0, 0),
@@ -35,22 +36,60 @@ impl NoticeRecord {
         }
     }
 
-    /// As [`Notice::told`]: 0 a file, 1 a folder, else time.
-    pub fn told(&mut self, event: u32, now: u64)
-        ensures { IsNoticeTold (notice_of self.old) (notice_event_of event) now (notice_of self.new) }
+    /// As [`Notice::heard`]: 0 a file, 1 a folder, else nothing.
+    pub fn heard(&mut self, event: u32, now: u64)
+        ensures { AreTold (heard_events (notice_event_of event)) now (notice_of self.old) (notice_of self.new) }
     {
         let mut notice = self.notice();
-        notice.told(event_of(event), now);
+        notice.heard(event_of(event), now);
         *self = NoticeRecord::of(notice);
     }
 
-    /// As [`Notice::answered`].
-    pub fn answered(&mut self, yes: bool, now: u64)
-        ensures { IsNoticeAnswered (notice_of self.old) yes now (notice_of self.new) }
+    /// As [`Notice::asked`]: what comes next is 0 watch, 1 look.
+    pub fn asked(&mut self, event: u32, now: u64) -> u32
+        ensures taken { IsNoticeAsked (notice_of self.old) (notice_event_of event) now (notice_of self.new) }
+        ensures step { result ≡ notice_step_number (notice_step (notice_of self.new)) }
+    {
+        let mut notice = self.notice();
+        let step = notice.asked(event_of(event), now);
+        *self = NoticeRecord::of(notice);
+        step_number_of(step)
+    }
+
+    /// As [`Notice::passed`].
+    pub fn passed(&mut self, listens: bool, now: u64)
+        ensures { AreTold (time_events ((notice_of self.old).is_whole || listens)) now (notice_of self.old) (notice_of self.new) }
+    {
+        let mut notice = self.notice();
+        notice.passed(listens, now);
+        *self = NoticeRecord::of(notice);
+    }
+
+    /// As [`Notice::opened_anew`].
+    pub fn opened_anew(&mut self, now: u64)
+        ensures { AreTold (anew_events (notice_step (notice_of self.old))) now (notice_of self.old) (notice_of self.new) }
+    {
+        let mut notice = self.notice();
+        notice.opened_anew(now);
+        *self = NoticeRecord::of(notice);
+    }
+
+    /// As [`Notice::due`].
+    pub fn due(&self, listens: bool) -> u64
+        ensures { result ≡ due_if ((notice_of self.now).is_whole || listens) (notice_step (notice_of self.now)) }
+    {
+        self.notice().due(listens)
+    }
+
+    /// As [`Notice::answered`]; and when the next step is due, for who minds the time.
+    pub fn answered(&mut self, yes: bool, now: u64) -> u64
+        ensures taken { IsNoticeAnswered (notice_of self.old) yes now (notice_of self.new) }
+        ensures due { result ≡ due_at (notice_step (notice_of self.new)) }
     {
         let mut notice = self.notice();
         notice.answered(yes, now);
         *self = NoticeRecord::of(notice);
+        notice.due(true)
     }
 
     fn of(notice: Notice) -> NoticeRecord
@@ -78,13 +117,23 @@ impl NoticeRecord {
     }
 }
 
-fn event_of(number: u32) -> NoticeEvent
+fn event_of(number: u32) -> Option<NoticeEvent>
     ensures { result ≡ notice_event_of number }
 {
     match number {
-        0 => NoticeEvent::File,
-        1 => NoticeEvent::Folder,
-        _ => NoticeEvent::Time,
+        0 => Some(NoticeEvent::File),
+        1 => Some(NoticeEvent::Folder),
+        _ => None,
+    }
+}
+
+fn step_number_of(step: NoticeStep) -> u32
+    ensures { result ≡ notice_step_number step }
+{
+    match step {
+        NoticeStep::Watch => 0,
+        NoticeStep::Look => 1,
+        NoticeStep::Rest(_) => 2,
     }
 }
 

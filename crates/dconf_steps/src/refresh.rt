@@ -1,7 +1,9 @@
 //! A look at the files of a store: which are read again, and whether the newer snapshot is handed out.
 ghost use Rattle.std.specs.Prelude.{◌≡◌, true, false};
 ghost use Rattle.dconf_steps.specs.declared.refresh.LookStage.TheVariants.{Over};
-ghost use Rattle.dconf_steps.specs.Looks.{IsLookAnswered, IsNextFile, IsRefreshBegun, after_reading, end_of, first_look, look_step};
+ghost use Rattle.dconf_steps.specs.Looks.{IsLookAnswered, IsNextFile, IsRefreshBegun, after_reading, end_of, first_look, is_had, is_read_leniently, look_step};
+
+use dconf_verdicts::{FaultKind, is_files_own};
 
 /// What a look at the files of a store does next. The number is a file's, of those of the store.
 #[derive(Clone, Copy)]
@@ -52,14 +54,16 @@ pub struct Refresh {
     pub(crate) has_old: bool,
     /// The first file is to be read whatever the host says of it: it is this program's turn to change it.
     pub(crate) in_turn: bool,
+    /// A file that can't be read by a fault of its own counts as nothing.
+    pub(crate) is_lenient: bool,
     /// A part is another one, or there was no snapshot.
     pub(crate) is_newer: bool,
 }
 
 impl Refresh {
     /// A look at so many files, of which nothing is done yet.
-    pub fn begin(count: usize, has_old: bool, in_turn: bool) -> Refresh
-        ensures { IsRefreshBegun count has_old in_turn result }
+    pub fn begin(count: usize, has_old: bool, in_turn: bool, is_lenient: bool) -> Refresh
+        ensures { IsRefreshBegun count has_old in_turn is_lenient result }
     {
         let begun = Refresh {
             stage: LookStage::Over(LookEnd::Same),
@@ -67,6 +71,7 @@ impl Refresh {
             count,
             has_old,
             in_turn,
+            is_lenient,
             is_newer: !has_old,
         };
         if count == 0 {
@@ -94,6 +99,14 @@ impl Refresh {
         ensures { IsLookAnswered self.old yes self.new }
     {
         *self = if yes { self.done() } else { self.failed() };
+    }
+
+    /// What a fault of the host answers to the step: no, but to a lenient look a file's own fault is a yes to its reading. What can't be
+    /// read counts as nothing.
+    pub fn is_had(&self, kind: FaultKind) -> bool
+        ensures { result ≡ is_had (look_step self.now) self.now.is_lenient kind }
+    {
+        self.is_read_leniently() && is_files_own(kind)
     }
 
     /// What comes of a step that was answered by yes.
@@ -124,6 +137,12 @@ impl Refresh {
             LookStage::Keeping => self.next_file(),
             LookStage::Over(_) => self,
         }
+    }
+
+    fn is_read_leniently(&self) -> bool
+        ensures { result ≡ is_read_leniently (look_step self.now) self.now.is_lenient }
+    {
+        self.is_lenient && matches!(self.stage, LookStage::Reading)
     }
 
     /// Goes on with the file after this one, if there is one.

@@ -1,10 +1,12 @@
 //! A look at the files of a store as plain numbers, for a caller that is not Rust.
 ghost use Rattle.std.specs.Prelude.{◌≡◌};
-ghost use Rattle.dconf_steps.specs.Looks.{IsLookAnswered, IsRefreshBegun, look_step};
+ghost use Rattle.dconf_steps.specs.Looks.{IsLookAnswered, IsRefreshBegun, is_had, look_step};
+ghost use Rattle.dconf_verdicts.specs.Faults.{kind_of};
 ghost use Rattle.dconf_steps.specs.LookRecords.{IsLookTold, look_of, look_stage_of};
 
 use crate::next_step::NextStep;
 use crate::refresh::{LookEnd, LookStage, LookStep, Refresh};
+use dconf_verdicts::kind_of;
 
 /// A look, as its caller owns it. Nobody but these calls writes its fields; a stage that is none of theirs is a look that failed.
 #[repr(C)]
@@ -15,15 +17,16 @@ pub struct RefreshRecord {
     count: usize,
     has_old: bool,
     in_turn: bool,
+    is_lenient: bool,
     is_newer: bool,
 }
 
 impl RefreshRecord {
     /// As [`Refresh::begin`].
-    pub fn begin(count: usize, has_old: bool, in_turn: bool) -> RefreshRecord
-        ensures { IsRefreshBegun count has_old in_turn (look_of result) }
+    pub fn begin(count: usize, has_old: bool, in_turn: bool, is_lenient: bool) -> RefreshRecord
+        ensures { IsRefreshBegun count has_old in_turn is_lenient (look_of result) }
     {
-        RefreshRecord::of(Refresh::begin(count, has_old, in_turn))
+        RefreshRecord::of(Refresh::begin(count, has_old, in_turn, is_lenient))
     }
 
     /// What comes next, and the file: 0 stat, 1 read, 2 compare, 3 keep, 4 open; or that it is over: 5 failed, 6 the same, 7 newer.
@@ -51,6 +54,13 @@ impl RefreshRecord {
         *self = RefreshRecord::of(refresh);
     }
 
+    /// As [`Refresh::is_had`], by the number of the kind of fault, as [`dconf_verdicts::class_number`] has it.
+    pub fn is_had(&self, kind: u32) -> bool
+        ensures { result ≡ is_had (look_step (look_of self.now)) self.now.is_lenient (kind_of kind) }
+    {
+        self.refresh().is_had(kind_of(kind))
+    }
+
     fn of(refresh: Refresh) -> RefreshRecord
         ensures { look_of result ≡ refresh }
     {
@@ -60,6 +70,7 @@ impl RefreshRecord {
             count: refresh.count,
             has_old: refresh.has_old,
             in_turn: refresh.in_turn,
+            is_lenient: refresh.is_lenient,
             is_newer: refresh.is_newer,
         }
     }
@@ -73,6 +84,7 @@ impl RefreshRecord {
             count: self.count,
             has_old: self.has_old,
             in_turn: self.in_turn,
+            is_lenient: self.is_lenient,
             is_newer: self.is_newer,
         }
     }

@@ -1,3 +1,6 @@
 pub mod NotedLaws
 pub mod PutLaws
 pub mod TurnLaws
+pub mod LeavingLaws
+pub mod MomentLaws
+pub mod RoomLaws

@@ -1,3 +1,7 @@
 pub mod Times
+pub mod Leaving
+pub mod Moments
+pub mod Room
+pub mod Seeing
 pub mod Noted
 pub mod Turns

@@ -1,4 +1,7 @@
 //! What comes of turns: no older set overwrites a newer one, and what is made together is made whole. Nothing is computed here.
+ghost use Rattle.dconf_times.specs.Leaving.{NoOlderWins};
+ghost use Rattle.dconf_times.specs.Moments.{MomentsAreTimed};
+ghost use Rattle.dconf_times.specs.Room.{NoneIsForgotten};
 ghost use Rattle.dconf_times.specs.Turns.{IsWhole, LatestStands, OneCounts};
 
 /// What stands at a key after any turns is the latest of all that was to be written there, by
@@ -16,4 +19,22 @@ pub fn one_edit_counts()
 /// All edits of a change are written, or none is.
 pub fn a_change_is_whole()
     ensures { IsWhole }
+{}
+
+/// No edit is written over a newer one that is noted: what is left out by [`leave_out`](crate::leave_out)
+/// and what isn't. A guess alone leaves out nothing of a program that knows better, and a change is
+/// left out as a whole.
+pub fn no_older_edit_wins()
+    ensures { NoOlderWins }
+{}
+
+/// The times of a program's moments, which are in order and never to come, and no earlier than what it noted; and the same by
+/// whichever program, as long as nobody sets the clock.
+pub fn moments_are_timed()
+    ensures { MomentsAreTimed }
+{}
+
+/// Of what goes where notes are too many it is noted that it was set by then: nothing older wins.
+pub fn none_is_forgotten()
+    ensures { NoneIsForgotten }
 {}

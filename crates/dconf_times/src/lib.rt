@@ -15,9 +15,20 @@
 #![tactic(auto)]
 
 mod laws;
+mod leaving;
+mod moments;
 mod notes;
+mod room;
+mod seeing;
 mod times;
 
-pub use laws::{a_change_is_whole, one_edit_counts, the_latest_stands};
+pub use laws::{
+    a_change_is_whole, moments_are_timed, no_older_edit_wins, none_is_forgotten, one_edit_counts,
+    the_latest_stands,
+};
+pub use leaving::{DconfdbAsked, leave_out};
+pub use moments::{time_of_file, time_of_moment};
 pub use notes::note_times;
-pub use times::{DconfdbTime, is_left_out, is_overtaken};
+pub use room::newest;
+pub use seeing::{DconfdbSeen, note_made, note_seen};
+pub use times::{DconfdbTime, is_overtaken};

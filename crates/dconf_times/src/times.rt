@@ -1,6 +1,5 @@
 //! When paths were set.
 ghost use Rattle.std.specs.Prelude.{◌≡◌, map};
-ghost use Rattle.std.specs.List.{list_any};
 ghost use Rattle.dconf_model.specs.Locks.{covers};
 ghost use Rattle.dconf_times.specs.Times.{is_overtaken, note_of, time_told};
 
@@ -28,7 +27,7 @@ impl DconfdbTime<'_> {
 }
 
 /// Whether a path is the same as another, or that of a directory above it.
-fn covers(above: &[u8], path: &[u8]) -> bool
+pub(crate) fn covers(above: &[u8], path: &[u8]) -> bool
     ensures { result ≡ covers above.now path.now }
 {
     above == path || (above.ends_with(b"/") && path.starts_with(above))
@@ -41,18 +40,6 @@ pub fn is_overtaken(times: &[DconfdbTime<'_>], path: &[u8], when: u64, now: u64)
 {
     for time in times {
         if time.told_of(path, now) > when {
-            return true;
-        }
-    }
-    false
-}
-
-/// Whether a change is left out, by which of its edits are overtaken: they are made together, or none is.
-pub fn is_left_out(overtaken: &[bool]) -> bool
-    ensures { result ≡ list_any (λ is. is) overtaken.now }
-{
-    for is in overtaken {
-        if *is {
             return true;
         }
     }

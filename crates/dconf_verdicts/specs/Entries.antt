@@ -16,10 +16,14 @@ goes edit = edit.may
 abbrev pub is_news : NewEdit → Bool
 is_news edit = edit.may && not edit.is_same
 
--- it is one edit, which says what the one that waits says
+-- One waits that says the same, is alone in its change, and is nobody's to write yet.
+abbrev pub has_twin : NewEdit → Bool
+has_twin edit = edit.waits && edit.is_same && edit.is_alone && not edit.is_taken
+
+-- it is one edit, and has such a one
 abbrev pub renews : List NewEdit → Bool
 renews [] = false
-renews (edit ∷ []) = edit.renews
+renews (edit ∷ []) = has_twin edit
 renews (edit ∷ other ∷ more) = false
 
 abbrev pub entry_of : List NewEdit → Entry
@@ -33,6 +37,10 @@ entry_number Empty = 1
 entry_number Renews = 2
 entry_number Asks = 3
 entry_number Waits = 4
+
+-- The user has it, and no other edit of its key waits; or it is the reset of a key that may not be written.
+abbrev pub is_there : NewEdit → Bool
+is_there edit = if edit.may then edit.is_same && not edit.waits else not edit.sets
 
 -- ---- the law
 
@@ -49,6 +57,8 @@ pub record IsGoodEntry (edits : List NewEdit) : Type 0 where
   pub refused : (entry_of edits ≡ Refused) ↔ (list_any is_barred edits ≡ true)
   -- the newest is the newest, be it what waits or is there already
   pub kept : list_any is_barred edits ≡ false → list_any goes edits ≡ true → IsKept (entry_of edits)
+  -- it counts as the one that waits only if that says the same, all of it, and nobody writes it yet
+  pub twin : entry_of edits ≡ Renews → (edit : NewEdit) × (edits ≡ edit ∷ []) × (has_twin edit ≡ true)
 
 abbrev pub NewestIsKept : Type 0
 NewestIsKept = (edits : List NewEdit) → IsGoodEntry edits

@@ -1,7 +1,7 @@
 //! What becomes of a change that is asked for, beside what waits and what is stored.
 ghost use Rattle.std.specs.Prelude.{◌≡◌};
-ghost use Rattle.std.specs.List.{list_any};
-ghost use Rattle.dconf_verdicts.specs.Entries.{entry_number, entry_of, goes, is_barred, is_news, renews};
+ghost use Rattle.std.specs.List.{list_all, list_any};
+ghost use Rattle.dconf_verdicts.specs.Entries.{entry_number, entry_of, goes, is_barred, is_news, is_there, renews};
 
 /// An edit that is asked for, and what is known of its key.
 #[repr(C)]
@@ -13,8 +13,12 @@ pub struct NewEdit {
     pub may: bool,
     /// It says what the newest edit says that waits of its key; or, where none waits, the user has that by what was seen last.
     pub is_same: bool,
-    /// One waits that says the same, is alone in its change, and is nobody's to write yet.
-    pub renews: bool,
+    /// One waits of its key.
+    pub waits: bool,
+    /// The newest of them is alone in its change.
+    pub is_alone: bool,
+    /// Somebody writes that one already.
+    pub is_taken: bool,
 }
 
 /// What becomes of it.
@@ -64,6 +68,19 @@ pub fn entry_number(edits: &[NewEdit]) -> u32
     }
 }
 
+/// Whether all that a change asks for is there already, by what was seen last, so that nothing is to be written: the user has it, and no
+/// other edit of its keys waits (`waits`).
+pub fn is_there(edits: &[NewEdit]) -> bool
+    ensures { result ≡ list_all is_there edits.now }
+{
+    for edit in edits {
+        if edit.sets && !edit.may || is_news(*edit) || edit.may && edit.waits {
+            return false;
+        }
+    }
+    true
+}
+
 fn has_barred(edits: &[NewEdit]) -> bool
     ensures { result ≡ list_any is_barred edits.now }
 {
@@ -90,19 +107,26 @@ fn has_news(edits: &[NewEdit]) -> bool
     ensures { result ≡ list_any is_news edits.now }
 {
     for edit in edits {
-        if edit.may && !edit.is_same {
+        if is_news(*edit) {
             return true;
         }
     }
     false
 }
 
-/// Whether it is one edit, and renews the one that waits.
+/// Whether it is one edit, and one waits that says the same, is alone in its change, and is nobody's to write yet.
 fn renews(edits: &[NewEdit]) -> bool
     ensures { result ≡ renews edits.now }
 {
     match edits {
-        [edit] => edit.renews,
+        [edit] => edit.waits && edit.is_same && edit.is_alone && !edit.is_taken,
         _ => false,
     }
+}
+
+/// Whether something else is seen by an edit that waits: that is told.
+pub fn is_news(edit: NewEdit) -> bool
+    ensures { result ≡ is_news edit }
+{
+    edit.may && !edit.is_same
 }

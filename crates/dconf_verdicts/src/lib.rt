@@ -1,17 +1,23 @@
 //! What becomes of a change: when it is asked for, beside what waits and what is stored, by [`entry_of`]; and when the host fails, by
-//! [`class_of`].
+//! [`class_of`], and to some calls by [`answer_of`].
 //!
 //! Nothing is kept here. Whoever asks says what it knows, and does as it is told.
 #![tactic(auto)]
 
+ghost use Rattle.dconf_verdicts.specs.Answers.{EachHasOneAnswer};
 ghost use Rattle.dconf_verdicts.specs.Entries.{NewestIsKept};
-ghost use Rattle.dconf_verdicts.specs.Faults.{EachIsOne};
+ghost use Rattle.dconf_verdicts.specs.Faults.{EachIsOne, OnlyFinalDrops};
 
+mod answers;
 mod entry;
 mod faults;
 
-pub use entry::{Entry, NewEdit, entry_number, entry_of};
-pub use faults::{FaultClass, FaultKind, class_number, class_of};
+pub use answers::{FaultAnswer, FileCall, answer_number, answer_of};
+pub use entry::{Entry, NewEdit, entry_number, entry_of, is_news, is_there};
+pub use faults::{
+    ChangeFault, FaultClass, FaultKind, Verdict, class_number, class_of, is_files_own,
+    is_momentary, kind_of, verdict_number, verdict_of,
+};
 
 /// A change is refused only where it sets what may not be written. Else it waits, if anything of it may be written: also where it says
 /// what waits, or is there, already.
@@ -22,4 +28,16 @@ pub fn the_newest_is_kept()
 /// A fault is the file's own, or passes; and none is both.
 pub fn each_fault_is_one()
     ensures { EachIsOne }
+{}
+
+/// What waits is refused for a fault exactly if that is final: a key that may not be written, a value that can't be, no right to the file.
+/// Never is anything dropped because a disk is full or fails, or because descriptors or memory are short.
+pub fn only_a_final_fault_drops()
+    ensures { OnlyFinalDrops }
+{}
+
+/// Each fault of a call has one answer. Whoever gives the new file its name is unsure after each fault by which the host may have done it,
+/// and after no other; only who locks finds a lock taken, and only who opens finds a lease.
+pub fn each_call_has_one_answer()
+    ensures { EachHasOneAnswer }
 {}

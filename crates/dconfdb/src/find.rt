@@ -1,20 +1,22 @@
 //! The store that `--user` or `--store` names, found as the library for C finds it.
 use dconf_args::Place;
+use dconf_places::{
+    Candidate, Environment, Found as ProfileFound, Given, Location, PathParts, ProfileStep,
+    is_beside, profile_step,
+};
 use std::alloc::AllocError;
-use std::env::{self, VarError};
+use std::env::{self, Env, FillError};
 use std::fs::{self, DirBuilder};
 use std::io::ErrorKind;
 use std::os::unix::fs::DirBuilderExt;
 
-/// The profile in a store's folder, that of all users, and the folder of those that have names.
-const OWN_PROFILE: &str = "profile";
+/// So many profiles may be looked at: that of the folder, and that of all users.
+const MOST_LOOKS: usize = 2;
 
-const EVERYONES: &str = "/etc/dconfdb/profile";
+/// A variable mostly has at most so many bytes, and never more than the second of these: Linux has none that is longer.
+const FEW: usize = 512;
 
-/// The folder of that profile, in which its databases of the system are.
-pub(crate) const EVERYONES_FOLDER: &str = "/etc/dconfdb";
-
-const NAMED: &str = "/etc/dconfdb/profiles";
+const MANY: usize = 131_072;
 
 /// A folder that is made is its user's alone.
 const OWN: u32 = 0o700;
@@ -37,7 +39,7 @@ pub(crate) struct Found {
 impl Found {
     /// Whether the databases of the system that its profile names are beside that: it is the one of all users, and the folder the user's.
     pub(crate) fn is_everyones(&self) -> bool {
-        self.profile.as_str() == EVERYONES && !self.is_given
+        is_beside(self.profile.as_bytes(), self.is_given)
     }
 }
 
@@ -64,85 +66,179 @@ impl From<AllocError> for NotFound {
 /// Enters the folder that was asked for, and says which profile its store has. A folder that isn't there is made where
 /// `makes` is set.
 pub(crate) fn enter(rt: &HostRuntime, place: Place, makes: bool) -> Result<Found, NotFound> {
-    let Place {
-        is_users,
-        folder,
-        profile,
-    } = place;
-    let is_given = folder.is_some();
-    let folder = match folder {
-        Some(_) if is_users => return Err(NotFound::Both),
-        Some(folder) => absolute(rt, folder)?,
-        None => absolute(rt, users_folder(rt)?)?,
+    if place.is_users && place.folder.is_some() {
+        return Err(NotFound::Both);
+    }
+    let variables = Variables::of(rt)?;
+    let Some(folder) = folder_of(rt, &variables, &place)? else {
+        return Err(NotFound::NoFolder);
     };
     // A name is relative to where the program was started.
-    let named = named_profile(rt, profile)?;
+    let named = named_profile(rt, &variables, &place)?;
     let has_folder = go_to(rt, folder.as_str(), makes)?;
-    match named {
-        Some(profile) => Ok(Found {
-            folder,
-            profile,
-            has_profile: true,
-            has_folder,
-            is_given,
-        }),
-        None => with_own_profile(rt, folder, has_folder, is_given),
+    let (profile, has_profile) = profile_of(rt, folder.as_str(), named)?;
+    Ok(Found {
+        folder,
+        profile,
+        has_profile,
+        has_folder,
+        is_given: place.folder.is_some(),
+    })
+}
+
+/// What the environment says of a store.
+#[derive(Drop)]
+struct Variables {
+    store: Vec<u8>,
+    config: Vec<u8>,
+    home: Vec<u8>,
+    profile: Vec<u8>,
+}
+
+impl Variables {
+    fn of(rt: &HostRuntime) -> Result<Variables, NotFound> {
+        Ok(Variables {
+            store: variable(rt, "DCONFDB_STORE")?,
+            config: variable(rt, "XDG_CONFIG_HOME")?,
+            home: variable(rt, "HOME")?,
+            profile: variable(rt, "DCONFDB_PROFILE")?,
+        })
+    }
+
+    /// They count: where they don't, the launcher hands none on.
+    fn environment(&self) -> Environment<'_> {
+        Environment {
+            counts: true,
+            store: self.store.as_slice(),
+            config: self.config.as_slice(),
+            home: self.home.as_slice(),
+            profile: self.profile.as_slice(),
+        }
     }
 }
 
-/// The folder of the user's store.
-fn users_folder(rt: &HostRuntime) -> Result<String, NotFound> {
+/// The bytes of a variable of the environment, or none if it isn't set.
+fn variable(rt: &HostRuntime, name: &str) -> Result<Vec<u8>, NotFound> {
     let alloc = rt.alloc();
-    if let Some(folder) = variable(rt, "DCONFDB_STORE")? {
-        return Ok(folder);
-    }
-    if let Some(base) = absolute_variable(rt, "XDG_CONFIG_HOME")? {
-        return Ok(format!(in alloc; "{base}/dconfdb")?);
-    }
-    match absolute_variable(rt, "HOME")? {
-        Some(home) => Ok(format!(in alloc; "{home}/.config/dconfdb")?),
-        None => Err(NotFound::NoFolder),
+    let mut few = [0; FEW];
+    match rt.var(name, &mut few) {
+        Ok(len) => Ok(few[..len].to_vec(alloc)?),
+        Err(FillError::NotPresent) => Ok(Vec::new(alloc)),
+        Err(FillError::TooLong) => long_variable(rt, name),
     }
 }
 
-/// The profile's file, if it is named by a word or by the environment.
-fn named_profile(rt: &HostRuntime, word: Option<String>) -> Result<Option<String>, NotFound> {
-    if let Some(file) = word {
-        return Ok(Some(absolute(rt, file)?));
+fn long_variable(rt: &HostRuntime, name: &str) -> Result<Vec<u8>, NotFound> {
+    let mut many = vec![in rt.alloc(); 0; MANY]?;
+    match rt.var(name, &mut many) {
+        Ok(len) => {
+            many.truncate(len);
+            Ok(many)
+        }
+        Err(_) => Err(NotFound::NotText),
     }
-    match variable(rt, "DCONFDB_PROFILE")? {
-        Some(path) if path.contains('/') => Ok(Some(absolute(rt, path)?)),
-        Some(name) => Ok(Some(format!(in rt.alloc(); "{NAMED}/{name}")?)),
+}
+
+/// Who gives the folder.
+fn given(place: &Place) -> Given<'_> {
+    match &place.folder {
+        Some(folder) => Given::User(folder.as_bytes()),
+        None => Given::Nobody,
+    }
+}
+
+/// The whole path of the store's folder, if anybody says where it is.
+fn folder_of(
+    rt: &HostRuntime,
+    variables: &Variables,
+    place: &Place,
+) -> Result<Option<String>, NotFound> {
+    whole(
+        rt,
+        Location::of_folder(&variables.environment(), given(place)),
+    )
+}
+
+/// The whole path of the profile, if it is named by a word or by the environment.
+fn named_profile(
+    rt: &HostRuntime,
+    variables: &Variables,
+    place: &Place,
+) -> Result<Option<String>, NotFound> {
+    match &place.profile {
+        Some(file) => whole(rt, Location::of_path(file.as_bytes())),
+        None => whole(
+            rt,
+            Location::of_profile(&variables.environment(), given(place)),
+        ),
+    }
+}
+
+/// The whole path, if there is one. Nobody here knows the home that the system has for the user.
+fn whole(rt: &HostRuntime, location: Location<'_>) -> Result<Option<String>, NotFound> {
+    let base = match location {
+        Location::Current(_) => here(rt)?,
+        _ => String::new(rt.alloc()),
+    };
+    match location.path(base.as_bytes()) {
+        Some(path) => Ok(Some(text(rt, path)?)),
         None => Ok(None),
     }
 }
 
-/// The profile in the folder, else that of all users, else that of the user alone.
-fn with_own_profile(
-    rt: &HostRuntime,
-    folder: String,
-    has_folder: bool,
-    is_given: bool,
-) -> Result<Found, NotFound> {
-    let alloc = rt.alloc();
-    let is_own = has_folder && is_there(rt, OWN_PROFILE);
-    let profile = if is_own {
-        format!(in alloc; "{folder}/{OWN_PROFILE}")?
-    } else {
-        String::from_str(alloc, EVERYONES)?
-    };
-    Ok(Found {
-        folder,
-        profile,
-        has_profile: is_own || is_there(rt, EVERYONES),
-        has_folder,
-        is_given,
-    })
+/// The current folder.
+fn here(rt: &HostRuntime) -> Result<String, NotFound> {
+    match env::current_dir(rt) {
+        Ok(here) => Ok(String::from_str(rt.alloc(), here.as_str())?),
+        Err(error) if error.kind() == ErrorKind::OutOfMemory => Err(NotFound::Memory),
+        Err(_) => Err(device(rt, ".")),
+    }
 }
 
-/// Whether there is something of this name, even if it can't be looked at.
-fn is_there(rt: &HostRuntime, name: &str) -> bool {
-    fs::exists(rt, name).unwrap_or(true)
+/// The path as a text.
+fn text(rt: &HostRuntime, path: PathParts<'_>) -> Result<String, NotFound> {
+    match String::from_utf8(path.text(rt.alloc())?) {
+        Ok(path) => Ok(path),
+        Err(_) => Err(NotFound::NotText),
+    }
+}
+
+/// The path of the profile that counts, and whether there is one; else that of the user alone does. What can't be read is refused when it is
+/// read.
+fn profile_of(
+    rt: &HostRuntime,
+    folder: &str,
+    named: Option<String>,
+) -> Result<(String, bool), NotFound> {
+    let mut candidate = Candidate::first(named.is_some());
+    let named = named.as_deref().unwrap_or("");
+    for _ in 0..MOST_LOOKS {
+        let path = profile_path(rt, candidate, folder, named)?;
+        match profile_step(candidate, look(rt, path.as_str()), false) {
+            ProfileStep::Look(next) => candidate = next,
+            ProfileStep::UsersAlone => return Ok((path, false)),
+            _ => return Ok((path, true)),
+        }
+    }
+    Ok((profile_path(rt, candidate, folder, named)?, true))
+}
+
+fn profile_path(
+    rt: &HostRuntime,
+    candidate: Candidate,
+    folder: &str,
+    named: &str,
+) -> Result<String, NotFound> {
+    text(rt, candidate.path(folder.as_bytes(), named.as_bytes()))
+}
+
+/// What is of this name; nobody knows it of one that can't be looked at.
+fn look(rt: &HostRuntime, name: &str) -> ProfileFound {
+    match fs::exists(rt, name) {
+        Ok(true) => ProfileFound::There,
+        Ok(false) => ProfileFound::Missing,
+        Err(_) => ProfileFound::Unreadable,
+    }
 }
 
 /// Enters a folder, and says whether it is there.
@@ -174,36 +270,5 @@ fn device(rt: &HostRuntime, folder: &str) -> NotFound {
     match String::from_str(rt.alloc(), folder) {
         Ok(folder) => NotFound::Device(folder),
         Err(_) => NotFound::Memory,
-    }
-}
-
-/// A variable of the environment. An empty one is none.
-fn variable(rt: &HostRuntime, name: &str) -> Result<Option<String>, NotFound> {
-    match env::var(rt, name) {
-        Ok(text) if text.is_empty() => Ok(None),
-        Ok(text) => Ok(Some(text)),
-        Err(VarError::NotPresent) => Ok(None),
-        Err(VarError::OutOfMemory) => Err(NotFound::Memory),
-        Err(VarError::NotUnicode) => Err(NotFound::NotText),
-    }
-}
-
-/// One that counts if it is an absolute path.
-fn absolute_variable(rt: &HostRuntime, name: &str) -> Result<Option<String>, NotFound> {
-    match variable(rt, name)? {
-        Some(path) if path.starts_with('/') => Ok(Some(path)),
-        _ => Ok(None),
-    }
-}
-
-/// The absolute path of a name.
-fn absolute(rt: &HostRuntime, name: String) -> Result<String, NotFound> {
-    if name.starts_with('/') {
-        return Ok(name);
-    }
-    match env::current_dir(rt) {
-        Ok(here) => Ok(format!(in rt.alloc(); "{}/{name}", here.as_str())?),
-        Err(error) if error.kind() == ErrorKind::OutOfMemory => Err(NotFound::Memory),
-        Err(_) => Err(device(rt, ".")),
     }
 }

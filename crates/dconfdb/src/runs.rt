@@ -10,7 +10,7 @@ ghost use Rattle.dconf_streams.specs.Streams.{NoneFailed};
 ghost use Rattle.dconf_found.specs.FoundFolders as found;
 ghost use Rattle.dconf_found.specs.FoundFolders.{IsPast, agrees, inner_of};
 
-use crate::find::{EVERYONES_FOLDER, Found, NotFound, enter};
+use crate::find::{Found, NotFound, enter};
 use crate::keep::{forget, keep};
 use crate::messages::{REFUSED, refuse, refuse_device, refuse_memory, refuse_place, warn_of_bad};
 use crate::named::{first_file, warn_of_missing_ones};
@@ -18,6 +18,7 @@ use dconf_args::{Command, Place, Replaced, user_file};
 use dconf_cli::{Counted, run};
 use dconf_disk::{Folder, FolderFault, FolderLock, LockFault, StdFolder, folder_of};
 use dconf_found::{BadDatabase, FoundFolder};
+use dconf_places::EVERYONES_FOLDER;
 use std::alloc::AllocError;
 use std::io;
 

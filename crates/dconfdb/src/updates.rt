@@ -6,15 +6,13 @@ use crate::sources::{Unread, is_folder, names_in, source_folder};
 use dconf_args::{Command, Replaced, updates};
 use dconf_cli::{Counted, is_made};
 use dconf_disk::StdFolder;
+use dconf_places::EVERYONES_FOLDER;
 use std::io::ErrorKind;
 use std::{env, fs};
 
-/// The folder where none is named.
-const EVERYONES: &str = "/etc/dconfdb";
-
 /// Makes the databases of a folder that are not what their sources say.
 pub(crate) fn update(rt: &HostRuntime, folder: Option<String>) -> u8 {
-    let folder = folder.as_deref().unwrap_or(EVERYONES);
+    let folder = folder.as_deref().unwrap_or(EVERYONES_FOLDER);
     match env::set_current_dir(rt, folder) {
         Ok(()) => {
             let status = update_here(rt, folder);

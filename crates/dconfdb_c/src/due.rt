@@ -1,8 +1,8 @@
 //! When what waits is written, and how long who asks for that waits for it.
 ghost use Rattle.std.specs.Prelude.{ℕ, ◌≡◌, ◌≤◌, ◌<◌, ◌+◌, ◌*◌, ◌↔◌, ◌⊎◌, IsTrue, false};
-ghost use Rattle.dconf_steps.specs.Dues.{IsDue, IsFirstOf, next_pause};
+ghost use Rattle.dconf_waiting.specs.Dues.{IsDue, IsFirstOf, next_pause};
 
-use dconf_steps::{exit_goes_on, is_to_write, pause_after, sleep_until, sync_goes_on};
+use dconf_waiting::{exit_goes_on, is_to_write, pause_after, sleep_until};
 
 /// Whether a write begins now: something waits, and it is in line for its turn already, or no later
 /// moment was said.
@@ -35,15 +35,6 @@ pub extern "C" fn dconfdb_sleep_until(again: u64, look: u64, now: u64, wait: &mu
         }
         None => false,
     }
-}
-
-/// Whether who asks that all is written goes on waiting: fewer changes are settled than there were
-/// then, and the time isn't over.
-#[unsafe(no_mangle)]
-pub extern "C" fn dconfdb_sync_goes_on(settled: u64, added: u64, now: u64, end: u64) -> bool
-    ensures { IsTrue result ↔ ((settled < added) × (now < end)) }
-{
-    sync_goes_on(settled, added, now, end)
 }
 
 /// Whether the program's end goes on waiting: the time isn't over, and something moved within two

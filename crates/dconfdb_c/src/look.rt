@@ -1,21 +1,25 @@
 //! A look at the files of a store: what comes next, and what came of it. C carries out each step, and answers.
+ghost use Rattle.std.specs.Prelude.{◌≡◌};
 ghost use Rattle.dconf_steps.specs.LookRecords.{IsLookTold, look_of};
-ghost use Rattle.dconf_steps.specs.Looks.{IsLookAnswered, IsRefreshBegun, look_step};
+ghost use Rattle.dconf_steps.specs.Looks.{IsLookAnswered, IsRefreshBegun, is_had, look_step};
+ghost use Rattle.dconf_verdicts.specs.Faults.{kind_of};
 
 use dconf_steps::{NextStep, RefreshRecord};
 
 /// A look at so many files, of which nothing is done yet. `has_old`: there is an old snapshot.
-/// `in_turn`: the first file is read whatever the host says of it.
+/// `in_turn`: the first file is read whatever the host says of it. `is_lenient`: what can't be read by a
+/// fault of its own counts as nothing.
 #[unsafe(no_mangle)]
 pub extern "C" fn dconfdb_refresh_begin(
     refresh: &mut RefreshRecord,
     count: usize,
     has_old: bool,
     in_turn: bool,
+    is_lenient: bool,
 )
-    ensures { IsRefreshBegun count has_old in_turn (look_of refresh.new) }
+    ensures { IsRefreshBegun count has_old in_turn is_lenient (look_of refresh.new) }
 {
-    *refresh = RefreshRecord::begin(count, has_old, in_turn);
+    *refresh = RefreshRecord::begin(count, has_old, in_turn, is_lenient);
 }
 
 /// What comes next.
@@ -32,4 +36,13 @@ pub extern "C" fn dconfdb_refresh_answered(refresh: &mut RefreshRecord, yes: boo
     ensures { IsLookAnswered (look_of refresh.old) yes (look_of refresh.new) }
 {
     refresh.answered(yes);
+}
+
+/// What a fault of the host answers to the step, by its kind: no, but to a lenient look a file's own fault
+/// is a yes to its reading.
+#[unsafe(no_mangle)]
+pub extern "C" fn dconfdb_refresh_is_had(refresh: &RefreshRecord, kind: u32) -> bool
+    ensures { result ≡ is_had (look_step (look_of refresh.now)) refresh.now.is_lenient (kind_of kind) }
+{
+    refresh.is_had(kind)
 }

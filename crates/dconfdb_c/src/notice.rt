@@ -1,6 +1,7 @@
 //! When whoever is told of changes looks at the files: what comes next, and what happened. C carries out each step, and answers.
-ghost use Rattle.dconf_steps.specs.NoticeRecords.{IsNoticeSaid, notice_event_of, notice_of};
-ghost use Rattle.dconf_steps.specs.Notices.{IsNoticeAnswered, IsNoticeBegun, IsNoticeTold, notice_step};
+ghost use Rattle.std.specs.Prelude.{◌≡◌, ◌||◌};
+ghost use Rattle.dconf_steps.specs.NoticeRecords.{notice_event_of, notice_of, notice_step_number, rest_until};
+ghost use Rattle.dconf_steps.specs.Notices.{AreTold, IsNoticeAnswered, IsNoticeAsked, IsNoticeBegun, anew_events, due_at, due_if, heard_events, notice_step, time_events};
 
 use dconf_steps::NoticeRecord;
 
@@ -15,26 +16,62 @@ pub extern "C" fn dconfdb_notice_begin(notice: &mut NoticeRecord)
 /// What comes next: 0 watch the files, 1 look at them, 2 rest; and until when, of a rest, or 0.
 #[unsafe(no_mangle)]
 pub extern "C" fn dconfdb_notice_next(notice: &NoticeRecord, until: &mut u64) -> u32
-    ensures { IsNoticeSaid (notice_step (notice_of notice.now)) result until.new }
+    ensures step { result ≡ notice_step_number (notice_step (notice_of notice.now)) }
+    ensures until { until.new ≡ rest_until (notice_step (notice_of notice.now)) }
 {
     let (step, moment) = notice.next();
     *until = moment;
     step
 }
 
-/// Takes what happened, at any time: 0 a file may have changed, 1 other files may be the store's,
-/// else time passed.
+/// Takes what was heard, at any time, and that time passed: 0 a file may have changed, 1 other files may be the store's, else
+/// nothing was.
 #[unsafe(no_mangle)]
-pub extern "C" fn dconfdb_notice_told(notice: &mut NoticeRecord, event: u32, now: u64)
-    ensures { IsNoticeTold (notice_of notice.old) (notice_event_of event) now (notice_of notice.new) }
+pub extern "C" fn dconfdb_notice_heard(notice: &mut NoticeRecord, event: u32, now: u64)
+    ensures { AreTold (heard_events (notice_event_of event)) now (notice_of notice.old) (notice_of notice.new) }
 {
-    notice.told(event, now);
+    notice.heard(event, now);
 }
 
-/// Takes the answer to the step: whether all files are watched, or whether the look succeeded.
+/// The same, as somebody asks for a look: and what comes next, which is 0 or 1.
 #[unsafe(no_mangle)]
-pub extern "C" fn dconfdb_notice_answered(notice: &mut NoticeRecord, yes: bool, now: u64)
-    ensures { IsNoticeAnswered (notice_of notice.old) yes now (notice_of notice.new) }
+pub extern "C" fn dconfdb_notice_asked(notice: &mut NoticeRecord, event: u32, now: u64) -> u32
+    ensures taken { IsNoticeAsked (notice_of notice.old) (notice_event_of event) now (notice_of notice.new) }
+    ensures step { result ≡ notice_step_number (notice_step (notice_of notice.new)) }
 {
-    notice.answered(yes, now);
+    notice.asked(event, now)
+}
+
+/// Takes that time passed. Where not all is watched, and nobody listens, no look is made for that.
+#[unsafe(no_mangle)]
+pub extern "C" fn dconfdb_notice_passed(notice: &mut NoticeRecord, listens: bool, now: u64)
+    ensures { AreTold (time_events ((notice_of notice.old).is_whole || listens)) now (notice_of notice.old) (notice_of notice.new) }
+{
+    notice.passed(listens, now);
+}
+
+/// Takes that other files are the store's.
+#[unsafe(no_mangle)]
+pub extern "C" fn dconfdb_notice_opened_anew(notice: &mut NoticeRecord, now: u64)
+    ensures { AreTold (anew_events (notice_step (notice_of notice.old))) now (notice_of notice.old) (notice_of notice.new) }
+{
+    notice.opened_anew(now);
+}
+
+/// When the next step is due, or 0: as `dconfdb_notice_passed` minds the time.
+#[unsafe(no_mangle)]
+pub extern "C" fn dconfdb_notice_due(notice: &NoticeRecord, listens: bool) -> u64
+    ensures { result ≡ due_if ((notice_of notice.now).is_whole || listens) (notice_step (notice_of notice.now)) }
+{
+    notice.due(listens)
+}
+
+/// Takes the answer to the step: whether all files are watched, or whether the look succeeded. It gives when the next step is due,
+/// or 0.
+#[unsafe(no_mangle)]
+pub extern "C" fn dconfdb_notice_answered(notice: &mut NoticeRecord, yes: bool, now: u64) -> u64
+    ensures taken { IsNoticeAnswered (notice_of notice.old) yes now (notice_of notice.new) }
+    ensures due { result ≡ due_at (notice_step (notice_of notice.new)) }
+{
+    notice.answered(yes, now)
 }

@@ -1,63 +1,143 @@
 //! Which paths were set last: what is overtaken, and what is noted.
 ghost use Rattle.std.specs.Prelude.{◌≡◌, ◌≢◌, ◌⊎◌, ◌++◌, ◌∷◌, [], ℕ, List, length, map, take, drop};
-ghost use Rattle.std.specs.List.{list_any};
+ghost use Rattle.std.specs.List.{filter};
+ghost use Rattle.dconf_times.specs.Leaving.{is_late, is_left};
+ghost use Rattle.dconf_times.specs.Moments.{time_of_file, time_of_moment};
 ghost use Rattle.dconf_times.specs.Noted.{AreNoted};
-ghost use Rattle.dconf_times.specs.Times.{is_overtaken, note_of};
+ghost use Rattle.dconf_times.specs.Room.{AreNewest};
+ghost use Rattle.dconf_times.specs.Seeing.{is_unnoted, seen_of, stays_beside};
+ghost use Rattle.dconf_times.specs.Times.{note_of};
 ghost use Rattle.dconf_times.specs.declared.times.DconfdbTime.{DconfdbTime};
 ghost use Rattle.dconf_notes.specs.Records.{Noted, IsFile, IsForAll, file_bytes, noted_of};
 ghost use Rattle.dconfdb_calls.specs.Given.{HandsOut};
 
 use dconf_notes::{notes_read, notes_written};
-use dconf_times::{DconfdbTime, is_left_out, is_overtaken, note_times};
+use dconf_times::{
+    DconfdbAsked, DconfdbSeen, DconfdbTime, leave_out, newest, note_made, note_seen, time_of_file,
+    time_of_moment,
+};
 use dconfdb_calls::{Fault, hand_out};
 use std::alloc::Global;
 
-/// Whether an edit of that time is overtaken: its path, or a directory above it, was set later, as
-/// the times say. One that is later than `now` counts for nothing.
+/// Which edits are left out: those that are overtaken, by the notes and by what was seen, and all that
+/// are of a change with one. They are handed out as `dconfdb_list` does. Else the number of a fault,
+/// and nothing changes.
 #[unsafe(no_mangle)]
-pub extern "C" fn dconfdb_is_overtaken(
-    times: &[DconfdbTime<'_>],
-    path: &[u8],
-    when: u64,
-    now: u64,
-) -> bool
-    ensures { result ≡ is_overtaken now path.now when (map note_of times.now) }
-{
-    is_overtaken(times, path, when, now)
-}
-
-/// Whether a change is left out, by which of its edits are overtaken: they are made together, or none
-/// is.
-#[unsafe(no_mangle)]
-pub extern "C" fn dconfdb_is_left_out(overtaken: &[bool]) -> bool
-    ensures { result ≡ list_any (λ is. is) overtaken.now }
-{
-    is_left_out(overtaken)
-}
-
-/// The times with more of them, as many as the room has: of each path the latest. They are handed
-/// out as `dconfdb_list` does. Else the number of a fault, and nothing changes.
-#[unsafe(no_mangle)]
-pub extern "C" fn dconfdb_note_times<'a>(
+pub extern "C" fn dconfdb_leave_out(
     alloc: Global,
-    times: &[DconfdbTime<'a>],
-    more: &[DconfdbTime<'a>],
+    notes: &[DconfdbTime<'_>],
+    seen: &[DconfdbSeen<'_>],
+    edits: &[DconfdbAsked<'_>],
+    now: u64,
+    room: &mut [bool],
+    len: &mut usize,
+) -> u32
+    ensures done { result ≡ 0 → HandsOut (map (is_left (is_late now (map note_of notes.now) (map seen_of seen.now)) edits.now) edits.now) room.old room.new len.new }
+    ensures refused { result ≢ 0 → result ≡ 1 }
+    ensures kept { result ≢ 0 → (room.new ≡ room.old) × (len.new ≡ len.old) }
+{
+    match leave_out(alloc, notes, seen, edits, now) {
+        Ok(left) => {
+            *len = hand_out(left.as_slice(), room);
+            0
+        }
+        Err(_) => Fault::Memory.number(),
+    }
+}
+
+/// The notes with a guess for each path that was seen to be changed without one, as many as the room
+/// has: of each path the latest. They are handed out as `dconfdb_list` does. Else the number of a
+/// fault, and nothing changes.
+#[unsafe(no_mangle)]
+pub extern "C" fn dconfdb_note_seen<'a>(
+    alloc: Global,
+    notes: &[DconfdbTime<'a>],
+    seen: &[DconfdbSeen<'a>],
     now: u64,
     room: &mut [DconfdbTime<'a>],
     len: &mut usize,
 ) -> u32
-    ensures done { result ≡ 0 → (kept : List DconfdbTime) × AreNoted now (length room.old) (map note_of times.now ++ map note_of more.now) (map note_of kept)
+    ensures done { result ≡ 0 → (kept : List DconfdbTime)
+        × AreNoted now (length room.old) (map note_of notes.now ++ map note_of (map (λ s. s.time) (filter (is_unnoted notes.now) seen.now))) (map note_of kept)
         × HandsOut kept room.old room.new len.new }
     ensures refused { result ≢ 0 → result ≡ 1 }
     ensures kept { result ≢ 0 → (room.new ≡ room.old) × (len.new ≡ len.old) }
 {
-    match note_times(alloc, times, more, now, room.len()) {
+    match note_seen(alloc, notes, seen, now, room.len()) {
         Ok(kept) => {
             *len = hand_out(kept.as_slice(), room);
             0
         }
         Err(_) => Fault::Memory.number(),
     }
+}
+
+/// The notes with those of edits that were made, as `dconfdb_note_seen` gives them: a guess of such a
+/// path goes.
+#[unsafe(no_mangle)]
+pub extern "C" fn dconfdb_note_made<'a>(
+    alloc: Global,
+    notes: &[DconfdbTime<'a>],
+    made: &[DconfdbTime<'a>],
+    now: u64,
+    room: &mut [DconfdbTime<'a>],
+    len: &mut usize,
+) -> u32
+    ensures done { result ≡ 0 → (kept : List DconfdbTime)
+        × AreNoted now (length room.old) (map note_of (filter (stays_beside made.now) notes.now) ++ map note_of made.now) (map note_of kept)
+        × HandsOut kept room.old room.new len.new }
+    ensures refused { result ≢ 0 → result ≡ 1 }
+    ensures kept { result ≢ 0 → (room.new ≡ room.old) × (len.new ≡ len.old) }
+{
+    match note_made(alloc, notes, made, now, room.len()) {
+        Ok(kept) => {
+            *len = hand_out(kept.as_slice(), room);
+            0
+        }
+        Err(_) => Fault::Memory.number(),
+    }
+}
+
+/// The newest notes: at most so many, which take so many bytes in a file. The oldest go, and one note says
+/// of all paths that they were set by the time of the latest of these. They are handed out as
+/// `dconfdb_list` does. Else the number of a fault, and nothing changes.
+#[unsafe(no_mangle)]
+pub extern "C" fn dconfdb_newest_notes<'a>(
+    alloc: Global,
+    notes: &[DconfdbTime<'a>],
+    most: usize,
+    most_bytes: usize,
+    room: &mut [DconfdbTime<'a>],
+    len: &mut usize,
+) -> u32
+    ensures done { result ≡ 0 → (kept : List DconfdbTime) × AreNewest most most_bytes notes.now kept × HandsOut kept room.old room.new len.new }
+    ensures refused { result ≢ 0 → result ≡ 1 }
+    ensures kept { result ≢ 0 → (room.new ≡ room.old) × (len.new ≡ len.old) }
+{
+    match newest(alloc, notes, most, most_bytes) {
+        Ok(kept) => {
+            *len = hand_out(kept.as_slice(), room);
+            0
+        }
+        Err(_) => Fault::Memory.number(),
+    }
+}
+
+/// The time of what was asked for in a moment, by a clock that nobody sets: it is `now` by the clock of
+/// the day, and `boot` by that one; the program noted `noted` last, or 0.
+#[unsafe(no_mangle)]
+pub extern "C" fn dconfdb_time_of_moment(now: u64, boot: u64, moment: u64, noted: u64) -> u64
+    ensures { result ≡ time_of_moment now boot moment noted }
+{
+    time_of_moment(now, boot, moment, noted)
+}
+
+/// The time that stands for when a file was changed that nobody noted.
+#[unsafe(no_mangle)]
+pub extern "C" fn dconfdb_time_of_file(written: u64, touched: u64) -> u64
+    ensures { result ≡ time_of_file written touched }
+{
+    time_of_file(written, touched)
 }
 
 /// The notes that a file's bytes are, of which the first is of the turn in which they were written:

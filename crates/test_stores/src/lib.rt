@@ -17,6 +17,8 @@ mod machines;
 #[cfg(test)]
 mod maps;
 #[cfg(test)]
+mod places;
+#[cfg(test)]
 mod questions;
 #[cfg(test)]
 mod stores;

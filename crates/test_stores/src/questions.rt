@@ -4,6 +4,7 @@ use crate::calls_rows::{fate, keyless, names, saved, stored, value_shown};
 use crate::folders::crashes::crashed;
 use crate::folders::failures::replaced;
 use crate::machines::{looked, noticed, queued, waited};
+use crate::places::{filed, placed, stepped};
 use crate::tables::{alike, item_shown, searched};
 use crate::texts::paths::path_read;
 use crate::times::{kept, noted, overtaken};
@@ -16,14 +17,17 @@ use test_rows::{Question, bytes_of};
 #[derive(Clone, Copy)]
 pub(crate) enum TableOf {
     Crash,
+    Filed,
     Kept,
     Looked,
     Noted,
     Noticed,
     Overtaken,
     Path,
+    Placed,
     Queued,
     Replaced,
+    Stepped,
     Steps,
     Waited,
 }
@@ -32,14 +36,17 @@ impl Question for TableOf {
     fn answer(&mut self, alloc: Global, asked: &str, found: &mut String) -> Result<(), Fail> {
         let shown = match *self {
             TableOf::Crash => crashed(alloc, asked, found),
+            TableOf::Filed => filed(alloc, asked, found),
             TableOf::Kept => kept(alloc, asked, found),
             TableOf::Looked => looked(asked, found),
             TableOf::Noted => noted(alloc, asked, found),
             TableOf::Noticed => noticed(asked, found),
             TableOf::Overtaken => overtaken(asked, found),
             TableOf::Path => path_read(asked, found),
+            TableOf::Placed => placed(alloc, asked, found),
             TableOf::Queued => queued(asked, found),
             TableOf::Replaced => replaced(alloc, asked, found),
+            TableOf::Stepped => stepped(alloc, asked, found),
             TableOf::Steps => steps_shown(asked, found),
             TableOf::Waited => waited(asked, found),
         };

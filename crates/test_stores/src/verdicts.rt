@@ -1,5 +1,13 @@
-//! What becomes of a change that is asked for, and what a fault means to it.
-use dconf_verdicts::{NewEdit, class_number, entry_number};
+//! What becomes of a change that is asked for, and of one that waits; and what a fault means to it.
+use dconf_files::{FileStamp, FileTime, bits_for, lock_bits, sameness_number};
+use dconf_verdicts::{
+    NewEdit, answer_number, class_number, entry_number, is_momentary, is_news, is_there,
+    verdict_number,
+};
+use dconf_waiting::{
+    Patience, Progress, WaitingEdit, fate_number, found, is_lasting, is_overtaken, put,
+    writer_goes_on,
+};
 use std::test::Fail;
 
 /// An edit that sets a key which may be written, to what is there.
@@ -7,13 +15,20 @@ const SAME: NewEdit = NewEdit {
     sets: true,
     may: true,
     is_same: true,
-    renews: false,
+    waits: false,
+    is_alone: false,
+    is_taken: false,
 };
 
 fn are_entered() -> bool {
     let renewing = NewEdit {
-        renews: true,
+        waits: true,
+        is_alone: true,
         ..SAME
+    };
+    let taken = NewEdit {
+        is_taken: true,
+        ..renewing
     };
     let other = NewEdit {
         is_same: false,
@@ -30,7 +45,13 @@ fn are_entered() -> bool {
         && entry_number(&[renewing]) == 2
         && entry_number(&[SAME]) == 3
         && entry_number(&[renewing, locked_reset]) == 3
+        && entry_number(&[taken]) == 3
         && entry_number(&[SAME, other]) == 4
+        && is_news(other)
+        && !is_news(SAME)
+        && is_there(&[SAME, locked_reset])
+        && !is_there(&[renewing])
+        && !is_there(&[barred])
 }
 
 fn are_classed() -> bool {
@@ -44,8 +65,163 @@ fn are_classed() -> bool {
         && class_number(77, false) == 2
 }
 
+fn are_dropped() -> bool {
+    verdict_number(0, 9) == 1
+        && verdict_number(1, 9) == 2
+        && verdict_number(2, 0) == 1
+        && verdict_number(2, 5) == 3
+        && verdict_number(2, 7) == 3
+        && verdict_number(3, 0) == 3
+        && verdict_number(4, 0) == 3
+        && is_momentary(2, 5)
+        && is_momentary(3, 0)
+        && !is_momentary(2, 7)
+}
+
+fn the_newest_is_found() -> bool {
+    let mut newest = [0, 0];
+    put(&mut newest, 1, 1) == 0
+        && put(&mut newest, 0, 2) == 0
+        && put(&mut newest, 1, 3) == 1
+        && put(&mut newest, 2, 4) == 0
+        && found(&newest, 0) == 2
+        && found(&newest, 1) == 3
+        && found(&newest, 2) == 0
+}
+
+fn fates_are_told() -> bool {
+    let alone = |number| WaitingEdit {
+        number,
+        is_alone: true,
+    };
+    fate_number(false, false, false) == 0
+        && fate_number(true, false, true) == 1
+        && fate_number(true, true, false) == 2
+        && fate_number(false, false, true) == 3
+        && is_overtaken(alone(1), alone(2))
+        && !is_overtaken(alone(2), alone(2))
+}
+
+fn waits_end() -> bool {
+    let progress = Progress {
+        settled: 1,
+        added: 2,
+        failed: 0,
+        tries: 3,
+    };
+    let done = Progress {
+        settled: 2,
+        ..progress
+    };
+    let failed = Progress {
+        failed: 4,
+        ..progress
+    };
+    let mut patience = Patience::begin(5, 10_000_000);
+    let before = patience.end;
+    patience.renew(58_000_000);
+    before == 10_000_005
+        && patience.end == 60_000_005
+        && patience.goes_on(progress, 60_000_004)
+        && !patience.goes_on(progress, 60_000_005)
+        && !patience.goes_on(done, 6)
+        && !patience.goes_on(failed, 6)
+        && writer_goes_on(false, false, failed)
+        && writer_goes_on(true, true, progress)
+        && !writer_goes_on(true, true, failed)
+        && !writer_goes_on(true, false, progress)
+        && is_lasting(false, true, 5, 1_500_005)
+        && !is_lasting(true, true, 5, 1_500_005)
+        && is_lasting(true, false, 5, 6)
+}
+
+/// The calls, by their numbers.
+const OPEN: u32 = 0;
+
+const LOCK: u32 = 1;
+
+const SET_ASIDE: u32 = 2;
+
+const PLACE: u32 = 3;
+
+fn are_answered() -> bool {
+    answer_number(OPEN, 11) == 3
+        && answer_number(OPEN, 1) == 2
+        && answer_number(LOCK, 11) == 4
+        && answer_number(LOCK, 6) == 1
+        && answer_number(SET_ASIDE, 0) == 5
+        && answer_number(SET_ASIDE, 9) == 6
+        && answer_number(PLACE, 8) == 7
+        && answer_number(PLACE, 77) == 7
+        && answer_number(PLACE, 10) == 2
+        && answer_number(PLACE, 1) == 0
+}
+
+/// A file that changed when a second had passed for so many nanoseconds.
+fn stamp(nanoseconds: u64) -> FileStamp {
+    let time = FileTime {
+        seconds: 1,
+        nanoseconds,
+    };
+    FileStamp {
+        device: 1,
+        inode: 2,
+        size: 3,
+        written: time,
+        touched: time,
+        is_there: true,
+    }
+}
+
+/// Ten milliseconds and two seconds after their times; and of a file that is held.
+fn are_told_apart() -> bool {
+    let other = FileStamp {
+        size: 4,
+        ..stamp(7)
+    };
+    let given = FileStamp {
+        touched: FileTime {
+            seconds: 5,
+            nanoseconds: 7,
+        },
+        ..stamp(7)
+    };
+    sameness_number(&stamp(7), &stamp(7), 1_010_000_007, false) == 0
+        && sameness_number(&stamp(7), &stamp(7), 1_010_000_006, false) == 2
+        && sameness_number(&stamp(0), &stamp(0), 2_999_999_999, false) == 2
+        && sameness_number(&stamp(0), &stamp(0), 3_000_000_000, false) == 0
+        && sameness_number(&stamp(7), &given, u64::MAX, false) == 1
+        && sameness_number(&stamp(7), &given, 0, true) == 0
+        && sameness_number(&stamp(7), &other, 0, true) == 1
+}
+
+/// The bits of files and of locks.
+fn are_open_to_nobody_more() -> bool {
+    bits_for(0o664, true) == 0o664
+        && bits_for(0o664, false) == 0o644
+        && bits_for(0o604, false) == 0o600
+        && bits_for(0o100_640, true) == 0o640
+        && lock_bits(0o755, true) == 0o600
+        && lock_bits(0o775, true) == 0o660
+        && lock_bits(0o775, false) == 0o600
+        && lock_bits(0o757, true) == 0o606
+        && lock_bits(0o40_777, false) == 0o666
+}
+
+#[test]
+fn files_are_told_apart(rt: HostRuntime) -> Result<(), Fail> {
+    assert!(rt; are_told_apart() && are_open_to_nobody_more());
+    Ok(())
+}
+
 #[test]
 fn changes_and_faults_are_judged(rt: HostRuntime) -> Result<(), Fail> {
-    assert!(rt; are_entered() && are_classed());
+    assert!(rt; are_entered() && are_classed() && are_dropped() && are_answered());
+    Ok(())
+}
+
+#[test]
+fn changes_wait(rt: HostRuntime) -> Result<(), Fail> {
+    assert!(rt; the_newest_is_found() && fates_are_told() && waits_end());
     Ok(())
 }

@@ -1,57 +1,44 @@
-use Rattle.std.proofs.Common.{◌≡◌, List, [], Some, arith, rules, subst, sym}
+use Rattle.std.proofs.Common.{◌≡◌, map, subst}
+use Rattle.std.specs.Prelude.{IfSome, IsTrue}
 use Rattle.std.specs.List.{All}
-use Rattle.std.proofs.lemmas.List.Elements.{All-nil, All-pop}
+use Rattle.std.proofs.lemmas.Result.{IfOk-weaker}
 use Rattle.dconf_model.specs.Layers.{all_paths}
+use Rattle.dconf_model.specs.Paths.{is_key_path}
 use Rattle.dconf_model.specs.Walks.{keys_below}
 use Rattle.dconf_path.specs.Paths.{directory_text}
-use Rattle.dconf_layers.specs.declared.seen.SeenKey.{SeenKey}
 use Rattle.dconf_layers.specs.LayerSettings.{seen_in}
-use Rattle.dconf_layers.specs.Children.{IsShown}
-use Rattle.dconf_layers.proofs.Walks.{all_shown, found_are_keys, layers_have_keys, next_work, step_found, walk_is_over, walk_starts}
+use Rattle.dconf_layers.specs.Children.{IsShown, seen_path, seen_row, shown_at}
+use Rattle.dconf_layers.proofs.Walks.{all_shown, found_are_keys, layers_have_keys, ok_both}
 use Rattle.dconf_layers.proofs.lent.LentLayers.keys_below.Goals as goal
 
-pub loop-place-init : goal.loop-place-init
-loop-place-init c =
-    let l = seen_in c.args.self in
-    let none = λ (keys : List SeenKey) (e : keys ≡ []). subst (All (IsShown l)) (sym e) (All-nil (IsShown l)) in
-    record {
-      found = walk_starts (all_paths l.layers) (layers_have_keys c.args.self.layers.now) (directory_text c.args.directory) c.new-keys.result.items c.new-waiting.result.items c.push_places.new.waiting.items
-          c.new-keys.ensures.items c.new-waiting.ensures.items c.in_ok-push_places.ensures.places;
-      keys_shown = none c.new-keys.result.items c.new-keys.ensures.items;
-      waiting_shown = c.in_ok-push_places.ensures.shown (none c.new-waiting.result.items c.new-waiting.ensures.items);
-    }
-
-pub loop-place-smaller : goal.loop-place-smaller
-loop-place-smaller c =
-    let paths = all_paths (seen_in c.args.self).layers in
-    omega (arith, next_work paths c.loop-place.waiting.items c.pop.new.self.items c.in-Some.place c.in-Some.ensures.items, c.in_ok-visit.ensures.less)
-
-pub loop-place-preserved : goal.loop-place-preserved
-loop-place-preserved c =
-    let l = seen_in c.args.self in
-    let paths = all_paths l.layers in
-    let invariant = c.loop-place.invariant in
-    let shown = All-pop (IsShown l) c.loop-place.waiting.items c.pop.new.self.items (Some c.in-Some.place) c.in-Some.ensures.items invariant.waiting_shown in
-    record {
-      found = step_found paths c.loop-place.keys.items c.visit.new.keys.items c.loop-place.waiting.items c.pop.new.self.items c.visit.new.waiting.items c.in-Some.place
-          (keys_below paths (directory_text c.args.directory)) c.in-Some.ensures.items c.in_ok-visit.ensures.found invariant.found;
-      keys_shown = c.in_ok-visit.ensures.keys_shown shown.1 invariant.keys_shown;
-      waiting_shown = c.in_ok-visit.ensures.waiting_shown shown.0;
-    }
-
-pub returns-clause-seen : goal.returns-clause-seen
-returns-clause-seen c =
+pub returns-in-Some-clause-seen : goal.returns-in-Some-clause-seen
+returns-in-Some-clause-seen c =
     let l = seen_in c.args.self in
     let d = directory_text c.args.directory in
-    let keys = c.loop-place.keys.items in
-    let none : c.loop-place.waiting.items ≡ [] = search rules in
-    all_shown l (layers_have_keys c.args.self.layers.now) d keys (walk_is_over (all_paths l.layers) keys c.loop-place.waiting.items (keys_below (all_paths l.layers) d) none c.loop-place.invariant.found)
-    c.loop-place.invariant.keys_shown
+    let found : map seen_path c.in-Some.keys.items ≡ keys_below (all_paths l.layers) d =
+    subst (λ o. IfSome o (λ keys. map seen_path keys.items ≡ keys_below (all_paths l.layers) d)) c.in-Some.is c.in_ok-keys.ensures.found in
+    let shown : All (IsShown l) c.in-Some.keys.items = subst (λ o. IfSome o (λ keys. All (IsShown l) keys.items)) c.in-Some.is c.in_ok-keys.ensures.shown in
+    all_shown l (layers_have_keys c.args.self.layers.now) d c.in-Some.keys.items found shown
 
-pub returns-clause-paths : goal.returns-clause-paths
-returns-clause-paths c =
+pub returns-in-Some-clause-paths : goal.returns-in-Some-clause-paths
+returns-in-Some-clause-paths c =
     let l = seen_in c.args.self in
     let d = directory_text c.args.directory in
-    let keys = c.loop-place.keys.items in
-    let none : c.loop-place.waiting.items ≡ [] = search rules in
-    found_are_keys l (layers_have_keys c.args.self.layers.now) d keys (walk_is_over (all_paths l.layers) keys c.loop-place.waiting.items (keys_below (all_paths l.layers) d) none c.loop-place.invariant.found)
+    let found : map seen_path c.in-Some.keys.items ≡ keys_below (all_paths l.layers) d =
+    subst (λ o. IfSome o (λ keys. map seen_path keys.items ≡ keys_below (all_paths l.layers) d)) c.in-Some.is c.in_ok-keys.ensures.found in
+    found_are_keys l (layers_have_keys c.args.self.layers.now) d c.in-Some.keys.items found
+
+pub returns-in-None-clause-seen : goal.returns-in-None-clause-seen
+returns-in-None-clause-seen c =
+    let l = seen_in c.args.self in
+    let d = directory_text c.args.directory in
+    ok_both c.named.result (λ keys. map seen_path keys.items ≡ keys_below (all_paths l.layers) d) (λ keys. All (IsShown l) keys.items)
+    (λ keys. map seen_row keys.items ≡ map (shown_at l) (keys_below (all_paths l.layers) d))
+    (λ keys found shown. all_shown l (layers_have_keys c.args.self.layers.now) d keys.items found shown) c.named.ensures.found c.named.ensures.shown
+
+pub returns-in-None-clause-paths : goal.returns-in-None-clause-paths
+returns-in-None-clause-paths c =
+    let l = seen_in c.args.self in
+    let d = directory_text c.args.directory in
+    IfOk-weaker c.named.result (λ keys. map seen_path keys.items ≡ keys_below (all_paths l.layers) d) (λ keys. All (λ key. IsTrue (is_key_path (seen_path key))) keys.items)
+    (λ keys found. found_are_keys l (layers_have_keys c.args.self.layers.now) d keys.items found) c.named.ensures.found

@@ -1,0 +1,234 @@
+/* A change of the user's file, while it is this program's turn: what is read, made and noted, and what comes of it. */
+#define _DEFAULT_SOURCE
+#define _POSIX_C_SOURCE 200809L
+#define _FILE_OFFSET_BITS 64
+#include "changing.h"
+#include "edits.h"
+#include "errors.h"
+#include "held.h"
+#include "steps.h"
+
+#include <errno.h>
+
+/* What is changed, and what the store has after it. */
+typedef struct Edited {
+    DconfdbStore *store;
+    const FolderLock *lock;
+    Asking *asking;
+    DconfdbSnapshot *before; /* the turn */
+    DconfdbSnapshot *newer;  /* with the new file as its first part */
+    FileBytes file;          /* the new file's, until that is its part */
+} Edited;
+
+/* The part of the new file. What was wrong with the old one is kept, as it is set aside. */
+static Part *part_of_new(const DconfdbStore *store, FileBytes file, DconfdbError *error)
+{
+    Asked asked = {store->user_file, 0, false, false, NO_FOLDER};
+    const Part *old = store->now->parts[0];
+    const Fault *bad = old->fault;
+    Part *part = part_open(&asked, (FileState){.is_there = true}, file, old, error);
+    if (!part || !bad || bad->aside)
+        return part;
+    if (part_blame(part, &bad->error, error)) {
+        part->fault->saved = bad->saved;
+        return part;
+    }
+    part_unref(part);
+    return NULL;
+}
+
+/* The newer snapshot, with the part of the user's file. */
+static DconfdbSnapshot *with_part(const DconfdbStore *store, Part *part, DconfdbError *error)
+{
+    DconfdbSnapshot *newer = part ? snapshot_new(store->count, true) : NULL;
+    if (!newer) {
+        part_unref(part);
+        if (part)
+            refuse_memory(error);
+        return NULL;
+    }
+    snapshot_put(newer, 0, part);
+    for (size_t i = 1; i < store->count; i++)
+        snapshot_put(newer, i, part_ref(store->now->parts[i]));
+    return newer;
+}
+
+/* A bad file is to be set aside. */
+int changing_read(Changing *it)
+{
+    Edited *edited = it->edited;
+    it->order = store_read_order(edited->store, edited->asking, edited->before, edited->lock, it->error);
+    if (!it->order)
+        return IS_TOLD;
+    atomic_store(&edited->store->is_amid, true);
+    it->old = edited->store->now->parts[0];
+    return replacing_look(&it->replacing, part_fault(it->old) != NULL, &it->old->state, &it->answer);
+}
+
+static uint32_t found(bool is)
+{
+    return is ? DCONFDB_FOUND_YES : DCONFDB_FOUND_NO;
+}
+
+static uint32_t or_fault(bool is_answered)
+{
+    return is_answered ? DCONFDB_FOUND_YES : DCONFDB_FOUND_FAULT;
+}
+
+static uint32_t expect(Changing *it)
+{
+    return or_fault(asking_is_as_expected(it->edited->store->now, it->edited->asking, it->error));
+}
+
+static uint32_t leave_out(Changing *it)
+{
+    Edited *edited = it->edited;
+    if (asking_leave_out(edited->asking, edited->store, it->order, edited->before))
+        return found(edited->asking->count > 0);
+    refuse_memory(it->error);
+    return DCONFDB_FOUND_FAULT;
+}
+
+static uint32_t make_bytes(Changing *it)
+{
+    Edited *edited = it->edited;
+    const Asking *asking = edited->asking;
+    return or_fault(edits_make_file(edited->store, asking->changes, asking->edits, asking->count, &edited->file, it->error));
+}
+
+static uint32_t compare(Changing *it)
+{
+    const Edited *edited = it->edited;
+    return found(edits_are_made(edited->store->now, edited->asking->changes, edited->asking->count, &edited->file));
+}
+
+/* What has to be had for the newer snapshot is had now, so that nothing fails after the file is in place. */
+static uint32_t open_new(Changing *it)
+{
+    Edited *edited = it->edited;
+    FileBytes file = edited->file;
+    edited->file = (FileBytes){NULL, 0, false};
+    it->answer = file.len;
+    edited->newer = with_part(edited->store, part_of_new(edited->store, file, it->error), it->error);
+    it->new = edited->newer ? edited->newer->parts[0] : NULL;
+    return or_fault(edited->newer != NULL);
+}
+
+/* Each question is answered by one of these. Gives what came of all. */
+static uint32_t make(Changing *it, bool makes_file)
+{
+    static uint32_t (*const answers[DCONFDB_MAKING_READY])(Changing *) = {
+        [DCONFDB_MAKING_EXPECT] = expect,   [DCONFDB_MAKING_LEAVE_OUT] = leave_out, [DCONFDB_MAKING_BYTES] = make_bytes,
+        [DCONFDB_MAKING_COMPARE] = compare, [DCONFDB_MAKING_OPEN] = open_new,
+    };
+    uint32_t ask = DCONFDB_MAKING_EXPECT;
+    while (ask < DCONFDB_MAKING_READY)
+        ask = dconfdb_making_after(makes_file, it->edited->store->is_unsettled, ask, answers[ask](it));
+    file_release(&it->edited->file);
+    return ask;
+}
+
+int changing_make(Changing *it)
+{
+    uint32_t end = make(it, true);
+    return end == DCONFDB_MAKING_READY ? 0 : end == DCONFDB_MAKING_NOTHING ? IS_NOTHING : IS_TOLD;
+}
+
+bool change_is_well(DconfdbStore *store, Asking *asking, DconfdbError *error)
+{
+    Edited edited = {.store = store, .asking = asking};
+    Changing it = {.error = error, .edited = &edited};
+    return make(&it, false) == DCONFDB_MAKING_NOTHING;
+}
+
+/* What others are to know of it. Where it can't be told, nothing is. */
+int changing_note(Changing *it)
+{
+    DconfdbStore *store = it->edited->store;
+    Asking *asking = it->edited->asking;
+    DconfdbEnding ending;
+    dconfdb_ending(it->turn.outcome, it->turn.fault, store->is_unsettled, &ending);
+    const DconfdbSnapshot *now = ending.newest == DCONFDB_NEWEST_NEWER ? it->edited->newer : store->now;
+    const Part *own = now->parts[0];
+    if (ending.is_there && !asking_note(asking, now, it->order))
+        return 0;
+    bool is_synced = own->is_settled || order_is_synced(it->order, own_name(store), &own->state);
+    order_write(it->order, it->edited->lock->file, own_name(store), &own->state, is_synced);
+    store_forget_seen(store);
+    if (ending.is_there && asking->count > 0)
+        store->noted = asking->asked[asking->count - 1].when;
+    return 0;
+}
+
+/* What was wrong with the old file is kept if that has another name. */
+static void keep_fault(Changing *it)
+{
+    if (it->new->fault && it->replacing.is_aside) {
+        it->new->fault->aside = it->replacing.aside;
+        it->replacing.aside = NULL;
+    } else {
+        part_forgive(it->new);
+    }
+}
+
+/* The newest settings. */
+static void renew(Changing *it, uint32_t newest)
+{
+    DconfdbStore *store = it->edited->store;
+    DconfdbSnapshot *newer = it->edited->newer;
+    if (newest == DCONFDB_NEWEST_NEWER) {
+        keep_fault(it);
+        store_renew(store, newer);
+    } else if (newest == DCONFDB_NEWEST_TRIED) {
+        dconfdb_snapshot_unref(store->tried);
+        store->tried = newer;
+    } else {
+        dconfdb_snapshot_unref(newer);
+    }
+}
+
+static bool tell(const Changing *it, uint32_t told)
+{
+    if (told == DCONFDB_TOLD_BAD_WRITE)
+        refuse_file(it->error, EIO, it->file, nowhere);
+    else if (told == DCONFDB_TOLD_OUTCOME)
+        refuse_outcome(it->error, (uint32_t)it->step.number, it->file);
+    return told == DCONFDB_TOLD_NOTHING;
+}
+
+static bool end(Changing *it)
+{
+    DconfdbStore *store = it->edited->store;
+    DconfdbEnding ending;
+    dconfdb_ending((uint32_t)it->step.number, it->step.fault, store->is_unsettled, &ending);
+    renew(it, ending.newest);
+    store->is_unsettled = ending.is_unsettled;
+    return tell(it, ending.told);
+}
+
+bool change_in_turn(DconfdbStore *store, const FolderLock *lock, Asking *asking, DconfdbError *error)
+{
+    Edited edited = {.store = store, .lock = lock, .asking = asking};
+    Changing it;
+    HeldSignal held;
+    it.new = it.old = NULL;
+    it.order = NULL;
+    it.error = error;
+    it.file = store->user_file;
+    it.edited = &edited;
+    int fault = replacing_begin(&it.replacing, lock->folder, own_name(store));
+    if (fault != 0)
+        return refuse_file(error, fault, store->user_file, nowhere);
+    it.replacing.is_unsynced = store->options.is_unsynced;
+    hold_limit_signal(&held);
+    pthread_mutex_lock(&store->refreshing);
+    edited.before = dconfdb_snapshot_ref(store->now);
+    changing_run(&it);
+    bool done = end(&it);
+    atomic_store(&store->is_amid, false);
+    dconfdb_snapshot_unref(edited.before);
+    pthread_mutex_unlock(&store->refreshing);
+    release_limit_signal(&held);
+    replacing_end(&it.replacing);
+    return done;
+}

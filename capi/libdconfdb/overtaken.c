@@ -1,0 +1,239 @@
+/* Who set what last: what others changed while edits waited, and which of them are left out. */
+#define _DEFAULT_SOURCE
+#define _POSIX_C_SOURCE 200809L
+#define _FILE_OFFSET_BITS 64
+#include "overtaken.h"
+#include "edits.h"
+#include "errors.h"
+#include "texts.h"
+
+#include <stdlib.h>
+#include <string.h>
+
+/* ---- what is asked for */
+
+void asking_free(Asking *asking)
+{
+    free(asking->changes);
+    free(asking->seen);
+}
+
+/* `made` is NULL where all is asked for now. */
+bool asking_begin(Asking *asking, const DconfdbEdit *edits, const Made *made, size_t count)
+{
+    *asking = (Asking){.count = count};
+    size_t size = sizeof *asking->changes + sizeof *asking->asked + sizeof *asking->times + sizeof *asking->edits + sizeof *asking->is_left;
+    asking->changes = count <= SIZE_MAX / size ? malloc(count * size) : NULL;
+    if (!asking->changes)
+        return false;
+    asking->asked = (DconfdbAsked *)(asking->changes + count);
+    asking->times = (DconfdbTime *)(asking->asked + count);
+    asking->edits = (size_t *)(asking->times + count);
+    asking->is_left = (bool *)(asking->edits + count);
+    for (size_t i = 0; i < count; i++) {
+        asking->changes[i] = change_of_edit(&edits[i]);
+        asking->asked[i] = (DconfdbAsked){asking->changes[i].path, made ? made[i].moment : UINT64_MAX, made ? made[i].change : i, false, false};
+        asking->edits[i] = i;
+    }
+    return true;
+}
+
+bool asking_is_as_expected(const DconfdbSnapshot *now, const Asking *asking, DconfdbError *error)
+{
+    const DconfdbSnapshot *expected = asking->expected;
+    bool is_changed = false;
+    size_t at = 0;
+    if (!expected)
+        return true;
+    uint32_t number = dconfdb_changed_since(expected->layers, expected->count, now->layers, now->count, asking->changes, asking->count,
+                                            &is_changed, &at);
+    if (number != DCONFDB_OK)
+        return refuse_memory(error);
+    if (!is_changed)
+        return true;
+    return refuse(error, DCONFDB_ERROR_CHANGED, 0, (Place){.edit = asking->edits[at]}, "%s: something else is seen there by now",
+                  (const char *)asking->changes[at].path.at);
+}
+
+/* ---- what others changed */
+
+/* What differs between two files, or NULL. */
+static Seen *what_differs(const DconfdbSnapshot *before, const DconfdbSnapshot *after)
+{
+    bool are_users = before->is_writable && after->is_writable && before->count > 0 && after->count > 0;
+    if (!are_users || before->parts[0] == after->parts[0] || !after->parts[0]->state.is_there)
+        return NULL;
+    Seen *seen = malloc(sizeof *seen);
+    char *paths = snapshot_own_differences(after, before);
+    if (!seen || !paths) {
+        free(seen);
+        free(paths);
+        return NULL;
+    }
+    *seen = (Seen){NULL, after->parts[0]->state, paths};
+    return seen;
+}
+
+static void heed(DconfdbStore *store, const DconfdbSnapshot *before, const DconfdbSnapshot *after)
+{
+    Seen *seen = what_differs(before, after);
+    if (seen) {
+        seen->next = store->seen;
+        store->seen = seen;
+    }
+}
+
+void heed_others(DconfdbStore *store, const DconfdbSnapshot *before, const DconfdbSnapshot *after)
+{
+    pthread_mutex_lock(&store->refreshing);
+    heed(store, before, after);
+    pthread_mutex_unlock(&store->refreshing);
+}
+
+void store_forget_seen(DconfdbStore *store)
+{
+    while (store->seen) {
+        Seen *seen = store->seen;
+        store->seen = seen->next;
+        free(seen->paths);
+        free(seen);
+    }
+}
+
+static uint64_t hashed(uint64_t hash, const DconfdbBytes *bytes)
+{
+    for (size_t i = 0; i < bytes->len; i++)
+        hash = (hash ^ bytes->at[i]) * 0x100000001b3U;
+    return hash;
+}
+
+/* FNV-1a of a value of the user's and its type; 0: there is none. */
+static uint64_t value_in(const DconfdbSnapshot *snapshot, const DconfdbBytes *path)
+{
+    DconfdbFound found = {DCONFDB_NOTHING, DCONFDB_NOTHING, 0};
+    if (!dconfdb_read_alone(&snapshot->layers[0], path->at, path->len, &found))
+        return 0;
+    return hashed(hashed(0xcbf29ce484222325U, &found.type_text), &found.value) | 1;
+}
+
+/* How many paths others were seen to change, and how many bytes these take. */
+static size_t count_seen(const DconfdbStore *store, size_t *size)
+{
+    size_t count = 0;
+    for (const Seen *seen = store->seen; seen; seen = seen->next) {
+        for (const char *at = seen->paths; *at; at += strlen(at) + 1) {
+            *size += order_path_size(own_name(store), strlen(at));
+            count++;
+        }
+    }
+    return count;
+}
+
+/* What others were seen to change, with what is there. */
+static void list_seen(const DconfdbStore *store, const Order *order, Asking *asking, char *room)
+{
+    for (const Seen *seen = store->seen; seen; seen = seen->next) {
+        bool is_noted = order_has_left(order, own_name(store), &seen->left);
+        for (const char *at = seen->paths; *at; at += strlen(at) + 1) {
+            DconfdbBytes own = {bytes_of(at), strlen(at)}, path = order_path(&room, own_name(store), &own);
+            asking->seen[asking->seen_count++] = (DconfdbSeen){{path, order_time_of(&seen->left), value_in(store->now, &own)}, is_noted};
+        }
+    }
+}
+
+/* Notes what others changed without a note. False: no memory is left. */
+static bool note_others(const DconfdbStore *store, Asking *asking, Order *order)
+{
+    size_t size = 0, count = count_seen(store, &size);
+    if (count == 0)
+        return true;
+    asking->seen = calloc(count, sizeof *asking->seen);
+    char *room = order_room(order, size);
+    if (!asking->seen || !room)
+        return false;
+    list_seen(store, order, asking, room);
+    return order_note_seen(order, asking->seen, asking->seen_count);
+}
+
+/* Looks at the files. Where who left the user's file noted what it changed, that needs no list. */
+static bool refresh_and_heed(DconfdbStore *store, const DconfdbSnapshot *before, int turn, const Order *order, DconfdbError *error)
+{
+    bool done = store_refresh(store, turn, error);
+    if (done && !order_has_left(order, own_name(store), &store->now->parts[0]->state))
+        heed(store, before, store->now);
+    return done;
+}
+
+/* What others have set up to now, and when; or NULL. */
+Order *store_read_order(DconfdbStore *store, Asking *asking, const DconfdbSnapshot *before, const FolderLock *lock, DconfdbError *error)
+{
+    Order *order = &store->order;
+    if (!order_read(order, lock->file)) {
+        refuse_memory(error);
+        return NULL;
+    }
+    if (!refresh_and_heed(store, before, lock->folder, order, error))
+        return NULL;
+    if (note_others(store, asking, order))
+        return order;
+    refuse_memory(error);
+    return NULL;
+}
+
+/* ---- what is left out */
+
+/* Whether the same is at a path as before the turn. */
+static bool is_as_before(const DconfdbSnapshot *before, const DconfdbSnapshot *now, const DconfdbBytes *path)
+{
+    return before->is_writable && (before->parts[0] == now->parts[0] || value_in(before, path) == value_in(now, path));
+}
+
+/* Moves what isn't left out to the front. */
+static void keep(Asking *asking)
+{
+    size_t kept = 0;
+    for (size_t i = 0; i < asking->count; i++) {
+        if (asking->is_left[i])
+            continue;
+        asking->changes[kept] = asking->changes[i];
+        asking->asked[kept] = asking->asked[i];
+        asking->edits[kept++] = asking->edits[i];
+    }
+    asking->count = kept;
+}
+
+/* When each was asked for, at a path of this file, and what is known of it. False: no memory is left. */
+static bool know_all(Asking *asking, const DconfdbStore *store, Order *order, const DconfdbSnapshot *before)
+{
+    size_t size = 0;
+    for (size_t i = 0; i < asking->count; i++)
+        size += order_path_size(own_name(store), asking->changes[i].path.len);
+    char *room = order_room(order, size);
+    for (size_t i = 0; room && i < asking->count; i++) {
+        DconfdbAsked *asked = &asking->asked[i];
+        const DconfdbChange *change = &asking->changes[i];
+        asked->path = order_path(&room, own_name(store), &change->path);
+        asked->when = order_time(order, asked->when, store->noted);
+        asked->is_own = store->is_unsettled && edit_is_made(store->now, change);
+        asked->is_as_before = is_as_before(before, store->now, &change->path);
+    }
+    return asking->count == 0 || room;
+}
+
+bool asking_leave_out(Asking *asking, const DconfdbStore *store, Order *order, const DconfdbSnapshot *before)
+{
+    size_t count = 0;
+    if (!know_all(asking, store, order, before)
+        || dconfdb_leave_out(order->times, order->count, asking->seen, asking->seen_count, asking->asked, asking->count, order->now,
+                             asking->is_left, asking->count, &count) != DCONFDB_OK)
+        return false;
+    keep(asking);
+    return true;
+}
+
+bool asking_note(Asking *asking, const DconfdbSnapshot *now, Order *order)
+{
+    for (size_t i = 0; i < asking->count; i++)
+        asking->times[i] = (DconfdbTime){asking->asked[i].path, asking->asked[i].when, value_in(now, &asking->changes[i].path)};
+    return order_note_made(order, asking->times, asking->count);
+}

@@ -1,0 +1,141 @@
+/* A database's file, opened. What it means is decided by the proved calls. */
+#define _DEFAULT_SOURCE
+#define _POSIX_C_SOURCE 200809L
+#define _FILE_OFFSET_BITS 64
+#include "part.h"
+#include "errors.h"
+#include "texts.h"
+
+#include <stdlib.h>
+#include <string.h>
+
+/* Of so many bytes of a mapped file there is a copy, to be compared if its time is another. */
+#ifndef LARGEST_COPY
+#define LARGEST_COPY 65536
+#endif
+
+static void fault_free(Fault *fault)
+{
+    if (fault)
+        free(fault->aside);
+    free(fault);
+}
+
+void part_unref(Part *part)
+{
+    if (part && atomic_fetch_sub(&part->references, 1) == 1) {
+        file_release(&part->bytes);
+        fault_free(part->fault);
+        free(part->copy);
+        free(part);
+    }
+}
+
+/* A part without a file. The bytes are the part's, or are freed. */
+Part *part_new(const char *name, FileState state, FileBytes bytes, DconfdbError *error)
+{
+    Part *part = malloc(sizeof *part + strlen(name) + 1);
+    if (!part) {
+        file_release(&bytes);
+        refuse_memory(error);
+        return NULL;
+    }
+    *part = (Part){.references = 1, .state = state, .bytes = bytes, .layer = DCONFDB_EMPTY_LAYER};
+    strcpy(part->name, name);
+    return part;
+}
+
+/* Nothing is wrong any longer. */
+void part_forgive(Part *part)
+{
+    fault_free(part->fault);
+    part->fault = NULL;
+}
+
+/* Keeps a fault. */
+bool part_blame(Part *part, const DconfdbError *fault, DconfdbError *error)
+{
+    part->fault = malloc(sizeof *part->fault);
+    if (!part->fault)
+        return refuse_memory(error);
+    *part->fault = (Fault){*fault, {0, 0, false}, NULL};
+    return true;
+}
+
+/* Reads what can be read of a file that is no sound database, instead of its bytes. */
+static bool part_mend(Part *part, const DconfdbError *fault, DconfdbError *error)
+{
+    FileBytes mended = {NULL, 0, false};
+    DconfdbUnsound broken = {0, 0, false};
+    Saved saved;
+    uint32_t number = repair(&part->bytes, &mended, &saved);
+    if (number == DCONFDB_MEMORY)
+        return refuse_memory(error);
+    file_release(&part->bytes);
+    part->bytes = mended;
+    /* Where nothing can be read the layer stays empty. */
+    if (number == DCONFDB_OK && dconfdb_open(mended.at, mended.len, true, &part->layer, &broken) != DCONFDB_OK)
+        saved = (Saved){0, 0, false};
+    if (saved.is_whole)
+        return true;
+    if (!part_blame(part, fault, error))
+        return false;
+    part->fault->saved = saved;
+    return true;
+}
+
+/* Without memory there is none. */
+static void keep_copy(Part *part)
+{
+    const FileBytes *bytes = &part->bytes;
+    if (!bytes->is_mapped || bytes->len > LARGEST_COPY)
+        return;
+    part->copy = malloc(bytes->len);
+    if (part->copy)
+        memcpy(part->copy, bytes->at, bytes->len);
+}
+
+/* Opens what a file holds that is there instead of the old part's. The bytes are the part's, or are freed. */
+Part *part_open(const Asked *asked, FileState state, FileBytes bytes, const Part *old, DconfdbError *error)
+{
+    static const DconfdbLayer empty = DCONFDB_EMPTY_LAYER;
+    DconfdbError fault;
+    DconfdbUnsound broken = {0, 0, false};
+    Part *part = part_new(asked->name, state, bytes, error);
+    if (!part)
+        return NULL;
+    /* What is mapped may have been written over, and then it is what it was no longer. */
+    const DconfdbLayer *like = old && !old->bytes.is_mapped ? &old->layer : &empty;
+    uint32_t number = dconfdb_open_after(like, bytes_of(bytes.at), bytes.len, state.is_there, &part->layer, &broken);
+    if (number == DCONFDB_OK) {
+        keep_copy(part);
+        return part;
+    }
+    refuse_database(asked->is_lenient ? &fault : error, number, asked->name, &broken, (Place){.database = asked->index});
+    if (asked->is_lenient && part_mend(part, &fault, error))
+        return part;
+    part_unref(part);
+    return NULL;
+}
+
+bool part_has_bytes(const Part *part, const FileBytes *bytes)
+{
+    return part->bytes.len == bytes->len && (bytes->len == 0 || memcmp(part->bytes.at, bytes->at, bytes->len) == 0);
+}
+
+bool part_had_bytes(const Part *part, const FileBytes *bytes)
+{
+    return part->copy && part->bytes.len == bytes->len && memcmp(part->copy, bytes->at, bytes->len) == 0;
+}
+
+/* What is wrong with a file that has its name still. */
+const DconfdbError *part_fault(const Part *part)
+{
+    return part->fault && !part->fault->aside ? &part->fault->error : NULL;
+}
+
+bool part_is_readable(const Part *part)
+{
+    const DconfdbError *fault = part_fault(part);
+    return !fault || fault->errnum == 0;
+}

@@ -1,0 +1,193 @@
+/* The files of a store: the profile, and the databases that it names. */
+#define _DEFAULT_SOURCE
+#define _POSIX_C_SOURCE 200809L
+#define _FILE_OFFSET_BITS 64
+#include "store.h"
+#include "errors.h"
+#include "faults.h"
+#include "texts.h"
+
+#include <errno.h>
+#include <stdlib.h>
+#include <string.h>
+
+/* A profile has at most so many bytes. */
+#ifndef LARGEST_PROFILE
+#define LARGEST_PROFILE 16777216
+#endif
+
+/* The first is kept. */
+static DconfdbError *profile_fault_of(DconfdbStore *store)
+{
+    return store->profile_fault.code == DCONFDB_ERROR_NONE ? &store->profile_fault : NULL;
+}
+
+/* ---- the databases of a profile */
+
+/* The file of a line, by the store's folder; or NULL. */
+static char *file_of(const char *folder, bool is_beside, const DconfdbName *database)
+{
+    DconfdbPath path = DCONFDB_NO_PATH;
+    dconfdb_database_path((const uint8_t *)folder, strlen(folder), is_beside, database->kind, database->name.at, database->name.len, &path);
+    return path_text(&path);
+}
+
+/* The databases that a profile names, where every line has to be good. Of a text that isn't UTF-8 the first bad line is told, as where bad
+ * lines are passed over. */
+static uint32_t read_all_names(const uint8_t *text, size_t len, DconfdbName *names, size_t *count, size_t *line)
+{
+    uint32_t fault = DCONFDB_OK, number = dconfdb_profile(text, len, names, MOST_DATABASES, count, line);
+    if (number != DCONFDB_NOT_TEXT)
+        return number;
+    number = dconfdb_profile_lines(text, len, names, MOST_DATABASES, count, &fault, line);
+    return number == DCONFDB_OK ? fault : number;
+}
+
+/* The databases that a profile names; of a lenient store those of its good lines, where the first bad one
+ * is kept as a fault. */
+static uint32_t read_names(DconfdbStore *store, const char *profile, const uint8_t *text, size_t len, DconfdbName *names,
+                           size_t *count, size_t *line)
+{
+    uint32_t fault = DCONFDB_OK;
+    if (!store->options.is_lenient)
+        return read_all_names(text, len, names, count, line);
+    uint32_t number = dconfdb_profile_lines(text, len, names, MOST_DATABASES, count, &fault, line);
+    if (number == DCONFDB_OK && fault != DCONFDB_OK)
+        refuse_call(profile_fault_of(store), fault, profile, (Place){.line = *line});
+    return number;
+}
+
+static bool name_files(DconfdbStore *store, const char *profile, const uint8_t *text, size_t len, DconfdbError *error)
+{
+    DconfdbName names[MOST_DATABASES];
+    size_t count = 0, line = 0;
+    for (size_t i = 0; i < MOST_DATABASES; i++)
+        names[i] = (DconfdbName){0, DCONFDB_NOTHING};
+    uint32_t number = read_names(store, profile, text, len, names, &count, &line);
+    if (number != DCONFDB_OK)
+        return refuse_call(error, number, profile, (Place){.line = line});
+    bool is_beside = dconfdb_is_beside((const uint8_t *)profile, strlen(profile), store->place.is_given);
+    for (; store->count < count; store->count++) {
+        store->files[store->count] = file_of(store->place.folder, is_beside, &names[store->count]);
+        if (!store->files[store->count])
+            return refuse_memory(error);
+    }
+    store->user_file = dconfdb_has_users(names, count) ? store->files[0] : NULL;
+    return true;
+}
+
+/* ---- which profile counts */
+
+/* The path of a profile; or NULL. */
+static char *path_of(const StorePlace *place, uint32_t which)
+{
+    DconfdbPath path = DCONFDB_NO_PATH;
+    const DconfdbBytes folder = text_bytes(place->folder), named = text_bytes(place->profile ? place->profile : "");
+    dconfdb_profile_path(which, folder.at, folder.len, named.at, named.len, &path);
+    return path_text(&path);
+}
+
+/* A look at a profile, and what comes after it. */
+typedef struct {
+    uint32_t step;
+    char *path;
+    FileBytes text;
+} Look;
+
+static void look_release(Look *look)
+{
+    file_release(&look->text);
+    free(look->path);
+    look->path = NULL;
+}
+
+static uint32_t found_of(int fault, const FileState *state)
+{
+    if (fault == 0)
+        return state->is_there ? DCONFDB_FOUND_THERE : DCONFDB_FOUND_MISSING;
+    return is_files_own(fault) ? DCONFDB_FOUND_UNREADABLE : DCONFDB_FOUND_UNKNOWN;
+}
+
+/* Looks at the one that comes next. False: no memory is left. */
+static bool look_at_next(DconfdbStore *store, Look *look, DconfdbError *error)
+{
+    FileState state;
+    uint32_t which = look->step;
+    look_release(look);
+    look->path = path_of(&store->place, which);
+    if (!look->path)
+        return refuse_memory(error);
+    int fault = file_read(NO_FOLDER, look->path, false, NULL, LARGEST_PROFILE, &look->text, &state);
+    uint32_t found = found_of(fault, &state);
+    look->step = dconfdb_profile_step(which, found, store->options.is_lenient);
+    if (dconfdb_profile_is_told(which, found))
+        refuse_file(look->step == DCONFDB_PROFILE_REFUSED ? error : profile_fault_of(store), fault != 0 ? fault : ENOENT, look->path, nowhere);
+    return true;
+}
+
+/* Goes by what the looks came to. */
+static bool take_profile(DconfdbStore *store, const Look *look, DconfdbError *error)
+{
+    static const char users[] = "user-db:user";
+    switch (look->step) {
+    case DCONFDB_PROFILE_COUNTS:
+        return name_files(store, look->path, bytes_of(look->text.at), look->text.len, error);
+    case DCONFDB_PROFILE_USERS:
+        return name_files(store, users, bytes_of(users), sizeof users - 1, error);
+    case DCONFDB_PROFILE_NO_DATABASE:
+        store->lacks_profile = true;
+        return true;
+    default:
+        return false;
+    }
+}
+
+bool store_find_files(DconfdbStore *store, DconfdbError *error)
+{
+    Look look = {dconfdb_profile_first(store->place.profile != NULL), NULL, {NULL, 0, false}};
+    bool done = true;
+    while (done && look.step <= DCONFDB_PROFILE_EVERYONES)
+        done = look_at_next(store, &look, error);
+    done = done && take_profile(store, &look, error);
+    look_release(&look);
+    return done;
+}
+
+bool place_has_profile(const DconfdbStore *store)
+{
+    return !store->lacks_profile;
+}
+
+/* Texts before those of the databases' files, a zero byte after each; or NULL. */
+static char *with_files(const DconfdbStore *store, const char *first, const char *second, size_t *size)
+{
+    size_t len = first ? strlen(first) + 1 + strlen(second) + 1 : 0;
+    for (size_t i = 0; i < store->count; i++)
+        len += strlen(store->files[i]) + 1;
+    char *names = malloc(len + 1);
+    if (!names)
+        return NULL;
+    char *at = first ? stpcpy(stpcpy(names, first) + 1, second) + 1 : names;
+    for (size_t i = 0; i < store->count; i++)
+        at = stpcpy(at, store->files[i]) + 1;
+    *at = 0;
+    if (size)
+        *size = len;
+    return names;
+}
+
+/* The profile that is looked at first, that of all users, and the databases; or NULL. */
+char *store_file_names(const DconfdbStore *store, size_t *size)
+{
+    char *first = path_of(&store->place, dconfdb_profile_first(store->place.profile != NULL));
+    char *everyones = path_of(&store->place, DCONFDB_PROFILE_EVERYONES);
+    char *names = first && everyones ? with_files(store, first, everyones, size) : NULL;
+    free(first);
+    free(everyones);
+    return names;
+}
+
+char *files_of(const DconfdbStore *store)
+{
+    return with_files(store, NULL, NULL, NULL);
+}

@@ -1,0 +1,278 @@
+/* Looks at the files of a store, by the proved steps: what was replaced is read, and what was not is kept. */
+#define _DEFAULT_SOURCE
+#define _POSIX_C_SOURCE 200809L
+#define _FILE_OFFSET_BITS 64
+#include "store.h"
+#include "errors.h"
+#include "faults.h"
+#include "held.h"
+#include "locked.h"
+#include "texts.h"
+
+#include <string.h>
+#include <time.h>
+
+/* A file has at most so many bytes. */
+#ifndef LARGEST_FILE
+#define LARGEST_FILE 4294967295U
+#endif
+
+/* A look at the files of a store: the snapshot that comes of it, and what was read of the file that it is at. */
+typedef struct {
+    const DconfdbStore *store;
+    DconfdbSnapshot *newer;
+    int turn;
+    FileState state;
+    uint64_t opened; /* when the reading began */
+    FileBytes bytes;
+    DconfdbError fault; /* why it can't be read; its number is 0 where it can */
+} Look;
+
+/* In a turn, which is one of the user's file, that is read in its folder. */
+static Asked asked_of(const Look *look, size_t at)
+{
+    const DconfdbStore *store = look->store;
+    bool is_users = store->files[at] == store->user_file;
+    return (Asked){store->files[at], at, !is_users, store->options.is_lenient, is_users ? look->turn : NO_FOLDER};
+}
+
+/* Whether a mapped file whose permissions or names have changed may still be read. If it may, that is known until they change again. */
+static bool __attribute__((noinline)) may_still_be_read(Part *old, const FileState *state)
+{
+    bool may = file_may_be_read(old->name);
+    if (may)
+        old->state.touched = state->touched;
+    return may;
+}
+
+static bool are_alike(const FileState *one, const FileState *other)
+{
+    return one->touched.nanoseconds == other->touched.nanoseconds && one->touched.seconds == other->touched.seconds
+        && one->written.nanoseconds == other->written.nanoseconds && one->written.seconds == other->written.seconds
+        && one->inode == other->inode && one->size == other->size && one->device == other->device && one->is_there == other->is_there;
+}
+
+/* What the proved call has said of the same numbers it isn't asked again. */
+static bool is_as_said(const Look *look, Part *old, size_t at)
+{
+    FileState state;
+    if (file_look(look->store->files[at], &state) != 0)
+        return false;
+    bool is_alike = are_alike(&old->state, &state);
+    if (is_alike && old->is_known)
+        return true;
+    old->is_known = part_sameness(old, &state) == DCONFDB_FILE_SAME;
+    return old->is_known && (is_alike || may_still_be_read(old, &state));
+}
+
+/* Whether a file that begins so may be a database. A signature and a version aren't better with more
+ * bytes after them. */
+static bool may_be_database(const uint8_t *head, size_t len)
+{
+    DconfdbLayer layer = DCONFDB_EMPTY_LAYER;
+    DconfdbUnsound broken = {0, 0, false};
+    uint32_t number = dconfdb_open(head, len, true, &layer, &broken);
+    return number != DCONFDB_BAD_SIGNATURE && number != DCONFDB_BAD_VERSION;
+}
+
+/* Gives the fault of the system. Cancellation is held back here, since a look that reads nothing is no cancellation point; and who opens
+ * a store has held it back. */
+static int read_at(Look *look, const Asked *asked)
+{
+    bool is_in_turn = asked->turn != NO_FOLDER, is_held = !look->store->now;
+    int cancels = is_held ? 0 : hold_cancellation();
+    look->opened = file_clock();
+    int fault = file_read(asked->turn, is_in_turn ? strrchr(asked->name, '/') + 1 : asked->name, asked->maps, may_be_database,
+                          LARGEST_FILE, &look->bytes, &look->state);
+    if (!is_held)
+        cancel_as_before(cancels);
+    return fault;
+}
+
+/* Whether what was read is what the old part is of. A file may be replaced by one that is alike in all that stat() says. */
+static bool is_as_read(const Look *look, Part *old)
+{
+    const DconfdbError *bad = part_fault(old);
+    bool is = part_sameness(old, &look->state) != DCONFDB_FILE_OTHER;
+    if (look->fault.code == DCONFDB_ERROR_NONE)
+        is = is && !bad && part_has_bytes(old, &look->bytes);
+    else
+        is = is && bad && bad->code == look->fault.code && bad->errnum == look->fault.errnum;
+    if (is)
+        part_was_read(old, look->opened);
+    return is;
+}
+
+/* The part of what was read: where that can't be it is empty, and says why. The bytes are the part's, or are freed. */
+static Part *part_of_read(Look *look, size_t at, const Part *old, DconfdbError *error)
+{
+    Asked asked = asked_of(look, at);
+    FileBytes bytes = look->bytes;
+    look->bytes = (FileBytes){NULL, 0, false};
+    bool is_read = look->fault.code == DCONFDB_ERROR_NONE;
+    Part *part = is_read ? part_open(&asked, look->state, bytes, old, error) : part_new(asked.name, look->state, bytes, error);
+    if (part && (is_read || part_blame(part, &look->fault, error))) {
+        part_was_read(part, look->opened);
+        return part;
+    }
+    part_unref(part);
+    return NULL;
+}
+
+/* The newer snapshot is made with the first part that is another one: the parts before that were kept. */
+static bool put_newer(Look *look, size_t at, Part *part, DconfdbError *error)
+{
+    const DconfdbStore *store = look->store;
+    if (!look->newer) {
+        look->newer = snapshot_new(store->count, store->user_file != NULL);
+        for (size_t i = 0; look->newer && i < at; i++)
+            snapshot_put(look->newer, i, part_ref(store->now->parts[i]));
+    }
+    if (look->newer) {
+        snapshot_put(look->newer, at, part);
+        return true;
+    }
+    part_unref(part);
+    return refuse_memory(error);
+}
+
+/* Carries out a step but the reading, and gives its answer. */
+static bool look_at(Look *look, const DconfdbNext *step, DconfdbError *error)
+{
+    Part *old = look->store->now ? look->store->now->parts[step->number] : NULL, *part;
+    switch (step->kind) {
+    case DCONFDB_LOOK_STAT:
+        return is_as_said(look, old, step->number);
+    case DCONFDB_LOOK_COMPARE:
+        return is_as_read(look, old);
+    case DCONFDB_LOOK_KEEP:
+        if (look->bytes.at) /* mostly nothing was read */
+            file_release(&look->bytes);
+        if (look->newer)
+            snapshot_put(look->newer, step->number, part_ref(old));
+        return true;
+    default:
+        part = part_of_read(look, step->number, old, error);
+        return part && put_newer(look, step->number, part, error);
+    }
+}
+
+/* Reads a file. A fault is the part's or the caller's, as the proved steps say. */
+static void read_step(Look *look, DconfdbRefresh *refresh, DconfdbNext *step, DconfdbError *error)
+{
+    size_t at = step->number;
+    Asked asked = asked_of(look, at);
+    int fault = read_at(look, &asked);
+    look->fault.code = DCONFDB_ERROR_NONE;
+    dconfdb_refresh_answered(refresh, fault == 0 || dconfdb_refresh_is_had(refresh, fault_kind(fault)));
+    dconfdb_refresh_next(refresh, step);
+    if (fault != 0)
+        refuse_file(step->kind == DCONFDB_LOOK_FAILED ? error : &look->fault, fault, asked.name, (Place){.database = at});
+}
+
+/* Carries out a step, and gives the next one. */
+static void take_step(Look *look, DconfdbRefresh *refresh, DconfdbNext *step, DconfdbError *error)
+{
+    if (step->kind == DCONFDB_LOOK_READ) {
+        read_step(look, refresh, step, error);
+        return;
+    }
+    dconfdb_refresh_answered(refresh, look_at(look, step, error));
+    dconfdb_refresh_next(refresh, step);
+}
+
+/* What the files hold now, by the proved steps. Gives how it ended; where that is NEWER `newer` is the snapshot. */
+uint32_t files_look(const DconfdbStore *store, int turn, DconfdbSnapshot **newer, DconfdbError *error)
+{
+    Look looking;
+    DconfdbRefresh refresh = {.has_old = false};
+    DconfdbNext step = {0, 0};
+    /* A fault has room for a long text: it is written where there is one. */
+    looking.store = store;
+    looking.newer = NULL;
+    looking.turn = turn;
+    looking.bytes = (FileBytes){NULL, 0, false};
+    dconfdb_refresh_begin(&refresh, store->count, store->now != NULL, turn != NO_FOLDER, store->options.is_lenient);
+    dconfdb_refresh_next(&refresh, &step);
+    while (step.kind < DCONFDB_LOOK_FAILED)
+        take_step(&looking, &refresh, &step, error);
+    if (step.kind != DCONFDB_LOOK_NEWER) {
+        dconfdb_snapshot_unref(looking.newer);
+        return step.kind;
+    }
+    /* A store may have no files. */
+    *newer = looking.newer ? looking.newer : snapshot_new(0, false);
+    if (!*newer)
+        refuse_memory(error);
+    return *newer ? DCONFDB_LOOK_NEWER : DCONFDB_LOOK_FAILED;
+}
+
+/* ---- the newest snapshot */
+
+/* Whether the file is that of a change of this store's, of which it couldn't say whether it is made. */
+static bool is_tried(const DconfdbStore *store, const DconfdbSnapshot *newer)
+{
+    const Part *tried = store->tried ? store->tried->parts[0] : NULL;
+    return tried && file_is_one(&tried->state, &newer->parts[0]->state) && part_has_bytes(tried, &newer->parts[0]->bytes);
+}
+
+/* `refreshing` is held. What this store itself changed is no news. It stands apart, since most refreshes find nothing newer. */
+static void __attribute__((noinline)) hear(DconfdbStore *store, DconfdbSnapshot *newer)
+{
+    const DconfdbSnapshot *before = is_tried(store, newer) ? store->tried : store->now;
+    store->has_news = store->has_news || snapshot_is_news(before, newer);
+    dconfdb_snapshot_unref(store->tried);
+    store->tried = NULL;
+    store_renew(store, newer);
+}
+
+/* `refreshing` is held. */
+bool store_refresh(DconfdbStore *store, int turn, DconfdbError *error)
+{
+    DconfdbSnapshot *newer = NULL;
+    uint32_t end = files_look(store, turn, &newer, error);
+    if (end == DCONFDB_LOOK_NEWER)
+        hear(store, newer);
+    return end != DCONFDB_LOOK_FAILED;
+}
+
+bool is_amid_change(const DconfdbStore *store)
+{
+    return atomic_load(&store->is_amid);
+}
+
+bool dconfdb_store_refresh(DconfdbStore *store, bool *changed, DconfdbError *error)
+{
+    pthread_mutex_lock(&store->refreshing);
+    bool done = store_refresh(store, NO_FOLDER, error);
+    if (done && changed) {
+        *changed = store->has_news;
+        store->has_news = false;
+    }
+    pthread_mutex_unlock(&store->refreshing);
+    return done;
+}
+
+/* It is no cancellation point. */
+static void pass_a_moment(void)
+{
+    static const struct timespec moment = {0, 1000000};
+    int cancels = hold_cancellation();
+    nanosleep(&moment, NULL);
+    cancel_as_before(cancels);
+}
+
+/* Who looks too is waited for, and who reads the files before a change. The snapshot is another one only where `refreshing` is held. */
+DconfdbSnapshot *newest_unless_amid(DconfdbStore *store, bool *has_looked, DconfdbError *error)
+{
+    while (pthread_mutex_trylock(&store->refreshing) != 0) {
+        *has_looked = !is_amid_change(store);
+        if (!*has_looked)
+            return dconfdb_store_snapshot(store);
+        pass_a_moment();
+    }
+    *has_looked = true;
+    DconfdbSnapshot *now = store_refresh(store, NO_FOLDER, error) ? dconfdb_snapshot_ref(store->now) : NULL;
+    pthread_mutex_unlock(&store->refreshing);
+    return now;
+}

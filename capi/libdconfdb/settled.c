@@ -1,0 +1,47 @@
+/* What the user's file is gets to the disk. */
+#define _DEFAULT_SOURCE
+#define _POSIX_C_SOURCE 200809L
+#define _FILE_OFFSET_BITS 64
+#include "errors.h"
+#include "locked.h"
+#include "store.h"
+#include "texts.h"
+
+#include <fcntl.h>
+#include <stdlib.h>
+#include <unistd.h>
+
+bool store_settle_own(const DconfdbStore *store, const char *name, DconfdbError *error)
+{
+    int fault = store->user_file && !store->options.is_unsynced ? folder_settle(store->place.folder, name) : 0;
+    if (fault == 0)
+        return true;
+    refuse_file(error, fault, user_file_or_folder(store), nowhere);
+    return refuse_outcome(error, DCONFDB_TURN_UNSYNCED, user_file_or_folder(store));
+}
+
+/* Whether who left the file noted that it is on the disk. Nobody waits for the lock: notes that others write meanwhile are not whole. */
+static bool is_noted_settled(DconfdbStore *store, const Part *own)
+{
+    char *lock = joined(store->place.folder, "/", LOCK_NAME);
+    int file = lock ? open(lock, O_RDONLY | O_NONBLOCK | O_NOCTTY | O_CLOEXEC) : -1;
+    free(lock);
+    if (file < 0)
+        return false;
+    bool is = order_read(&store->order, file) && order_is_synced(&store->order, own_name(store), &own->state);
+    close(file);
+    return is;
+}
+
+bool settle_store(DconfdbStore *store, DconfdbError *error)
+{
+    FileState state;
+    pthread_mutex_lock(&store->refreshing);
+    Part *own = store->user_file ? store->now->parts[0] : NULL;
+    bool is_known = !own || own->is_settled || is_noted_settled(store, own);
+    bool done = is_known || store_settle_own(store, part_is_readable(own) ? own_name(store) : NULL, error);
+    if (own && done)
+        own->is_settled = is_known || (!store->options.is_unsynced && file_look(store->user_file, &state) == 0 && part_sameness(own, &state) == DCONFDB_FILE_SAME);
+    pthread_mutex_unlock(&store->refreshing);
+    return done;
+}

@@ -1,0 +1,73 @@
+/* An open store. */
+#ifndef STORE_H
+#define STORE_H
+
+#include "notices.h"
+#include "order.h"
+#include "place.h"
+#include "snapshot.h"
+
+#include <pthread.h>
+#include <stdatomic.h>
+#include <stdbool.h>
+#include <string.h>
+
+/* A profile has at most so many. */
+#ifndef MOST_DATABASES
+#define MOST_DATABASES 64
+#endif
+
+struct DconfdbStore {
+    DconfdbOptions options;     /* `is_lenient`: a bad file is empty, or what is saved of it */
+    DconfdbError profile_fault; /* its number is 0 where there is none */
+    pthread_mutex_t refreshing; /* held while files are looked at, and put in place */
+    pthread_mutex_t handing;    /* held for `now` alone */
+    bool has_news;              /* of others' changes, that no refresh has told; under `refreshing` */
+    struct Seen *seen;          /* the same, while own ones wait; under `refreshing` */
+    uint64_t noted;             /* the time of what this store noted last; under `refreshing` */
+    Order order;                /* of the turn that it has; under `refreshing` */
+    bool is_unsettled;          /* its last change is perhaps not on the disk; under `refreshing` */
+    DconfdbSnapshot *tried;     /* of a change of this store's that is perhaps made; under `refreshing` */
+    atomic_bool is_amid;        /* in a turn, and the files were read in it: nobody else changes the user's */
+    DconfdbSnapshot *now;
+    Notices notices;
+    StorePlace place;
+    bool lacks_profile; /* the one that is named can't be had, so there is no database */
+    char *user_file; /* absolute; NULL: no user's database */
+    size_t count;
+    char *files[MOST_DATABASES];
+};
+
+/* What a fault of a change is said of, if it is of no edit. */
+static inline const char *user_file_or_folder(const DconfdbStore *store)
+{
+    return store->user_file ? store->user_file : store->place.folder;
+}
+
+/* The user's file in its folder. */
+static inline const char *own_name(const DconfdbStore *store)
+{
+    return strrchr(store->user_file, '/') + 1;
+}
+
+/* ---- which files it has (profile.c) */
+
+bool store_find_files(DconfdbStore *store, DconfdbError *error);
+
+/* The profile that is named or the folder's, that of all users, and the databases, a zero byte after each; or NULL. */
+char *store_file_names(const DconfdbStore *store, size_t *size);
+
+/* ---- its newest snapshot (refresh.c, store.c); for all `refreshing` is held */
+
+/* What the files hold now, by the proved steps; of the turn the folder, or NO_FOLDER. Gives how it ended; where that is NEWER `newer` is
+ * the snapshot. A store that is being opened has none yet. */
+uint32_t files_look(const DconfdbStore *store, int turn, DconfdbSnapshot **newer, DconfdbError *error);
+
+bool store_refresh(DconfdbStore *store, int turn, DconfdbError *error);
+
+void store_renew(DconfdbStore *store, DconfdbSnapshot *newer);
+
+/* What the user's file is, or that there is none, gets to the disk, whoever wrote it. */
+bool store_settle_own(const DconfdbStore *store, const char *name, DconfdbError *error);
+
+#endif

@@ -1,0 +1,49 @@
+/* The profile of a folder: the lines that name no database, and the databases of the system that aren't beside it. */
+#define _GNU_SOURCE
+#include "lint.h"
+#include "dconfdb_calls.h"
+
+#include <string.h>
+
+enum { MOST_DATABASES = 64, SYSTEMS = 1 };
+
+static size_t line_of(const char *text, const uint8_t *at)
+{
+    size_t line = 1;
+    for (const char *before = text; before < (const char *)at; before++)
+        line += *before == '\n';
+    return line;
+}
+
+/* As `update` says it, of the profile that lies in its folder: in any other one the line is of a file in each user's store. */
+static void check_system(const Asked *asked, const char *text, const DconfdbName *database)
+{
+    FileState state;
+    Place at = {asked->file, line_of(text, database->name.at)};
+    char *file = g_strdup_printf("%s/%.*s.db", asked->folder, (int)database->name.len, (const char *)database->name.at);
+    if (file_look(file, &state) == 0 && !state.is_there)
+        find(at, "it names system-db:%.*s, and there is no %s", (int)database->name.len, (const char *)database->name.at, file);
+    g_free(file);
+}
+
+static void find_fault(const Asked *asked, uint32_t fault, size_t line)
+{
+    DconfdbBytes said = DCONFDB_NOTHING;
+    if (fault != DCONFDB_OK && dconfdb_fault_text(fault, &said))
+        find((Place){asked->file, line}, "%.*s", (int)said.len, (const char *)said.at);
+}
+
+void check_profile(const Asked *asked, const char *text, size_t len)
+{
+    DconfdbName names[MOST_DATABASES];
+    uint32_t fault = DCONFDB_OK;
+    size_t count = 0, line = 0;
+    for (size_t i = 0; i < MOST_DATABASES; i++)
+        names[i] = (DconfdbName){0, DCONFDB_NOTHING};
+    if (dconfdb_profile_lines((const uint8_t *)text, len, names, MOST_DATABASES, &count, &fault, &line) != DCONFDB_OK)
+        g_error("no memory is left");
+    for (size_t i = 0; i < count; i++)
+        if (names[i].kind == SYSTEMS && strcmp(asked->name, "profile") == 0)
+            check_system(asked, text, &names[i]);
+    find_fault(asked, fault, line);
+}

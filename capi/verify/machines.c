@@ -1,0 +1,122 @@
+#include "machines.h"
+#include "world.h"
+
+#include "machines/tables.h"
+
+void (*at_step)(const DconfdbStep *step);
+void (*at_answer)(uint32_t fault, size_t n);
+
+/* What is beyond the bounds isn't looked at. A machine's memory is the number of its state. */
+static uint16_t within(uint16_t state)
+{
+    GIVEN(state != BEYOND);
+    return state;
+}
+
+/* ---- a change */
+
+size_t some_number(uint32_t kind)
+{
+    size_t n = 0, at = any_size();
+    GIVEN(at < TURN_NUMBERS);
+    bool is = turn_number(kind, (unsigned)at, &n);
+    GIVEN(is);
+    return n;
+}
+
+void dconfdb_turn_begin(DconfdbTurn *turn)
+{
+    uint32_t seen = turn_states[turn_first[0]].seen;
+    *turn = (DconfdbTurn){.state = turn_first[0], .outcome = seen / 3, .fault = turn_fault(seen)};
+}
+
+void dconfdb_turn_next(const DconfdbTurn *turn, DconfdbStep *step)
+{
+    *step = turn_states[turn->state].step;
+    if (at_step)
+        at_step(step);
+}
+
+/* The place of an answer. The system gives no other number, so who answers with another one made it up. */
+static unsigned answer_of(uint32_t kind, uint32_t fault, size_t n)
+{
+    size_t number = 0;
+    if (fault == DCONFDB_TURN_NOTHING)
+        return TURN_NOTHING;
+    if (fault != 0)
+        return TURN_FAULT;
+    for (unsigned at = 0; at < TURN_NUMBERS; at++) {
+        if (turn_number(kind, at, &number) && number == n)
+            return at;
+    }
+    CHECK(false, "answer: a number that the system gave");
+    return TURN_FAULT;
+}
+
+void dconfdb_turn_answered(DconfdbTurn *turn, uint32_t fault, size_t n)
+{
+    if (at_answer)
+        at_answer(fault, n);
+    turn->state = within(turn_states[turn->state].after[answer_of(turn_states[turn->state].step.kind, fault, n)]);
+    turn->outcome = turn_states[turn->state].seen / 3;
+    turn->fault = turn_fault(turn_states[turn->state].seen);
+}
+
+/* ---- what is asked before a change, and what a program has of it */
+
+uint32_t dconfdb_making_after(bool makes_file, bool is_unsettled, uint32_t ask, uint32_t found)
+{
+    CHECK(ask < DCONFDB_MAKING_READY && found <= DCONFDB_FOUND_FAULT, "answer: one to a question");
+    return making[makes_file][is_unsettled][ask][found];
+}
+
+void dconfdb_ending(uint32_t outcome, uint32_t fault, bool is_unsettled, DconfdbEnding *ending)
+{
+    uint32_t seen = turn_seen(outcome, fault);
+    CHECK(outcome <= DCONFDB_TURN_UNSYNCED, "answer: an outcome");
+    *ending = endings[2 * seen + is_unsettled];
+}
+
+/* ---- what a fault is, and permission bits */
+
+uint32_t dconfdb_fault_answer(uint32_t call, uint32_t kind)
+{
+    CHECK(call < CALLS && kind < FAULT_KINDS, "answer: a kind of fault, of a call that has others");
+    return fault_answers[call][kind];
+}
+
+uint32_t dconfdb_bits_for(uint32_t bits, bool has_group)
+{
+    return bits_given(bits, has_group);
+}
+
+uint32_t dconfdb_lock_bits(uint32_t folder, bool has_group)
+{
+    return lock_bits_given(folder, has_group);
+}
+
+/* ---- a look */
+
+void dconfdb_refresh_begin(DconfdbRefresh *refresh, size_t count, bool has_old, bool in_turn, bool is_lenient)
+{
+    GIVEN(count <= 2);
+    *refresh = (DconfdbRefresh){.stage = refresh_first[8 * count + 4 * has_old + 2 * in_turn + is_lenient]};
+}
+
+void dconfdb_refresh_next(const DconfdbRefresh *refresh, DconfdbNext *step)
+{
+    *step = (DconfdbNext){refresh_states[refresh->stage].step.kind, refresh_states[refresh->stage].step.number};
+}
+
+void dconfdb_refresh_answered(DconfdbRefresh *refresh, bool yes)
+{
+    refresh->stage = within(refresh_states[refresh->stage].after[yes]);
+}
+
+/* States that nobody can tell apart are one, so it is had if what comes then comes of a yes. */
+bool dconfdb_refresh_is_had(const DconfdbRefresh *refresh, uint32_t kind)
+{
+    CHECK(refresh_states[refresh->stage].step.kind == DCONFDB_LOOK_READ, "order: a fault is one of the reading");
+    CHECK(kind < FAULT_KINDS, "answer: a kind of fault");
+    return refresh_states[refresh->stage].after[REFRESH_REFUSED + kind] == refresh_states[refresh->stage].after[true];
+}

@@ -1,0 +1,290 @@
+/* Writes tables of the proved machines as they answer: from each beginning each answer is given in each state that is reached, and what comes next is
+ * kept. So nothing of a machine is written by hand: who links the archive has what the archive does.
+ *
+ * A machine is known by its steps alone. Its memory is compared byte by byte, and is all 0 before it begins. */
+#include "answers.h"
+
+#include <stdbool.h>
+#include <stdio.h>
+#include <stdlib.h>
+#include <string.h>
+
+enum { MOST_STATES = 20000, MOST_BYTES = 256, MOST_ANSWERS = 16, MOST_BEGINNINGS = 64 };
+
+typedef struct {
+    uint32_t kind, fault;
+    size_t number;
+    bool has_number;
+    uint32_t seen; /* what else a caller sees of the machine, as a number */
+} Step;
+
+typedef struct {
+    uint8_t bytes[MOST_BYTES];
+    Step step;
+    int depth, after[MOST_ANSWERS], class, next_class;
+} State;
+
+typedef struct {
+    const char *name;
+    size_t size;
+    int beginnings, answers, most_depth;
+    void (*begins)(void *it, int number);
+    Step (*steps)(const void *it);
+
+    /* False: no such answer is given in this state. */
+    bool (*answered)(void *it, const Step *step, int number);
+} Machine;
+
+static State states[MOST_STATES];
+static int count;
+
+static void fail(const char *name, const char *why)
+{
+    fprintf(stderr, "explore: %s: %s\n", name, why);
+    exit(1);
+}
+
+static int number_of(const Machine *machine, const uint8_t *bytes, int depth)
+{
+    for (int i = 0; i < count; i++) {
+        if (memcmp(states[i].bytes, bytes, MOST_BYTES) == 0)
+            return i;
+    }
+    if (depth > machine->most_depth)
+        return BEYOND;
+    if (count == MOST_STATES)
+        fail(machine->name, "too many states");
+    State *state = &states[count];
+    memcpy(state->bytes, bytes, MOST_BYTES);
+    state->step = machine->steps(bytes);
+    state->depth = depth;
+    return count++;
+}
+
+static void explore(const Machine *machine, int *first)
+{
+    uint8_t bytes[MOST_BYTES];
+    if (machine->size > MOST_BYTES)
+        fail(machine->name, "too much memory");
+    count = 0;
+    for (int i = 0; i < machine->beginnings; i++) {
+        memset(bytes, 0, sizeof bytes);
+        machine->begins(bytes, i);
+        first[i] = number_of(machine, bytes, 0);
+    }
+    for (int i = 0; i < count; i++) {
+        for (int n = 0; n < machine->answers; n++) {
+            memcpy(bytes, states[i].bytes, MOST_BYTES);
+            bool is_given = machine->answered(bytes, &states[i].step, n);
+            states[i].after[n] = is_given ? number_of(machine, bytes, states[i].depth + 1) : BEYOND;
+        }
+    }
+}
+
+/* ---- states that nobody can tell apart, by any steps and answers, are one */
+
+static int class_of(int state)
+{
+    return state == BEYOND ? BEYOND : states[state].class;
+}
+
+static bool are_alike(const Machine *machine, const State *one, const State *other)
+{
+    const Step *step = &one->step, *another = &other->step;
+    bool are = one->class == other->class && step->kind == another->kind && step->fault == another->fault && step->number == another->number
+        && step->has_number == another->has_number && step->seen == another->seen;
+    for (int n = 0; are && n < machine->answers; n++)
+        are = class_of(one->after[n]) == class_of(other->after[n]);
+    return are;
+}
+
+/* Splits the classes once more; gives how many there are. A class has the number of its first state among the first ones. */
+static int split(const Machine *machine)
+{
+    int classes = 0;
+    for (int i = 0; i < count; i++) {
+        int at = 0;
+        while (at < i && !are_alike(machine, &states[at], &states[i]))
+            at++;
+        states[i].next_class = at < i ? states[at].next_class : classes++;
+    }
+    for (int i = 0; i < count; i++)
+        states[i].class = states[i].next_class;
+    return classes;
+}
+
+static int merge(const Machine *machine)
+{
+    int before, classes = 1;
+    for (int i = 0; i < count; i++)
+        states[i].class = 0;
+    do {
+        before = classes;
+        classes = split(machine);
+    } while (classes != before);
+    return classes;
+}
+
+static void print_state(const Machine *machine, const State *state)
+{
+    printf("    {{%u, %u, %zu, %d}, %u, {", state->step.kind, state->step.fault, state->step.number, state->step.has_number, state->step.seen);
+    for (int n = 0; n < machine->answers; n++)
+        printf("%s%d", n > 0 ? ", " : "", class_of(state->after[n]));
+    printf("}},\n");
+}
+
+static void print(const Machine *machine)
+{
+    int first[MOST_BEGINNINGS], printed = 0;
+    explore(machine, first);
+    int classes = merge(machine);
+    printf("static const uint16_t %s_first[%d] = {", machine->name, machine->beginnings);
+    for (int i = 0; i < machine->beginnings; i++)
+        printf("%s%d", i > 0 ? ", " : "", class_of(first[i]));
+    printf("};\n/* %d states, of which nobody can tell more apart than: */\n", count);
+    printf("static const struct { DconfdbStep step; uint32_t seen; uint16_t after[%d]; } %s_states[%d] = {\n", machine->answers, machine->name, classes);
+    for (int i = 0; i < count; i++) {
+        if (states[i].class == printed) {
+            print_state(machine, &states[i]);
+            printed++;
+        }
+    }
+    printf("};\n\n");
+}
+
+/* ---- a change */
+
+static void turn_begins(void *it, int number)
+{
+    (void)number;
+    dconfdb_turn_begin(it);
+}
+
+static Step turn_steps(const void *it)
+{
+    DconfdbStep step = {0};
+    dconfdb_turn_next(it, &step);
+    const DconfdbTurn *turn = it; /* what came of it so far is read there */
+    return (Step){step.kind, step.fault, step.number, step.has_number, turn_seen(turn->outcome, turn->fault)};
+}
+
+/* Of a fault no number counts: another one leads to the same. */
+static void turn_fails(void *it, uint32_t fault)
+{
+    DconfdbTurn other = *(DconfdbTurn *)it;
+    dconfdb_turn_answered(it, fault, 0);
+    dconfdb_turn_answered(&other, fault, 3);
+    if (memcmp(it, &other, sizeof other) != 0)
+        fail("turn", "a fault's number counts");
+}
+
+static bool turn_answered(void *it, const Step *step, int number)
+{
+    size_t n = 0;
+    if (step->kind == DCONFDB_TURN_DONE)
+        return false;
+    if (number >= TURN_FAULT) {
+        turn_fails(it, number == TURN_FAULT ? 1 : DCONFDB_TURN_NOTHING);
+        return true;
+    }
+    if (!turn_number(step->kind, (unsigned)number, &n))
+        return false;
+    dconfdb_turn_answered(it, 0, n);
+    return true;
+}
+
+/* ---- a look */
+
+static void refresh_begins(void *it, int number)
+{
+    dconfdb_refresh_begin(it, (size_t)number / 8, (number & 4) != 0, (number & 2) != 0, (number & 1) != 0);
+}
+
+static Step refresh_steps(const void *it)
+{
+    DconfdbNext next = {0};
+    dconfdb_refresh_next(it, &next);
+    return (Step){next.kind, 0, next.number, false, 0};
+}
+
+static bool refresh_answered(void *it, const Step *step, int number)
+{
+    if (step->kind >= DCONFDB_LOOK_FAILED || (number >= REFRESH_REFUSED && step->kind != DCONFDB_LOOK_READ))
+        return false;
+    bool is_had = number >= REFRESH_REFUSED ? dconfdb_refresh_is_had(it, (uint32_t)number - REFRESH_REFUSED) : number == 1;
+    dconfdb_refresh_answered(it, is_had);
+    return true;
+}
+
+static const Machine machines[] = {
+    {"turn", sizeof(DconfdbTurn), 1, TURN_ANSWERS, MOST_STATES, turn_begins, turn_steps, turn_answered},
+    {"refresh", sizeof(DconfdbRefresh), REFRESH_BEGINNINGS, REFRESH_ANSWERS, MOST_STATES, refresh_begins, refresh_steps, refresh_answered},
+};
+
+/* ---- calls that keep nothing: their answers to all that is asked */
+
+static void print_making(void)
+{
+    printf("static const uint8_t making[2][2][DCONFDB_MAKING_READY][3] = {");
+    for (uint32_t i = 0; i < 4; i++) {
+        printf(i % 2 == 0 ? "%s{{" : "%s{", i > 0 ? ", " : "");
+        for (uint32_t ask = 0; ask < DCONFDB_MAKING_READY; ask++) {
+            printf("%s{", ask > 0 ? ", " : "");
+            for (uint32_t found = 0; found < 3; found++)
+                printf("%s%u", found > 0 ? ", " : "", dconfdb_making_after(i / 2 == 1, i % 2 == 1, ask, found));
+            printf("}");
+        }
+        printf(i % 2 == 1 ? "}}" : "}");
+    }
+    printf("};\n\n");
+}
+
+static void print_endings(void)
+{
+    printf("static const DconfdbEnding endings[ENDINGS] = {");
+    for (uint32_t i = 0; i < ENDINGS; i++) {
+        uint32_t outcome, fault;
+        bool is_unsettled;
+        DconfdbEnding ending = {0};
+        ending_asked(i, &outcome, &fault, &is_unsettled);
+        dconfdb_ending(outcome, fault, is_unsettled, &ending);
+        printf("%s{%u, %u, %d, %d}", i > 0 ? ", " : "", ending.newest, ending.told, ending.is_unsettled, ending.is_there);
+    }
+    printf("};\n");
+}
+
+static void print_fault_answers(void)
+{
+    printf("\nstatic const uint8_t fault_answers[CALLS][FAULT_KINDS] = {");
+    for (uint32_t call = 0; call < CALLS; call++) {
+        printf("%s{", call > 0 ? ", " : "");
+        for (uint32_t kind = 0; kind < FAULT_KINDS; kind++)
+            printf("%s%u", kind > 0 ? ", " : "", dconfdb_fault_answer(call, kind));
+        printf("}");
+    }
+    printf("};\n");
+}
+
+static void compare_bits(void)
+{
+    for (uint32_t bits = 0; bits < 65536; bits++) {
+        for (int has_group = 0; has_group < 2; has_group++) {
+            if (dconfdb_bits_for(bits, has_group) != bits_given(bits, has_group))
+                fail("bits_for", "other bits than are given");
+            if (dconfdb_lock_bits(bits, has_group) != lock_bits_given(bits, has_group))
+                fail("lock_bits", "other bits than are given");
+        }
+    }
+}
+
+int main(void)
+{
+    printf("/* Made by machines/explore of the archive of the proved calls: machines/compare says whether it is so still. */\n");
+    for (size_t i = 0; i < sizeof machines / sizeof *machines; i++)
+        print(&machines[i]);
+    print_making();
+    print_endings();
+    print_fault_answers();
+    compare_bits();
+    return 0;
+}

@@ -1,0 +1,288 @@
+/* The threads of the GSettings module, and who takes what: capi/gsettings, over libdconfdb and the lock of the folder. Each `inline` has the name of the
+ * function whose locks and answers it has; what is done under a lock is one step of it. Checked by capi/verify/run:
+ *
+ * - no deadlock: none of these waits for ever (`end` marks where the worker may rest);
+ * - a sync that says yes has written all that was set before (`assert` in store_sync);
+ * - every sync ends (ltl sync_ends), and no notice stays untold but at the program's end (ltl told);
+ * - a lock is waited for only by who has none of those that come after it in this order, which capi/verify/threads/trace asks of the C, too:
+ *
+ * order: folder listing living_lock turn refreshing lock handing
+ *
+ * A wait that has an end may end at any moment: the time is not counted. */
+
+#define FREE 255
+#define FOLDER 0
+#define LISTING 1
+#define LIVING 2
+#define TURN 3
+#define REFRESHING 4
+#define LOCK 5
+#define HANDING 6
+
+#ifndef SETS
+#define SETS 2
+#endif
+#ifndef FAULTS
+#define FAULTS 1 /* how often a write fails */
+#endif
+
+byte owner[7] = FREE;
+
+byte waiting, taken;         /* changes that wait, and that the worker has taken */
+byte added, settled;         /* as the backend counts them */
+byte written;                /* changes that the user's file has */
+byte tries, failed;          /* tries to write, and the last that failed for good; 0: none */
+byte faults;
+byte untold;                 /* notices for the worker */
+bool is_asked, waked, has_ended, is_over, gave_up, has_synced, has_exited;
+
+/* ---- locks. `mine` is what a process has, a bit for each */
+
+inline TAKE(m) { assert((mine >> m) == 0); atomic { owner[m] == FREE -> owner[m] = _pid; mine = mine | (1 << m) } }
+inline GIVE(m) { atomic { assert(owner[m] == _pid); owner[m] = FREE; mine = mine & ~(1 << m) } }
+
+/* ---- the library */
+
+inline dconfdb_store_snapshot() { TAKE(HANDING); GIVE(HANDING) }
+inline store_renew() { TAKE(HANDING); GIVE(HANDING) }
+inline dconfdb_store_refresh() { TAKE(REFRESHING); if :: store_renew() :: skip fi; GIVE(REFRESHING) }
+inline heed_others() { TAKE(REFRESHING); GIVE(REFRESHING) }
+inline settle_store() { TAKE(REFRESHING); GIVE(REFRESHING) }
+
+/* What was taken is written, or not: `ok`. */
+inline locked_change() {
+    TAKE(REFRESHING);
+    if
+    :: atomic { written = written + taken; ok = true }; store_renew()
+    :: faults < FAULTS -> atomic { faults++; ok = false }
+    fi;
+    GIVE(REFRESHING)
+}
+
+/* ---- notices */
+
+inline worker_wake() { waked = true }
+inline notice_tell() { TAKE(LOCK); GIVE(LOCK) }
+inline worker_tells() {
+    TAKE(LOCK);
+    if
+    :: !has_ended && !is_over -> untold++; worker_wake(); GIVE(LOCK)
+    :: else -> GIVE(LOCK); notice_tell()
+    fi
+}
+inline tell_untold() {
+    do
+    :: TAKE(LOCK);
+        if
+        :: untold > 0 -> untold--; GIVE(LOCK); notice_tell()
+        :: else -> GIVE(LOCK); break
+        fi
+    od
+}
+
+/* ---- a look; `turn` is held */
+
+inline is_shown() { dconfdb_store_snapshot() }
+inline hand_out() { settled = settled + done; done = 0; dconfdb_store_snapshot() }
+inline renew() { TAKE(LOCK); hand_out(); GIVE(LOCK) }
+inline look() {
+    dconfdb_store_refresh(); is_shown();
+    if
+    :: skip
+    :: renew(); if :: heed_others() :: skip fi
+    fi
+}
+inline store_look() { TAKE(TURN); look(); GIVE(TURN); notice_tell() }
+inline look_quietly() { look(); GIVE(TURN); if :: worker_tells() :: notice_tell() fi }
+inline store_peek() {
+    TAKE(LOCK); GIVE(LOCK);
+    if
+    :: atomic { owner[TURN] == FREE -> owner[TURN] = _pid; mine = mine | (1 << TURN) }; look_quietly()
+    :: owner[TURN] != FREE
+    fi
+}
+
+/* ---- a write, by the worker */
+
+inline settle_what_is_there() {
+    TAKE(LOCK); GIVE(LOCK);
+    if
+    :: TAKE(TURN); look(); TAKE(LOCK); GIVE(LOCK); GIVE(TURN)
+    :: skip
+    fi
+}
+inline turn_take() { TAKE(FOLDER); TAKE(LISTING); GIVE(LISTING) }
+inline turn_give() { TAKE(LISTING); GIVE(LISTING); GIVE(FOLDER) }
+
+/* What could not be written waits again. At the program's end it counts at once; else only if it lasts. */
+inline wait_again() {
+    TAKE(LOCK);
+    atomic {
+        waiting = waiting + taken; taken = 0;
+        if
+        :: failed = tries
+        :: !has_ended
+        fi
+    };
+    GIVE(LOCK)
+}
+inline write_in() {
+    TAKE(TURN);
+    TAKE(LOCK); atomic { taken = waiting; waiting = 0; tries++ }; GIVE(LOCK);
+    if
+    :: taken > 0 ->
+        locked_change();
+        if
+        :: ok -> done = taken; taken = 0; renew()
+        :: else -> wait_again()
+        fi
+    :: else
+    fi;
+    GIVE(TURN)
+}
+inline store_write() { settle_what_is_there(); notice_tell(); turn_take(); write_in(); turn_give(); notice_tell() }
+
+/* False: `goes` is; the program ends, and nothing waits, or a write has failed since. */
+inline takes_turn() {
+    TAKE(LOCK); is_asked = false; GIVE(LOCK);
+    tell_untold();
+    if :: store_look() :: skip fi;
+    TAKE(LOCK); now = waiting; GIVE(LOCK);
+    if :: now > 0 -> store_write() :: else fi;
+    TAKE(LOCK);
+    atomic {
+        goes = !has_ended || (waiting > 0 && failed <= last_try);
+        gave_up = gave_up || (!goes && waiting > 0)
+    };
+    GIVE(LOCK)
+}
+
+byte last_try = 255;
+
+/* The worker's thread. Where something waits again it is woken by the time. */
+proctype work()
+{
+    byte mine = 0, done = 0, now = 0;
+    bool ok = false, goes = true;
+    do
+    :: takes_turn();
+        if
+        :: !goes -> break
+        :: else
+        fi;
+end_rest:
+        if
+        :: atomic { waked -> waked = false }
+        :: waiting > 0
+        fi
+    od;
+    TAKE(LOCK); is_over = true; GIVE(LOCK)
+}
+
+/* ---- the program's threads */
+
+inline waiting_add() { atomic { waiting++; added++ } }
+inline make() { TAKE(LOCK); waiting_add(); worker_wake(); GIVE(LOCK) }
+inline ask_for_a_try() { TAKE(LOCK); atomic { before = tries; if :: failed != 0 -> is_asked = true; worker_wake() :: else fi }; GIVE(LOCK) }
+
+/* The condition lets go of `lock`, and has it again. `ok`: all is settled. */
+inline await_settled() {
+    TAKE(LOCK);
+    want = added;
+    do
+    :: settled >= want -> ok = true; break
+    :: settled < want && failed > before -> ok = false; break
+    :: settled < want && failed <= before -> GIVE(LOCK);
+        if
+        :: settled >= want || failed > before
+        :: ok = false; goto timed_out
+        fi;
+        TAKE(LOCK)
+    od;
+    GIVE(LOCK);
+timed_out: skip
+}
+inline settle() { TAKE(LOCK); GIVE(LOCK); if :: settle_store() :: skip fi }
+
+inline store_sync() {
+    ask_for_a_try();
+    await_settled();
+    if
+    :: ok ->
+        if
+        :: TAKE(TURN); look(); settle(); GIVE(TURN); notice_tell(); assert(written >= want)
+        :: skip /* mutex_lock_until(): others have it for too long */
+        fi
+    :: else
+    fi
+}
+
+proctype program()
+{
+    byte mine = 0, done = 0, before = 0, want = 0, sets = 0;
+    bool ok = false;
+    do
+    :: sets < SETS -> sets++; make()
+    :: sets > 0 -> break
+    od;
+    store_sync();
+    has_synced = true
+}
+
+proctype reader()
+{
+    byte mine = 0, done = 0;
+    store_peek()
+}
+
+/* ---- fork(), while the others go on. The child has `lock`, as who forks has it, and `turn`, anew. What is to be done before is done in the other order
+ * than it was asked for: the folder's lock asks for it at the first write, and the backend when its class is made. */
+
+inline before_fork() { TAKE(LISTING); TAKE(LIVING); TAKE(LOCK) }
+inline after_fork() { GIVE(LOCK); GIVE(LIVING); GIVE(LISTING) }
+
+proctype forks()
+{
+    byte mine = 0;
+    before_fork();
+    assert(owner[LOCK] == _pid && owner[LISTING] == _pid); /* so what both guard is whole in the child */
+    after_fork()
+}
+
+/* ---- exit(): each wait has an end, and what it can't have it does without */
+
+inline worker_end() {
+    if
+    :: TAKE(LIVING); GIVE(LIVING);
+        if
+        :: TAKE(LOCK); atomic { has_ended = true; is_asked = true; last_try = tries }; GIVE(LOCK); worker_wake();
+            if
+            :: is_over
+            :: gave_up
+            :: true /* its time is over */
+            fi
+        :: skip
+        fi
+    :: skip
+    fi
+}
+
+proctype exits()
+{
+    byte mine = 0;
+    worker_end();
+    has_exited = true
+}
+
+/* Another program has its turn. */
+proctype others()
+{
+    byte mine = 0;
+    TAKE(FOLDER);
+    GIVE(FOLDER)
+}
+
+init { atomic { run work(); run program(); run PART() } }
+
+ltl sync_ends { <> has_synced }
+ltl told { [] (untold > 0 -> <> (untold == 0 || has_ended || is_over)) }

@@ -1,0 +1,3 @@
+pub mod SameLaws
+pub mod OwnerLaws
+pub mod LockLaws

@@ -1,0 +1,4 @@
+pub mod Stamps
+pub mod Courses
+pub mod Owners
+pub mod Locks

@@ -1,0 +1,32 @@
+//! What files are, by what the host says of them: whether a file is the one that was read, by [`same_file`], whose a file is that
+//! takes another's place, by [`owner_and_bits`]; and who may take a folder's lock, by [`lock_bits`].
+//!
+//! Nothing is kept here, and nothing is asked of the host. Each call is over plain numbers.
+#![tactic(auto)]
+
+ghost use Rattle.dconf_files.specs.Courses.{SameHoldsTheSame};
+ghost use Rattle.dconf_files.specs.Locks.{WhoWritesLocks};
+ghost use Rattle.dconf_files.specs.Owners.{NobodyGains};
+
+mod lock;
+mod owner;
+mod stamp;
+
+pub use lock::lock_bits;
+pub use owner::{FileOwner, NewFile, NewOwner, OldFile, bits_for, owner_and_bits};
+pub use stamp::{FileStamp, FileTime, Sameness, same_file, sameness_number};
+
+/// A file that is said to be the one that was read holds what was read of it, on a host that notes when a file changes.
+pub fn same_holds_the_same()
+    ensures { SameHoldsTheSame }
+{}
+
+/// A new file gives nobody a right that the old one did not, but its owner; and root gives it only to whom it was read from.
+pub fn nobody_gains()
+    ensures { NobodyGains }
+{}
+
+/// Whoever may write in a folder may take its lock, and nobody else.
+pub fn who_writes_locks()
+    ensures { WhoWritesLocks }
+{}

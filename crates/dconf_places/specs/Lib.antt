@@ -1,0 +1,5 @@
+pub mod Places
+pub mod ProfileSteps
+pub mod Told
+pub mod Numbers
+pub mod PlaceLaws

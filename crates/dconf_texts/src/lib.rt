@@ -1,0 +1,15 @@
+//! What a text is that somebody wrote: as a path, by [`kind_of`].
+//!
+//! Nothing is kept here, and no call takes memory.
+#![tactic(auto)]
+
+ghost use Rattle.dconf_texts.specs.Kinds.{KindsArePaths};
+
+mod kinds;
+
+pub use kinds::{PathKind, is_short, kind_below, kind_of, number_of_kind};
+
+/// A text is the path of a key exactly if it is of a key's kind and not too long, and so is a directory's.
+pub fn kinds_are_paths()
+    ensures { KindsArePaths }
+{}

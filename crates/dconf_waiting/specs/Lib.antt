@@ -1,0 +1,5 @@
+pub mod Newest
+pub mod Fates
+pub mod Patiences
+pub mod Dues
+pub mod WaitingLaws

@@ -1,0 +1,98 @@
+//! What is seen of a key while an edit of it may wait, and which paths stand for which.
+ghost use Rattle.std.specs.Prelude.{◌≡◌, ◌≢◌, ◌↔◌, IsTrue};
+ghost use Rattle.dconf_model.specs.Locks.{covers};
+ghost use Rattle.dconf_model.specs.Paths.{is_short};
+ghost use Rattle.dconf_model.specs.Salvaging.{IsKeyText};
+ghost use Rattle.dconf_seen.specs.Covering.{meets};
+ghost use Rattle.dconf_seen.specs.Waiting.{own_by, own_number, shown_as, shown_number, word_numbered};
+ghost use Rattle.dconf_texts.specs.Kinds.{kind_below, kind_number, kind_of};
+ghost use Rattle.dconf_told.specs.Seeing.{shown_to};
+
+use dconf_seen::{covers, meets, own_number, shown_number};
+use dconf_texts::{is_short, kind_below, kind_of, number_of_kind};
+use dconf_told::{DconfdbView, are_seen_alike};
+use dconfdb_calls::Fault;
+use std::alloc::Global;
+
+/// Where what is seen of a key is found: 0 as it is stored, 1 without the user's value, 2 in the newest edit that waits of it. `waits`
+/// says whether one does, `sets` whether it sets a value, `may_write` whether the key may be written, and the others whether the edit's
+/// value is of the type that is asked for, and the one that is stored, if there is one.
+#[unsafe(no_mangle)]
+pub extern "C" fn dconfdb_shown(
+    waits: bool,
+    sets: bool,
+    may_write: bool,
+    edit_fits: bool,
+    stored_fits: bool,
+) -> u32
+    ensures { result ≡ shown_number (shown_as (word_numbered waits sets) may_write edit_fits stored_fits) }
+{
+    shown_number(waits, sets, may_write, edit_fits, stored_fits)
+}
+
+/// Where the user's own value is found, locked or not: 0 in the first database, 1 nowhere, 2 in the newest edit that waits.
+#[unsafe(no_mangle)]
+pub extern "C" fn dconfdb_own(waits: bool, sets: bool, writable: bool) -> u32
+    ensures { result ≡ own_number (own_by (word_numbered waits sets) writable) }
+{
+    own_number(waits, sets, writable)
+}
+
+/// Whether the same value is seen at a key's path before and after, or none both times, by who asks for a type; an empty text asks for
+/// any. Else the number of a fault, and `alike` stays as it was.
+#[unsafe(no_mangle)]
+pub extern "C" fn dconfdb_seen_alike(
+    alloc: Global,
+    before: &DconfdbView<'_, '_>,
+    after: &DconfdbView<'_, '_>,
+    path: &[u8],
+    type_text: &[u8],
+    alike: &mut bool,
+) -> u32
+    ensures done { result ≡ 0 → IsTrue alike.new ↔ (IsKeyText path.now → shown_to type_text.now before.now path.now ≡ shown_to type_text.now after.now path.now) }
+    ensures refused { result ≢ 0 → result ≡ 1 }
+    ensures kept { result ≢ 0 → alike.new ≡ alike.old }
+{
+    match are_seen_alike(alloc, *before, *after, path, type_text) {
+        Ok(are) => {
+            *alike = are;
+            0
+        }
+        Err(_) => Fault::Memory.number(),
+    }
+}
+
+/// Whether a path covers another: it is the same, or a directory above it. So a lock covers what it locks.
+#[unsafe(no_mangle)]
+pub extern "C" fn dconfdb_covers(path: &[u8], other: &[u8]) -> bool
+    ensures { result ≡ covers path.now other.now }
+{
+    covers(path, other)
+}
+
+/// Whether one of two paths covers the other.
+#[unsafe(no_mangle)]
+pub extern "C" fn dconfdb_meets(one: &[u8], other: &[u8]) -> bool
+    ensures { result ≡ meets one.now other.now }
+{
+    meets(one, other)
+}
+
+/// What a text is as a path, however long it is: 0 a key's, 1 a directory's, 2 it doesn't start with `/`, 3 it has a zero byte, 4 it has
+/// `//`. `short` says whether it is no longer than a path may be.
+#[unsafe(no_mangle)]
+pub extern "C" fn dconfdb_path_kind(text: &[u8], short: &mut bool) -> u32
+    ensures kind { result ≡ kind_number (kind_of text.now) }
+    ensures short { short.new ≡ is_short text.now }
+{
+    *short = is_short(text);
+    number_of_kind(kind_of(text))
+}
+
+/// What a text is as what follows the slash of a directory: the same numbers, and 5 if it starts with `/`.
+#[unsafe(no_mangle)]
+pub extern "C" fn dconfdb_relative_kind(text: &[u8]) -> u32
+    ensures { result ≡ kind_number (kind_below text.now) }
+{
+    number_of_kind(kind_below(text))
+}

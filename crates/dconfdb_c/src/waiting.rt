@@ -1,0 +1,125 @@
+//! Changes that wait to be written: which edit of a key is the newest, what becomes of each change, and how
+//! long it is waited for.
+ghost use Rattle.std.specs.Prelude.{◌≡◌, ◌≤◌, ◌<◌, ◌+◌, ◌⊎◌, ◌↔◌, IsTrue, false};
+ghost use Rattle.dconf_waiting.specs.Newest.{IsPut, found};
+ghost use Rattle.dconf_waiting.specs.Fates.{fate_number, fate_of, is_overtaken};
+ghost use Rattle.dconf_waiting.specs.Patiences.{IsRenewed, longest, patience_from};
+
+use dconf_waiting::{
+    Patience, Progress, WaitingEdit, fate_number, found, is_lasting, is_overtaken, put,
+    writer_goes_on,
+};
+
+/// The number of the newest edit of a key; 0 if none waits.
+#[unsafe(no_mangle)]
+pub extern "C" fn dconfdb_newest_found(newest: &[usize], key: usize) -> usize
+    ensures { result ≡ found newest.now key }
+{
+    found(newest, key)
+}
+
+/// Puts an edit as the newest of its key, and gives the number of the one that was it before, or 0.
+#[unsafe(no_mangle)]
+pub extern "C" fn dconfdb_newest_put(newest: &mut [usize], key: usize, number: usize) -> usize
+    ensures { IsPut newest.old key number newest.new result }
+{
+    put(newest, key, number)
+}
+
+/// Whether an edit's change needs no write, beside the newest edit of its key, by their numbers: both are
+/// alone in their changes.
+#[unsafe(no_mangle)]
+pub extern "C" fn dconfdb_waiting_is_overtaken(
+    number: usize,
+    is_alone: bool,
+    newest: usize,
+    newest_is_alone: bool,
+) -> bool
+    ensures { IsTrue result ↔ (IsTrue is_alone × IsTrue newest_is_alone × (number < newest)) }
+{
+    let newest = WaitingEdit {
+        number: newest,
+        is_alone: newest_is_alone,
+    };
+    is_overtaken(WaitingEdit { number, is_alone }, newest)
+}
+
+/// What becomes of a change when it was tried to write all that waits: 0 it waits, 1 it is written,
+/// 2 refused, 3 overtaken.
+#[unsafe(no_mangle)]
+pub extern "C" fn dconfdb_waiting_fate(
+    is_written: bool,
+    is_refused: bool,
+    is_overtaken: bool,
+) -> u32
+    ensures { result ≡ fate_number (fate_of is_written is_refused is_overtaken) }
+{
+    fate_number(is_written, is_refused, is_overtaken)
+}
+
+/// How long it is waited, from now on: so long, and as long again after each turn of another program,
+/// up to a minute.
+#[unsafe(no_mangle)]
+pub extern "C" fn dconfdb_patience_begin(patience: &mut Patience, now: u64, each: u64)
+    ensures { patience.new ≡ patience_from now each }
+{
+    *patience = Patience::begin(now, each);
+}
+
+/// Another program had a turn.
+#[unsafe(no_mangle)]
+pub extern "C" fn dconfdb_patience_renew(patience: &mut Patience, now: u64)
+    ensures { IsRenewed patience.old now patience.new }
+{
+    patience.renew(now);
+}
+
+/// Whether it is waited on: fewer changes are settled than there were when the wait began, no later try
+/// than those of then has failed by a fault that lasts, and the time isn't over.
+#[unsafe(no_mangle)]
+pub extern "C" fn dconfdb_patience_goes_on(
+    patience: &Patience,
+    settled: u64,
+    added: u64,
+    failed: u64,
+    tries: u64,
+    now: u64,
+) -> bool
+    ensures { IsTrue result ↔ ((settled < added) × (failed ≤ tries) × (now < patience.now.end)) }
+{
+    let progress = Progress {
+        settled,
+        added,
+        failed,
+        tries,
+    };
+    patience.goes_on(progress, now)
+}
+
+/// Whether who writes what waits goes on: the program doesn't end, or something waits, and no later try
+/// than those has failed by a fault that lasts.
+#[unsafe(no_mangle)]
+pub extern "C" fn dconfdb_writer_goes_on(ends: bool, waits: bool, failed: u64, tries: u64) -> bool
+    ensures { IsTrue result ↔ ((ends ≡ false) ⊎ (IsTrue waits × (failed ≤ tries))) }
+{
+    let progress = Progress {
+        settled: 0,
+        added: 0,
+        failed,
+        tries,
+    };
+    writer_goes_on(ends, waits, progress)
+}
+
+/// Whether a fault lasts, by which nothing could be written since that moment.
+#[unsafe(no_mangle)]
+pub extern "C" fn dconfdb_fault_is_lasting(
+    is_momentary: bool,
+    tries_again: bool,
+    since: u64,
+    now: u64,
+) -> bool
+    ensures { IsTrue result ↔ ((tries_again ≡ false) ⊎ (since + longest is_momentary ≤ now)) }
+{
+    is_lasting(is_momentary, tries_again, since, now)
+}
