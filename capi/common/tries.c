@@ -50,7 +50,7 @@ int try_for(uint32_t milliseconds, bool has_end, Tries *tries, void *it)
     if (clock_gettime(CLOCK_MONOTONIC, &began) != 0)
         return errno;
     dconfdb_wait_begin(&wait, has_end ? milliseconds : UINT32_MAX);
-    for (;;) {
+    for (;; dconfdb_wait_answered(&wait, answer, passed, (uint32_t)fault)) {
         dconfdb_wait_next(&wait, &next);
         switch (next.kind) {
         case DCONFDB_WAIT_TRY:
@@ -67,6 +67,5 @@ int try_for(uint32_t milliseconds, bool has_end, Tries *tries, void *it)
         default:
             return (int)next.number;
         }
-        dconfdb_wait_answered(&wait, answer, passed, (uint32_t)fault);
     }
 }
