@@ -4,6 +4,7 @@
 #   needs TOOL PACKAGE     exits with 77 if there is no such tool, and names Debian's package
 #   finds_program          sets $DCONFDB: the program that the variable names, else this repository's, which is built first
 #   fail WORDS..           reports a failure, and goes on
+#   until_held FILE        waits until another program has the lock of a file
 #   $WERROR        an error of each warning, of what capi/build compiles
 #   verdict WORDS..        prints the last line; exits with 0, or with 1 if something failed
 set -u
@@ -30,6 +31,14 @@ finds_program() {
     fi
     DCONFDB=$(realpath "$DCONFDB")
     export DCONFDB
+}
+until_held() {
+    local tries
+    for ((tries = 0; tries < 600; tries++)); do
+        flock -n "$1" true || return 0
+        sleep 0.1
+    done
+    fail "nobody has the lock of $1"
 }
 verdict() {
     [ "$failed" = 0 ] || set -- "$@; SOME FAILED"

@@ -12,35 +12,53 @@ enum { PAUSE = 200000 };
 
 enum { MILLISECOND = 1000000, SECOND = 1000 };
 
-/* The milliseconds since the wait began. */
-static uint64_t passed(const struct timespec *began)
+/* A pause counts no more milliseconds than these, however long it took: the machine stood still, or had others to serve, and whoever
+ * is waited for had no more time than this program. */
+enum { LONGEST_PAUSE = 50 };
+
+/* The nanoseconds since then. */
+static uint64_t passed_since(const struct timespec *began)
 {
     struct timespec now;
     if (clock_gettime(CLOCK_MONOTONIC, &now) != 0)
         return UINT64_MAX;
-    int64_t nanoseconds = (int64_t)(now.tv_sec - began->tv_sec) * SECOND * MILLISECOND + (now.tv_nsec - began->tv_nsec);
-    return (uint64_t)(nanoseconds / MILLISECOND);
+    return (uint64_t)((int64_t)(now.tv_sec - began->tv_sec) * SECOND * MILLISECOND + (now.tv_nsec - began->tv_nsec));
 }
 
-int try_for(uint32_t milliseconds, bool has_end, Tries *tries, void *it)
+/* Pauses, and gives the nanoseconds of it that don't count. */
+static uint64_t take_pause(void)
 {
     static const struct timespec pause = {0, PAUSE};
+    static const uint64_t longest = (uint64_t)LONGEST_PAUSE * MILLISECOND;
+    struct timespec began;
+    if (clock_gettime(CLOCK_MONOTONIC, &began) != 0)
+        return 0;
+    nanosleep(&pause, NULL);
+    uint64_t took = passed_since(&began);
+    return took > longest ? took - longest : 0;
+}
+
+/* The time of a try is that at which it began: so the last one begins when all the time is over. */
+int try_for(uint32_t milliseconds, bool has_end, Tries *tries, void *it)
+{
     struct timespec began;
     DconfdbWait wait = {0};
     DconfdbNext next = {0, 0};
+    uint64_t passed = 0, uncounted = 0;
     uint32_t answer = DCONFDB_WAIT_GOT;
     int fault = 0;
     if (clock_gettime(CLOCK_MONOTONIC, &began) != 0)
         return errno;
     dconfdb_wait_begin(&wait, has_end ? milliseconds : UINT32_MAX);
-    for (;;) {
+    for (;; dconfdb_wait_answered(&wait, answer, passed, (uint32_t)fault)) {
         dconfdb_wait_next(&wait, &next);
         switch (next.kind) {
         case DCONFDB_WAIT_TRY:
+            passed = has_end ? (passed_since(&began) - uncounted) / MILLISECOND : 0;
             answer = tries(it, &fault);
             break;
         case DCONFDB_WAIT_PAUSE:
-            nanosleep(&pause, NULL);
+            uncounted += take_pause();
             break;
         case DCONFDB_WAIT_HAD:
             return 0;
@@ -49,6 +67,5 @@ int try_for(uint32_t milliseconds, bool has_end, Tries *tries, void *it)
         default:
             return (int)next.number;
         }
-        dconfdb_wait_answered(&wait, answer, answer == DCONFDB_WAIT_GOT || !has_end ? 0 : passed(&began), (uint32_t)fault);
     }
 }

@@ -1,6 +1,6 @@
 /* Forks amid a change: forks FOLDER WHEN. It tells the numbers of its children, which live on, and is killed while it holds the lock. WHEN is
  * `written`, as the new file is; `opened`, once the lock's file is open, and not known yet to who opens it; or `often`, 60 times, while four
- * threads make changes. With `slow` it takes three seconds to open the lock's file, and says how many milliseconds a fork() took
+ * threads make changes. With `slow` it takes five seconds to open the lock's file, and says how many milliseconds a fork() took
  * meanwhile. It is linked with --wrap of fsync and openat64. */
 #define _GNU_SOURCE
 #define _FILE_OFFSET_BITS 64
@@ -63,7 +63,7 @@ int __wrap_openat64(int above, const char *name, int flags, ...)
     bool is_lock = strcmp(name, ".lock") == 0;
     if (is_lock && is("slow")) {
         atomic_store(&is_opening, true);
-        sleep(3);
+        sleep(5);
     }
     int file = __real_openat64(above, name, flags, mode);
     if (is_lock && file >= 0 && is("opened") && !atomic_exchange(&is_opening, true))

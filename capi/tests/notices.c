@@ -1,10 +1,11 @@
 /* Tries what tells of changes: notices FOLDER, as calls.c has it. inotify_init1, epoll_create1 and timerfd_create are
- * wrapped: each can be had, or not. So is timerfd_settime, which succeeds so many times; and fsync, which may take a second. */
+ * wrapped: each can be had, or not. So is timerfd_settime, which succeeds so many times; and fsync, which may be held. */
 #include "try.h"
 
 #include <errno.h>
 #include <poll.h>
 #include <pthread.h>
+#include <stdatomic.h>
 #include <sys/inotify.h>
 #include <sys/stat.h>
 #include <sys/timerfd.h>
@@ -24,7 +25,7 @@ int __real_fsync(int file);
 int __wrap_fsync(int file);
 
 static DconfdbError error = DCONFDB_ERROR_INIT;
-static bool is_slow;
+static atomic_bool is_held, has_reached, has_given_up; /* fsync */
 static bool has_inotify = true, has_epoll = true, has_clock = true;
 static size_t sets = SIZE_MAX;
 
@@ -57,14 +58,26 @@ int __wrap_timerfd_settime(int file, int flags, const struct itimerspec *next, s
     return __real_timerfd_settime(file, flags, next, last);
 }
 
+/* A held one gives up after ten seconds of this program's own. */
 int __wrap_fsync(int file)
 {
-    if (is_slow)
-        sleep(1);
+    enum { LONGEST_HELD = 10000 };
+    has_reached = has_reached || is_held;
+    for (int i = 0; i < LONGEST_HELD && is_held; i++)
+        usleep(1000);
+    has_given_up = has_given_up || is_held;
     return __real_fsync(file);
 }
 
-enum { SOON = 3000, QUIET = 100 };
+/* In milliseconds. What is to be soon may take long where the machine stands still; what is not to be yet is told by the clock. */
+enum { SOON = 60000, QUIET = 100 };
+
+static long milliseconds(void)
+{
+    struct timespec now;
+    TRY(clock_gettime(CLOCK_MONOTONIC, &now) == 0);
+    return now.tv_sec * 1000 + now.tv_nsec / 1000000;
+}
 
 /* Whether the file is readable within so many milliseconds. */
 static bool is_readable(int file, int wait)
@@ -216,6 +229,14 @@ static void tries_bits(void)
     dconfdb_store_close(store);
 }
 
+/* Tells nothing, since it fails; and after how many milliseconds it is to be tried again. */
+static long fails_for(DconfdbStore *store)
+{
+    long began = milliseconds();
+    TRY(!dconfdb_store_dispatch(store, NULL, NULL) && is_readable(dconfdb_store_fd(store, &error), SOON));
+    return milliseconds() - began;
+}
+
 /* A file that is bad for a while: the call fails, and is tried again, soon at first, and then each second. */
 static void tries_bad_files(void)
 {
@@ -232,11 +253,11 @@ static void tries_bad_files(void)
         paths = dconfdb_store_dispatch(store, &size, &error);
     }
     TRY(size == 77 && error.code == DCONFDB_ERROR_BAD_SIGNATURE && error.database == 1);
-    TRY(is_readable(dconfdb_store_fd(store, &error), 500) && !dconfdb_store_dispatch(store, NULL, NULL));
-    TRY(!is_readable(dconfdb_store_fd(store, &error), 10));
+    TRY(is_readable(dconfdb_store_fd(store, &error), 500));
+    TRY(fails_for(store) >= 10);
     for (int i = 0; i < 8; i++)
-        TRY(is_readable(dconfdb_store_fd(store, &error), SOON) && !dconfdb_store_dispatch(store, NULL, NULL));
-    TRY(!is_readable(dconfdb_store_fd(store, &error), 500) && is_readable(dconfdb_store_fd(store, &error), SOON));
+        TRY(!dconfdb_store_dispatch(store, NULL, NULL) && is_readable(dconfdb_store_fd(store, &error), SOON));
+    TRY(fails_for(store) >= 500);
     TRY(rename("next.db", "site.db") == 0);
     do {
         free(paths);
@@ -262,11 +283,12 @@ static void tries_faults(void)
     has_clock = true;
     has_inotify = false;
     int file = dconfdb_store_fd(store, &error);
+    TRY(file >= 0 && is_readable(file, SOON));
     for (int i = 0; i < 2; i++) {
         size_t size = 77;
-        TRY(file >= 0 && is_readable(file, SOON));
+        long began = milliseconds();
         char *paths = dconfdb_store_dispatch(store, &size, &error);
-        TRY(paths && size == 0 && !is_readable(file, QUIET));
+        TRY(paths && size == 0 && is_readable(file, SOON) && milliseconds() - began >= QUIET);
         free(paths);
     }
     TRY(changes(store, sets_text("/k", "1")) && IS_TOLD(store, "/k\0"));
@@ -308,29 +330,22 @@ static void *changes_slowly(void *store)
     return NULL;
 }
 
-static long milliseconds(void)
-{
-    struct timespec now;
-    TRY(clock_gettime(CLOCK_MONOTONIC, &now) == 0);
-    return now.tv_sec * 1000 + now.tv_nsec / 1000000;
-}
-
 /* While another thread changes the store no call waits for the disk; and then all is told. */
 static void tries_amid_change(void)
 {
     pthread_t thread;
     DconfdbStore *store = dconfdb_store_open(".", &error);
     TRY(store && dconfdb_store_fd(store, &error) >= 0 && is_quiet(store));
-    is_slow = true;
+    is_held = true;
     TRY(pthread_create(&thread, NULL, changes_slowly, store) == 0);
-    TRY(usleep(300000) == 0);
-    long began = milliseconds();
+    while (!has_reached)
+        usleep(1000);
     size_t size = 77;
     char *paths = dconfdb_store_dispatch(store, &size, &error);
-    TRY(paths && size == 0 && milliseconds() - began < 300);
+    TRY(paths && size == 0 && !has_given_up);
     free(paths);
+    is_held = false;
     TRY(IS_TOLD(store, "/slow\0") && pthread_join(thread, NULL) == 0);
-    is_slow = false;
     TRY(is_quiet(store) && changes(store, (DconfdbEdit){"/", NULL, NULL, 0}));
     dconfdb_store_close(store);
 }

@@ -137,26 +137,35 @@ static void tries_changes(DconfdbStore *store, void (*puts_there)(const Held *),
     TRY(found == ROUNDS);
 }
 
-/* Once the file is old enough it is read once more, if it wasn't when it was read last, and then no more. */
-static void tries_rest(DconfdbStore *store, bool is_read)
+/* Once the file is old enough it is read once more, if it wasn't when it was read last, and then no more. Whether it was. */
+static bool is_read_once(DconfdbStore *store)
 {
     const struct timespec ticks = {0, 5 * TICK};
+    bool is_read = false;
     for (int i = 0; i < 3; i++) {
         nanosleep(&ticks, NULL);
         reads = 0;
         TRY(dconfdb_store_refresh(store, NULL, &error));
-        TRY(reads <= (i == 0) && reads >= (i == 0 && is_read));
+        TRY(reads <= (i == 0));
+        is_read = is_read || reads > 0;
     }
+    return is_read;
 }
 
-/* A store's own new file is read once. */
+/* A store's own new file is read once, unless the machine stood still for a tick while it was made. */
 static void tries_own(DconfdbStore *store)
 {
-    DconfdbEdit edit = sets_text("/k", "own");
-    bool changed = true;
-    TRY(dconfdb_store_change(store, NULL, &edit, 1, &error));
-    tries_rest(store, true);
-    TRY(dconfdb_store_refresh(store, &changed, &error) && !changed);
+    bool is_read = false;
+    for (int i = 0; i < ROUNDS && !is_read; i++) {
+        char text[16];
+        snprintf(text, sizeof text, "own %d", i);
+        DconfdbEdit edit = sets_text("/k", text);
+        bool changed = true;
+        TRY(dconfdb_store_change(store, NULL, &edit, 1, &error));
+        is_read = is_read_once(store);
+        TRY(dconfdb_store_refresh(store, &changed, &error) && !changed);
+    }
+    TRY(is_read);
 }
 
 int main(int argc, char **argv)
@@ -168,7 +177,7 @@ int main(int argc, char **argv)
     TRY(one.len == two.len && memcmp(one.bytes, two.bytes, one.len) != 0);
     tries_changes(store, writes_over, &one, &two);
     tries_changes(store, replaces, &one, &two);
-    tries_rest(store, false);
+    is_read_once(store);
     tries_own(store);
     dconfdb_store_close(store);
     dconfdb_store_close(other);
