@@ -9,9 +9,13 @@ void (*at_next_answer)(uint32_t answer, size_t at);
 
 /* ---- changes that wait. The edits are of the machine's memory, and are there from the first step on */
 
+static uint16_t queue_state;
+static bool is_queue_known;
+
 void dconfdb_queue_begin(DconfdbQueue *queue)
 {
     *queue = (DconfdbQueue){.stage = BEYOND};
+    is_queue_known = false;
 }
 
 static uint16_t queue_first_of(const DconfdbQueued *edits, size_t count)
@@ -28,14 +32,14 @@ static uint16_t queue_first_of(const DconfdbQueued *edits, size_t count)
     return queue_first[0];
 }
 
-static uint16_t queue_state;
-
 void dconfdb_queue_next(const DconfdbQueue *queue, const DconfdbQueued *edits, size_t count, DconfdbNext *step)
 {
     GIVEN(count <= QUEUE_EDITS);
     CHECK(count == 0 || __CPROVER_r_ok(edits, count * sizeof *edits), "memory: edits that are there");
-    if (queue->stage == BEYOND)
+    CHECK(__CPROVER_r_ok(queue, sizeof *queue), "memory: a queue");
+    if (!is_queue_known)
         queue_state = queue_first_of(edits, count);
+    is_queue_known = true;
     *step = (DconfdbNext){queue_states[queue_state].step.kind, queue_states[queue_state].step.number};
     if (at_next)
         at_next(step);
