@@ -380,7 +380,7 @@ void store_renew(DconfdbStore *at, DconfdbSnapshot *newer)
     store.now = newer;
 }
 
-/* harness change_end: unwind 8, with machines.c */
+/* harness change_end: unwind 8, with machines.c, quick */
 int change_end(void)
 {
     static DconfdbError error;

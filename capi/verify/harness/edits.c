@@ -62,7 +62,7 @@ bool refuse_call(DconfdbError *error, uint32_t number, const char *name, Place p
     return false;
 }
 
-/* harness edits_make: unwind 5 */
+/* harness edits_make: unwind 5, quick */
 int edits_make(void)
 {
     static uint8_t paths[2][2] = {"a", "b"};
