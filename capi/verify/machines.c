@@ -6,13 +6,6 @@
 void (*at_step)(const DconfdbStep *step);
 void (*at_answer)(uint32_t fault, size_t n);
 
-/* What is beyond the bounds isn't looked at. A machine's memory is the number of its state. */
-static uint16_t within(uint16_t state)
-{
-    GIVEN(state != BEYOND);
-    return state;
-}
-
 /* ---- a change */
 
 size_t some_number(uint32_t kind)

@@ -180,9 +180,33 @@ static uint32_t make_bytes(Changing *at)
     return has_bytes_read ? DCONFDB_FOUND_YES : DCONFDB_FOUND_FAULT;
 }
 
+/* harness changing_open: unwind 6, quick */
+int changing_open(void)
+{
+    set_up();
+    has_bytes_read = true;
+    edited.file = (FileBytes){some_bytes, sizeof some_bytes, false};
+    uint32_t answer = real_open_new(&it);
+    bool is = answer == DCONFDB_FOUND_YES;
+    CHECK(is || (answer == DCONFDB_FOUND_FAULT && refused > 0), "answer: it is opened, or what failed is told");
+    CHECK(!has_bytes_read && edited.file.at == NULL, "memory: the bytes are the new part's");
+    CHECK(is == (edited.newer != NULL) && has_newer == is, "answer: a newer snapshot is there exactly if that is said");
+    CHECK(it.answer == sizeof some_bytes, "answer: as many bytes as are to be written");
+    for (size_t i = 0; !is && i < FILES; i++)
+        CHECK(old_parts[i].references == 1 && (i >= made || new_parts[i].references == 0), "memory: a fault leaves nobody more");
+    if (is) {
+        CHECK(it.new == &new_parts[0] && newer_list[0] == it.new && newer_list[0]->references == 1, "step: the new file's part is the first");
+        CHECK((it.new->fault != NULL) == (old_parts[0].fault && !faults[0].aside), "answer: what was wrong with the old file is kept");
+        CHECK(store.count < 2 || (newer_list[1] == &old_parts[1] && old_parts[1].references == 2), "step: the others are as they were, had once more");
+    }
+    if (is && it.new->fault && store.count == 2)
+        REACHED("a bad file's successor");
+    return 0;
+}
+
 static bool is_opened;
 
-/* It is not gone through itself. */
+/* As changing_open has it. */
 static uint32_t open_new(Changing *at)
 {
     CHECK(at->edited->lock, "step: where no file is to be made none is opened");
@@ -356,7 +380,7 @@ void store_renew(DconfdbStore *at, DconfdbSnapshot *newer)
     store.now = newer;
 }
 
-/* harness change_end: unwind 8, with machines.c */
+/* harness change_end: unwind 8, with machines.c, quick */
 int change_end(void)
 {
     static DconfdbError error;

@@ -49,7 +49,7 @@ static int make_theirs(int above, const struct stat *found, const char *name)
 
 /* ---- what is checked */
 
-/* harness folder_open: unwind 5 */
+/* harness folder_open: unwind 5, quick */
 int folder_open_(void)
 {
     int opened = -1;
@@ -65,7 +65,7 @@ int folder_open_(void)
     return 0;
 }
 
-/* harness folder_make: unwind 5 */
+/* harness folder_make: unwind 5, quick */
 int folder_make_(void)
 {
     int fault = folder_make("/a/b");
@@ -95,7 +95,7 @@ int folder_walk(void)
     return 0;
 }
 
-/* harness folder_follow: unwind 4 */
+/* harness folder_follow: unwind 4, quick */
 int folder_follow(void)
 {
     Way way = {any_bool(), any_int()};
@@ -112,7 +112,7 @@ int folder_follow(void)
     return 0;
 }
 
-/* harness folder_make_one: unwind 4 */
+/* harness folder_make_one: unwind 4, quick */
 int folder_make_one(void)
 {
     int above = some_file();
@@ -126,7 +126,7 @@ int folder_make_one(void)
     return 0;
 }
 
-/* harness folder_theirs: unwind 5 */
+/* harness folder_theirs: unwind 5, quick */
 int folder_theirs(void)
 {
     struct stat found;

@@ -48,7 +48,7 @@ bool refuse_memory(DconfdbError *error)
     return false;
 }
 
-/* harness iterator: unwind 7 */
+/* harness iterator: unwind 7, quick */
 int iterator(void)
 {
     const char *path = NULL;

@@ -163,7 +163,7 @@ static int locks_and_unlocks(void)
     return 0;
 }
 
-/* harness lock_once: unwind 5, with machines.c */
+/* harness lock_once: unwind 5, with machines.c, quick */
 int lock_once(void)
 {
     return locks_and_unlocks();

@@ -16,12 +16,14 @@ static unsigned refused;               /* how many faults were told */
 
 /* ---- bytes: they are read, and then a part's, or released */
 
+#ifndef RELEASES
 void file_release(FileBytes *bytes)
 {
     CHECK(bytes->at == NULL || has_bytes_read, "memory: what is released was read, and is nobody's yet");
     has_bytes_read = has_bytes_read && bytes->at == NULL;
     *bytes = (FileBytes){NULL, 0, false};
 }
+#endif
 
 static Part *some_part(const FileBytes *bytes)
 {

@@ -1,5 +1,5 @@
-/* libdconfdb/refresh.c: each step of a look at up to two files, and what a refresh makes of a look. The loop of a look is not gone through. Parts,
- * snapshots and files are counted here: harness/files.c has the files. */
+/* libdconfdb/refresh.c: each step of a look at up to two files, the loop of a look, and what a refresh makes of it. Parts, snapshots and files are
+ * counted here: harness/files.c has the files. */
 #define MOST_DATABASES 2
 #define FEW_DATABASES 2
 #include "libdconfdb/refresh.c"
@@ -223,6 +223,36 @@ int look_compare(void)
     bool said = real_is_as_said(&look, &old_parts[0], 0);
     if (is && said)
         REACHED("it is as it was");
+    return 0;
+}
+
+/* The loop, with steps as those above have it. */
+/* harness look_loop: unwind 4, loops real_files_look.0:12, with machines.c, sliced */
+int look_loop(void)
+{
+    DconfdbSnapshot *newer = NULL;
+    set_up_store();
+    unsigned before = old_parts[0].references + old_parts[1].references;
+    uint32_t end = real_files_look(&store, store.user_file && store.now && any_bool() ? TURN : NO_FOLDER, &newer, NULL);
+    CHECK(!has_bytes_read, "memory: what was read is a part's, or released");
+    CHECK(end == DCONFDB_LOOK_FAILED || end == DCONFDB_LOOK_SAME || end == DCONFDB_LOOK_NEWER, "answer: how a look ends");
+    CHECK((newer != NULL) == (end == DCONFDB_LOOK_NEWER), "answer: a newer snapshot is there exactly if that is said");
+    CHECK(has_newer == (newer != NULL), "memory: the newer snapshot is handed out, or given back");
+    CHECK(end != DCONFDB_LOOK_FAILED || refused > 0, "answer: what failed is told");
+    CHECK(end != DCONFDB_LOOK_SAME || store.now, "answer: nothing is the same as no snapshot");
+    if (!newer) {
+        CHECK(old_parts[0].references + old_parts[1].references == before, "memory: no old part is had once more");
+        for (unsigned i = 0; i < FILES; i++)
+            CHECK(i >= made || new_parts[i].references == 0, "memory: each new part is given back");
+        return 0;
+    }
+    CHECK(newer->count == store.count, "answer: it has each file");
+    for (size_t i = 0; i < FILES; i++) {
+        if (i < store.count)
+            CHECK(newer_list[i] && (newer_list[i] == &old_parts[i] || newer_list[i] == &new_parts[0] || newer_list[i] == &new_parts[1]), "answer: each file's part, old or new");
+    }
+    if (store.now && store.count == 2 && newer_list[0] == &old_parts[0] && newer_list[1] != &old_parts[1])
+        REACHED("one file is another");
     return 0;
 }
 

@@ -60,6 +60,55 @@ static inline uint32_t lock_bits_given(uint32_t folder, bool has_group)
 /* Of a look at 0 to 2 files: no, yes, and a fault of each kind. */
 enum { REFRESH_BEGINNINGS = 24, REFRESH_REFUSED = 2, REFRESH_ANSWERS = REFRESH_REFUSED + FAULT_KINDS };
 
+/* Changes that wait, of up to two edits, the second of which is of the first one's change or of one of its own, and each of which may be left out or reset. */
+enum { QUEUE_EDITS = 2, QUEUE_BEGINNINGS = 37 };
+
+/* What the number of a beginning is of: of no edit 0, of one 1 to 4, and of two the others. */
+static inline size_t queue_edits(uint32_t number, DconfdbQueued edits[QUEUE_EDITS])
+{
+    size_t count = number == 0 ? 0 : number < 5 ? 1 : 2;
+    uint32_t bits = number - (count == 1 ? 1 : 5);
+    for (size_t i = 0; i < count; i++) {
+        edits[i].change = i == 1 && (bits & 16) != 0;
+        edits[i].sets = (bits >> (2 * i) & 1) != 0;
+        edits[i].is_left_out = (bits >> (2 * i + 1) & 1) != 0;
+        edits[i].is_refused = false;
+    }
+    return count;
+}
+
+/* What became of them, a bit for each, and back. */
+static inline uint32_t queue_seen(const DconfdbQueued *edits, size_t count)
+{
+    uint32_t seen = 0;
+    for (size_t i = 0; i < count; i++)
+        seen |= (uint32_t)(edits[i].is_left_out | edits[i].is_refused << 1) << 2 * i;
+    return seen;
+}
+
+static inline void queue_marked(uint32_t seen, DconfdbQueued *edits, size_t count)
+{
+    for (size_t i = 0; i < count; i++) {
+        edits[i].is_left_out = (seen >> 2 * i & 1) != 0;
+        edits[i].is_refused = (seen >> (2 * i + 1) & 1) != 0;
+    }
+}
+
+/* Its answers: yes, locked, later, and a fault of each edit, or of none. */
+enum { QUEUE_YES, QUEUE_LOCKED, QUEUE_LATER, QUEUE_FAULT, QUEUE_ANSWERS = QUEUE_FAULT + QUEUE_EDITS + 1 };
+
+static inline uint32_t queue_answer(uint32_t answer, size_t at)
+{
+    return answer == DCONFDB_QUEUE_YES ? QUEUE_YES : answer == DCONFDB_QUEUE_LOCKED ? QUEUE_LOCKED : answer == DCONFDB_QUEUE_LATER ? QUEUE_LATER
+        : QUEUE_FAULT + (uint32_t)at;
+}
+
+/* A wait of 0 or 2 milliseconds, or one without end; of so many that have passed, or of a clock that fails. */
+enum { WAIT_BEGINNINGS = 3, WAIT_TIMES = 4, WAIT_TAKEN = 0, WAIT_MOVED = WAIT_TIMES, WAIT_GOT = 2 * WAIT_TIMES, WAIT_FAILED, WAIT_ANSWERS };
+
+static const uint32_t wait_longest[WAIT_BEGINNINGS] = {0, 2, UINT32_MAX};
+static const uint64_t wait_passed[WAIT_TIMES] = {0, 1, 2, UINT64_MAX};
+
 /* After an answer that isn't given there, or beyond the bounds. */
 enum { BEYOND = 65535 };
 

@@ -216,9 +216,105 @@ static bool refresh_answered(void *it, const Step *step, int number)
     return true;
 }
 
+/* ---- changes that wait: the machine marks them, so they are of its memory */
+
+typedef struct {
+    DconfdbQueue queue;
+    size_t count;
+    DconfdbQueued edits[QUEUE_EDITS];
+} Waiting;
+
+static void queue_begins(void *it, int number)
+{
+    Waiting *waiting = it;
+    waiting->count = queue_edits((uint32_t)number, waiting->edits);
+    dconfdb_queue_begin(&waiting->queue);
+}
+
+static Step queue_steps(const void *it)
+{
+    const Waiting *waiting = it;
+    DconfdbNext next = {0};
+    dconfdb_queue_next(&waiting->queue, waiting->edits, waiting->count, &next);
+    return (Step){next.kind, 0, next.number, false, queue_seen(waiting->edits, waiting->count)};
+}
+
+static void queue_takes(Waiting *it, uint32_t answer, size_t at)
+{
+    dconfdb_queue_answered(&it->queue, it->edits, it->count, answer, at);
+}
+
+/* Where the fault is of no edit, none counts: another one leads to the same. */
+static void queue_takes_any(Waiting *it, uint32_t answer)
+{
+    Waiting other = *it;
+    queue_takes(it, answer, 0);
+    queue_takes(&other, answer, 1);
+    if (memcmp(it, &other, sizeof other) != 0)
+        fail("queue", "the place of what is no fault counts");
+}
+
+static bool queue_answered(void *it, const Step *step, int number)
+{
+    static const uint32_t answers[QUEUE_FAULT] = {DCONFDB_QUEUE_YES, DCONFDB_QUEUE_LOCKED, DCONFDB_QUEUE_LATER};
+    int given = step->kind == DCONFDB_QUEUE_WRITE ? QUEUE_ANSWERS : step->kind == DCONFDB_QUEUE_ASK ? 2 : step->kind < DCONFDB_QUEUE_WRITE;
+    if (number >= given)
+        return false;
+    if (number >= QUEUE_FAULT)
+        queue_takes(it, DCONFDB_QUEUE_FAULT, (size_t)number - QUEUE_FAULT);
+    else
+        queue_takes_any(it, answers[number]);
+    return true;
+}
+
+/* ---- a wait. Its tries are counted, so what comes after some is beyond the bounds */
+
+enum { MOST_WAITED_STEPS = 24, FAULT = 5 };
+
+static void wait_begins(void *it, int number)
+{
+    dconfdb_wait_begin(it, wait_longest[number]);
+}
+
+/* What it stopped with is the fault, whichever that is. */
+static Step wait_steps(const void *it)
+{
+    DconfdbNext next = {0};
+    dconfdb_wait_next(it, &next);
+    return (Step){next.kind, 0, next.kind == DCONFDB_WAIT_STOPPED ? 0 : next.number, false, 0};
+}
+
+static void wait_fails(void *it)
+{
+    for (uint32_t fault = 1; fault < 4096; fault++) {
+        DconfdbWait other = *(DconfdbWait *)it;
+        DconfdbNext next = {0};
+        dconfdb_wait_answered(&other, DCONFDB_WAIT_FAILED, 0, fault);
+        dconfdb_wait_next(&other, &next);
+        if (next.kind != DCONFDB_WAIT_STOPPED || next.number != fault)
+            fail("wait", "it stops with another fault");
+    }
+    dconfdb_wait_answered(it, DCONFDB_WAIT_FAILED, 0, FAULT);
+}
+
+static bool wait_answered(void *it, const Step *step, int number)
+{
+    if (step->kind > DCONFDB_WAIT_PAUSE)
+        return false;
+    if (number == WAIT_FAILED && step->kind == DCONFDB_WAIT_TRY)
+        wait_fails(it);
+    else if (number >= WAIT_GOT)
+        dconfdb_wait_answered(it, number == WAIT_GOT ? DCONFDB_WAIT_GOT : DCONFDB_WAIT_FAILED, 0, FAULT);
+    else
+        dconfdb_wait_answered(it, number < WAIT_MOVED ? DCONFDB_WAIT_TAKEN : DCONFDB_WAIT_MOVED, wait_passed[number % WAIT_TIMES], 0);
+    return true;
+}
+
 static const Machine machines[] = {
     {"turn", sizeof(DconfdbTurn), 1, TURN_ANSWERS, MOST_STATES, turn_begins, turn_steps, turn_answered},
     {"refresh", sizeof(DconfdbRefresh), REFRESH_BEGINNINGS, REFRESH_ANSWERS, MOST_STATES, refresh_begins, refresh_steps, refresh_answered},
+    {"queue", sizeof(Waiting), QUEUE_BEGINNINGS, QUEUE_ANSWERS, MOST_STATES, queue_begins, queue_steps, queue_answered},
+    {"wait", sizeof(DconfdbWait), WAIT_BEGINNINGS, WAIT_ANSWERS, MOST_WAITED_STEPS, wait_begins, wait_steps, wait_answered},
 };
 
 /* ---- calls that keep nothing: their answers to all that is asked */
