@@ -4,12 +4,10 @@
 
 #include <time.h>
 
-static sigset_t limit_signal(void)
+static void put_limit_signal(sigset_t *set)
 {
-    sigset_t set;
-    sigemptyset(&set);
-    sigaddset(&set, SIGXFSZ);
-    return set;
+    sigemptyset(set);
+    sigaddset(set, SIGXFSZ);
 }
 
 /* One that a thread blocks may have been sent before, and is the program's. */
@@ -21,7 +19,8 @@ static bool is_pending(void)
 
 void hold_limit_signal(HeldSignal *held)
 {
-    const sigset_t set = limit_signal();
+    sigset_t set;
+    put_limit_signal(&set);
     held->is_held = pthread_sigmask(SIG_BLOCK, &set, &held->blocked) == 0;
     held->was_pending = held->is_held && sigismember(&held->blocked, SIGXFSZ) == 1 && is_pending();
 }
@@ -29,9 +28,10 @@ void hold_limit_signal(HeldSignal *held)
 void release_limit_signal(const HeldSignal *held)
 {
     static const struct timespec at_once = {0, 0};
-    const sigset_t set = limit_signal();
+    sigset_t set;
     if (!held->is_held)
         return;
+    put_limit_signal(&set);
     if (!held->was_pending)
         (void)sigtimedwait(&set, NULL, &at_once);
     pthread_sigmask(SIG_SETMASK, &held->blocked, NULL);

@@ -24,6 +24,17 @@ bool mutex_lock_until(GMutex *mutex, gint64 end)
     return true;
 }
 
+/* One that says nothing yet: of its text the first byte alone is cleared. */
+static void begin_error(DconfdbError *error)
+{
+    error->size = sizeof *error;
+    error->code = DCONFDB_ERROR_NONE;
+    error->outcome = DCONFDB_OUTCOME_KEPT;
+    error->errnum = 0;
+    error->edit = error->database = error->line = 0;
+    error->text[0] = 0;
+}
+
 /* ---- `turn` is held */
 
 static void warn_of(Notice *notice, const char *text)
@@ -43,8 +54,9 @@ static void add_fault(GHashTable **faults, const DconfdbError *fault)
 /* The faults of the store's files. */
 static void add_faults(const DconfdbStore *store, GHashTable **faults)
 {
-    DconfdbError error = DCONFDB_ERROR_INIT;
+    DconfdbError error;
     DconfdbSnapshot *now = dconfdb_store_snapshot((DconfdbStore *)store);
+    begin_error(&error);
     if (dconfdb_store_profile_fault(store, &error))
         add_fault(faults, &error);
     for (size_t i = 0; i < dconfdb_snapshot_databases(now); i++) {
@@ -172,9 +184,10 @@ static bool is_shown(const DconfdbBackend *self)
 
 static bool look(DconfdbBackend *self, Notice *notice)
 {
-    DconfdbError error = DCONFDB_ERROR_INIT;
+    DconfdbError error;
     struct stat profiles[2];
     guint number = (guint)g_atomic_int_add(&self->looks_begun, 1) + 1;
+    begin_error(&error);
     look_at_profiles(self, profiles);
     bool opens = !self->store || !is_same(&profiles[0], &self->seen[0]) || !is_same(&profiles[1], &self->seen[1]);
     bool done = opens ? open_store(self, profiles, &error) : dconfdb_store_refresh(self->store, NULL, &error);
@@ -355,7 +368,9 @@ static void end_failing(DconfdbBackend *self)
 /* `turn` is held. */
 static gint64 write_it(DconfdbBackend *self, const Turn *turn, Notice *notice, bool tries_again)
 {
-    DconfdbError refusal = DCONFDB_ERROR_INIT, fault = DCONFDB_ERROR_INIT;
+    DconfdbError refusal, fault;
+    begin_error(&refusal);
+    begin_error(&fault);
     bool done = changes_write(self->store, turn, &notice->written, &notice->refused, &refusal, &fault);
     if (refusal.code != DCONFDB_ERROR_NONE)
         warn_of(notice, refusal.text);

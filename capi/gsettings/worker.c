@@ -3,11 +3,13 @@
 #define _GNU_SOURCE
 #include "dconfdb_calls.h"
 #include "gsettings.h"
+#include "memory.h"
 #include "threads.h"
 
 #include <errno.h>
 #include <limits.h>
 #include <poll.h>
+#include <stddef.h>
 #include <stdint.h>
 #include <sys/eventfd.h>
 #include <time.h>
@@ -102,9 +104,8 @@ static void is_over(DconfdbBackend *self)
     }
 }
 
-static void *work(void *data)
+static void work_in(DconfdbBackend *self)
 {
-    DconfdbBackend *self = data;
     GMainContext *own = g_main_context_new();
     pthread_setname_np(pthread_self(), "dconfdb");
     g_main_context_push_thread_default(own);
@@ -115,7 +116,16 @@ static void *work(void *data)
     watch_end(self);
     g_main_context_pop_thread_default(own);
     g_main_context_unref(own);
-    is_over(self);
+}
+
+static void *work(void *data)
+{
+    _Alignas(max_align_t) char bytes[SMALL_ROOM];
+    LentRoom room;
+    lend_room(&room, bytes, sizeof bytes);
+    work_in(data);
+    take_back_room(&room);
+    is_over(data);
     return NULL;
 }
 

@@ -6,9 +6,11 @@
 #include "edits.h"
 #include "errors.h"
 #include "held.h"
+#include "memory.h"
 #include "steps.h"
 
 #include <errno.h>
+#include <stddef.h>
 
 /* What is changed, and what the store has after it. */
 typedef struct Edited {
@@ -152,8 +154,8 @@ int changing_note(Changing *it)
     const Part *own = now->parts[0];
     if (ending.is_there && !asking_note(asking, now, it->order))
         return 0;
-    bool is_synced = own->is_settled || order_is_synced(it->order, own_name(store), &own->state);
-    order_write(it->order, it->edited->lock->file, own_name(store), &own->state, is_synced);
+    bool is_synced = own->is_settled || order_is_synced(it->order, store->own_name, &own->state);
+    order_write(it->order, it->edited->lock->file, store->own_name, &own->state, is_synced);
     store_forget_seen(store);
     if (ending.is_there && asking->count > 0)
         store->noted = asking->asked[asking->count - 1].when;
@@ -206,6 +208,16 @@ static bool end(Changing *it)
     return tell(it, ending.told);
 }
 
+/* With memory for all that the proved calls make of a file of a few keys. */
+static void run(Changing *it)
+{
+    _Alignas(max_align_t) char bytes[SMALL_ROOM];
+    LentRoom room;
+    lend_room(&room, bytes, sizeof bytes);
+    changing_run(it);
+    take_back_room(&room);
+}
+
 bool change_in_turn(DconfdbStore *store, const FolderLock *lock, Asking *asking, DconfdbError *error)
 {
     Edited edited = {.store = store, .lock = lock, .asking = asking};
@@ -216,14 +228,14 @@ bool change_in_turn(DconfdbStore *store, const FolderLock *lock, Asking *asking,
     it.error = error;
     it.file = store->user_file;
     it.edited = &edited;
-    int fault = replacing_begin(&it.replacing, lock->folder, own_name(store));
+    int fault = replacing_begin(&it.replacing, lock->folder, store->own_name);
     if (fault != 0)
         return refuse_file(error, fault, store->user_file, nowhere);
     it.replacing.is_unsynced = store->options.is_unsynced;
     hold_limit_signal(&held);
     pthread_mutex_lock(&store->refreshing);
     edited.before = dconfdb_snapshot_ref(store->now);
-    changing_run(&it);
+    run(&it);
     bool done = end(&it);
     atomic_store(&store->is_amid, false);
     dconfdb_snapshot_unref(edited.before);

@@ -14,16 +14,27 @@
 
 void asking_free(Asking *asking)
 {
-    free(asking->changes);
+    if ((void *)asking->changes != asking->few)
+        free(asking->changes);
     free(asking->seen);
+}
+
+/* The block of all that is had for each, or NULL. */
+static void *room_for(Asking *asking, size_t count)
+{
+    if (count <= FEW_EDITS)
+        return asking->few;
+    return count <= SIZE_MAX / sizeof(AskedRoom) ? malloc(count * sizeof(AskedRoom)) : NULL;
 }
 
 /* `made` is NULL where all is asked for now. */
 bool asking_begin(Asking *asking, const DconfdbEdit *edits, const Made *made, size_t count)
 {
-    *asking = (Asking){.count = count};
-    size_t size = sizeof *asking->changes + sizeof *asking->asked + sizeof *asking->times + sizeof *asking->edits + sizeof *asking->is_left;
-    asking->changes = count <= SIZE_MAX / size ? malloc(count * size) : NULL;
+    asking->count = count;
+    asking->seen_count = 0;
+    asking->seen = NULL;
+    asking->expected = NULL;
+    asking->changes = room_for(asking, count);
     if (!asking->changes)
         return false;
     asking->asked = (DconfdbAsked *)(asking->changes + count);
@@ -43,7 +54,7 @@ bool asking_is_as_expected(const DconfdbSnapshot *now, const Asking *asking, Dco
     const DconfdbSnapshot *expected = asking->expected;
     bool is_changed = false;
     size_t at = 0;
-    if (!expected)
+    if (!expected || expected == now) /* the same layers show the same */
         return true;
     uint32_t number = dconfdb_changed_since(expected->layers, expected->count, now->layers, now->count, asking->changes, asking->count,
                                             &is_changed, &at);
@@ -122,7 +133,7 @@ static size_t count_seen(const DconfdbStore *store, size_t *size)
     size_t count = 0;
     for (const Seen *seen = store->seen; seen; seen = seen->next) {
         for (const char *at = seen->paths; *at; at += strlen(at) + 1) {
-            *size += order_path_size(own_name(store), strlen(at));
+            *size += order_path_size(store->own_name, strlen(at));
             count++;
         }
     }
@@ -133,9 +144,9 @@ static size_t count_seen(const DconfdbStore *store, size_t *size)
 static void list_seen(const DconfdbStore *store, const Order *order, Asking *asking, char *room)
 {
     for (const Seen *seen = store->seen; seen; seen = seen->next) {
-        bool is_noted = order_has_left(order, own_name(store), &seen->left);
+        bool is_noted = order_has_left(order, store->own_name, &seen->left);
         for (const char *at = seen->paths; *at; at += strlen(at) + 1) {
-            DconfdbBytes own = {bytes_of(at), strlen(at)}, path = order_path(&room, own_name(store), &own);
+            DconfdbBytes own = {bytes_of(at), strlen(at)}, path = order_path(&room, store->own_name, &own);
             asking->seen[asking->seen_count++] = (DconfdbSeen){{path, order_time_of(&seen->left), value_in(store->now, &own)}, is_noted};
         }
     }
@@ -159,7 +170,7 @@ static bool note_others(const DconfdbStore *store, Asking *asking, Order *order)
 static bool refresh_and_heed(DconfdbStore *store, const DconfdbSnapshot *before, int turn, const Order *order, DconfdbError *error)
 {
     bool done = store_refresh(store, turn, error);
-    if (done && !order_has_left(order, own_name(store), &store->now->parts[0]->state))
+    if (done && !order_has_left(order, store->own_name, &store->now->parts[0]->state))
         heed(store, before, store->now);
     return done;
 }
@@ -207,12 +218,12 @@ static bool know_all(Asking *asking, const DconfdbStore *store, Order *order, co
 {
     size_t size = 0;
     for (size_t i = 0; i < asking->count; i++)
-        size += order_path_size(own_name(store), asking->changes[i].path.len);
+        size += order_path_size(store->own_name, asking->changes[i].path.len);
     char *room = order_room(order, size);
     for (size_t i = 0; room && i < asking->count; i++) {
         DconfdbAsked *asked = &asking->asked[i];
         const DconfdbChange *change = &asking->changes[i];
-        asked->path = order_path(&room, own_name(store), &change->path);
+        asked->path = order_path(&room, store->own_name, &change->path);
         asked->when = order_time(order, asked->when, store->noted);
         asked->is_own = store->is_unsettled && edit_is_made(store->now, change);
         asked->is_as_before = is_as_before(before, store->now, &change->path);

@@ -12,6 +12,18 @@ typedef struct Seen {
     char *paths; /* a zero byte after each, and one more */
 } Seen;
 
+/* For so many edits, which mostly is enough, no memory is taken. */
+enum { FEW_EDITS = 4 };
+
+/* What is had for each edit. */
+typedef struct {
+    DconfdbChange change;
+    DconfdbAsked asked;
+    DconfdbTime time;
+    size_t edit;
+    bool is_left;
+} AskedRoom;
+
 /* Changes that are made together: what is asked of each, which of the edits it is, and whether it is left out. And what others were
  * seen to change. */
 typedef struct {
@@ -23,6 +35,7 @@ typedef struct {
     bool *is_left;
     DconfdbSeen *seen;
     const DconfdbSnapshot *expected; /* NULL: whatever is seen */
+    AskedRoom few[FEW_EDITS];        /* the block, where it is enough */
 } Asking;
 
 /* `made` is NULL where all is asked for now. False: no memory is left. */

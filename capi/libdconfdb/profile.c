@@ -72,7 +72,10 @@ static bool name_files(DconfdbStore *store, const char *profile, const uint8_t *
         if (!store->files[store->count])
             return refuse_memory(error);
     }
-    store->user_file = dconfdb_has_users(names, count) ? store->files[0] : NULL;
+    if (dconfdb_has_users(names, count)) {
+        store->user_file = store->files[0];
+        store->own_name = strrchr(store->user_file, '/') + 1;
+    }
     return true;
 }
 

@@ -82,7 +82,7 @@ static int read_at(Look *look, const Asked *asked)
     bool is_in_turn = asked->turn != NO_FOLDER, is_held = !look->store->now;
     int cancels = is_held ? 0 : hold_cancellation();
     look->opened = file_clock();
-    int fault = file_read(asked->turn, is_in_turn ? strrchr(asked->name, '/') + 1 : asked->name, asked->maps, may_be_database,
+    int fault = file_read(asked->turn, is_in_turn ? look->store->own_name : asked->name, asked->maps, may_be_database,
                           LARGEST_FILE, &look->bytes, &look->state);
     if (!is_held)
         cancel_as_before(cancels);

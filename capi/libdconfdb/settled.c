@@ -28,7 +28,7 @@ static bool is_noted_settled(DconfdbStore *store, const Part *own)
     free(lock);
     if (file < 0)
         return false;
-    bool is = order_read(&store->order, file) && order_is_synced(&store->order, own_name(store), &own->state);
+    bool is = order_read(&store->order, file) && order_is_synced(&store->order, store->own_name, &own->state);
     close(file);
     return is;
 }
@@ -39,7 +39,7 @@ bool settle_store(DconfdbStore *store, DconfdbError *error)
     pthread_mutex_lock(&store->refreshing);
     Part *own = store->user_file ? store->now->parts[0] : NULL;
     bool is_known = !own || own->is_settled || is_noted_settled(store, own);
-    bool done = is_known || store_settle_own(store, part_is_readable(own) ? own_name(store) : NULL, error);
+    bool done = is_known || store_settle_own(store, part_is_readable(own) ? store->own_name : NULL, error);
     if (own && done)
         own->is_settled = is_known || (!store->options.is_unsynced && file_look(store->user_file, &state) == 0 && part_sameness(own, &state) == DCONFDB_FILE_SAME);
     pthread_mutex_unlock(&store->refreshing);

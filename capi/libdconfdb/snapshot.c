@@ -4,6 +4,7 @@
 #define _FILE_OFFSET_BITS 64
 #include "snapshot.h"
 #include "errors.h"
+#include "memory.h"
 #include "paths.h"
 #include "texts.h"
 
@@ -233,14 +234,24 @@ char *dconfdb_snapshot_list_user(const DconfdbSnapshot *snapshot, const char *di
     return snapshot_listed(lists_users_names, snapshot, directory, directory, size, error);
 }
 
-/* Files mostly are longer than their keys' paths. What is not written takes no memory. */
+/* Files mostly are longer than their keys' paths, and what is made of each key takes no more than four times that. What is not written
+ * takes no memory. */
 char *snapshot_paths(const DconfdbSnapshot *snapshot, const char *directory, DconfdbError *error)
 {
-    enum { MOST_AT_FIRST = 64 << 20 };
+    enum { MOST_AT_FIRST = 16 << 20, TIMES = 4 };
+    LentRoom room;
     size_t len = 1024;
     for (size_t i = 0; i < snapshot->count && len < MOST_AT_FIRST; i++)
         len += snapshot->layers[i].values.file.len;
-    return listed_in(len < MOST_AT_FIRST ? len : MOST_AT_FIRST, lists_paths, snapshot, directory, directory, NULL, error);
+    len = len < MOST_AT_FIRST ? len : MOST_AT_FIRST;
+    void *bytes = malloc(TIMES * len);
+    if (bytes)
+        lend_room(&room, bytes, TIMES * len);
+    char *paths = listed_in(len, lists_paths, snapshot, directory, directory, NULL, error);
+    if (bytes)
+        take_back_room(&room);
+    free(bytes);
+    return paths;
 }
 
 char *dconfdb_snapshot_locks(const DconfdbSnapshot *snapshot, const char *directory, size_t *size, DconfdbError *error)

@@ -34,6 +34,7 @@ struct DconfdbStore {
     StorePlace place;
     bool lacks_profile; /* the one that is named can't be had, so there is no database */
     char *user_file; /* absolute; NULL: no user's database */
+    const char *own_name; /* of that in its folder */
     size_t count;
     char *files[MOST_DATABASES];
 };
@@ -42,12 +43,6 @@ struct DconfdbStore {
 static inline const char *user_file_or_folder(const DconfdbStore *store)
 {
     return store->user_file ? store->user_file : store->place.folder;
-}
-
-/* The user's file in its folder. */
-static inline const char *own_name(const DconfdbStore *store)
-{
-    return strrchr(store->user_file, '/') + 1;
 }
 
 /* ---- which files it has (profile.c) */

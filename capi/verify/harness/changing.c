@@ -18,6 +18,7 @@ static Changing it;
 static Order *order_room_now;
 static bool has_begun, is_signal_held, is_written, is_well;
 static unsigned noted;
+static const LentRoom *room_lent;
 
 static void set_up(void)
 {
@@ -349,11 +350,24 @@ static DconfdbSnapshot *made_newer;
 static bool was_aside;
 
 /* As change_loop has it: how it may end, and what there is then. */
+void lend_room(LentRoom *room, void *bytes, size_t size)
+{
+    CHECK(!room_lent && bytes && size == SMALL_ROOM, "memory: a room is lent, and taken back");
+    room_lent = room;
+}
+
+void take_back_room(const LentRoom *room)
+{
+    CHECK(room_lent == room, "memory: the room that was lent is taken back");
+    room_lent = NULL;
+}
+
 void changing_run(Changing *at)
 {
     static char aside[4];
     CHECK(is_held(&store.refreshing) && has_begun && is_signal_held, "order: nobody else looks meanwhile, and no signal comes");
     CHECK(at->edited->before == &old_room && old_room.references == 2, "memory: what was before stays");
+    CHECK(room_lent, "memory: a room is lent to all steps");
     outcome = any_u32();
     GIVEN(outcome <= DCONFDB_TURN_UNSYNCED);
     bool is_new = outcome == DCONFDB_TURN_MADE || outcome == DCONFDB_TURN_UNSETTLED || outcome == DCONFDB_TURN_EITHER;

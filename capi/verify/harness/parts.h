@@ -104,6 +104,7 @@ static void set_up_store(void)
     store.files[0] = users;
     store.files[1] = others;
     store.user_file = store.count > 0 && any_bool() ? users : NULL;
+    store.own_name = users + 3;
     store.options.is_lenient = any_bool();
     old_room = (DconfdbSnapshot){.references = 1, .count = store.count, .parts = old_list};
     for (size_t i = 0; i < FILES; i++) {
