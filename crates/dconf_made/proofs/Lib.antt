@@ -1,0 +1,3 @@
+mod MadeLaws
+mod LeftLaws
+mod NeedLaws

@@ -1,0 +1,2 @@
+mod MendLaws
+mod HeadLaws
