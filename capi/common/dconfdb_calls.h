@@ -936,13 +936,11 @@ typedef struct {
 
 #define DCONFDB_NO_EDIT {DCONFDB_NOTHING, DCONFDB_NOTHING, false, false}
 
-/* What a key is seen through. */
+/* A key that is asked for by itself: what waited of it, and what waits, for who asks for that type; an empty text asks for any. */
 typedef struct {
-    const DconfdbLayer *layers;
-    size_t layers_len;
-    DconfdbWaits edit;
-    bool writable; /* the first layer is the user's */
-} DconfdbView;
+    DconfdbBytes path, type_text;
+    DconfdbWaits before, after;
+} DconfdbKeyAsked;
 
 /* Where what is seen of a key is found. */
 enum {
@@ -964,11 +962,12 @@ enum {
 
 uint32_t dconfdb_own(bool waits, bool sets, bool writable);
 
-/* Whether the same value is seen at a key's path before and after, or none both times, by who asks for a type; an empty text
- * asks for any. A value in other bytes is the same one. What is no key's path shows nothing. MEMORY, and then nothing is
- * written. */
-uint32_t dconfdb_seen_alike(const DconfdbView *before, const DconfdbView *after, const uint8_t *path, size_t path_len,
-                            const uint8_t *type_text, size_t type_text_len, bool *alike);
+/* The paths of the keys that are seen otherwise than before: of those that are asked for by themselves, and of all others by what the layers
+ * show. A value in other bytes is the same one. `was_writable`, `is_writable`: the first layer was the user's, and is. `same_others`: but for
+ * the first, the layers before are to count as the layers after. They come as dconfdb_list has them. MEMORY, and then nothing is written. */
+uint32_t dconfdb_told(const DconfdbLayer *before, size_t before_n, const DconfdbLayer *after, size_t after_n, bool was_writable,
+                      bool is_writable, bool same_others, const DconfdbKeyAsked *asked, size_t count, uint8_t *room, size_t room_len,
+                      size_t *len);
 
 /* Whether a path covers another: it is the same, or a directory above it. A path is locked, be it a key's or a directory's,
  * if a lock covers it that dconfdb_locks lists of all layers. */

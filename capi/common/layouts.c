@@ -47,8 +47,8 @@ void dconfdb_database_path(const uint8_t *folder, size_t folder_len, bool is_bes
                            void *path);
 
 uint32_t dconfdb_notes_written(const void *notes, size_t n, size_t most, size_t most_bytes, uint8_t *room, size_t room_len, size_t *len);
-uint32_t dconfdb_seen_alike(const void *before, const void *after, const uint8_t *path, size_t path_len, const uint8_t *type_text, size_t type_text_len,
-                            bool *alike);
+uint32_t dconfdb_told(const void *before, size_t before_n, const void *after, size_t after_n, bool was_writable, bool is_writable, bool same_others,
+                      const void *asked, size_t count, uint8_t *room, size_t room_len, size_t *len);
 uint32_t dconfdb_leave_out(const void *notes, size_t n, const void *seen, size_t seen_n, const void *edits, size_t count, uint64_t now, bool *room,
                            size_t room_len, size_t *len);
 uint32_t dconfdb_note_seen(const void *notes, size_t n, const void *seen, size_t seen_n, uint64_t now, void *room, size_t room_len, size_t *len);
@@ -793,53 +793,61 @@ static void finds_ending(void)
     ends(&either);
 }
 
-/* ---- what a key is seen through, and an edit of it */
+/* ---- a key that is asked for by itself, and the edits of it: it is told where these differ, for who asks for their type */
 
-enum { EDIT_OF_VIEW = 16, EDIT_TYPE = 16, EDIT_WAITS = 32, WAIT_SETS = 33, WAITS = 40, VIEW_WRITABLE = 56, VIEW = 64 };
+enum { EDIT_TYPE = 16, EDIT_WAITS = 32, WAIT_SETS = 33, WAITS = 40, KEY_TYPE = 16, KEY_BEFORE = 32, KEY_AFTER = 72, KEY = 112 };
 
-static void makes_view(uint8_t *seen, const void *layers, size_t count, const char *value)
+static void makes_waits(uint8_t *edit, const char *value)
 {
-    memset(seen, 0, VIEW);
-    lends(seen, layers, count);
-    lends(seen + EDIT_OF_VIEW, value, 1);
-    lends(seen + EDIT_OF_VIEW + EDIT_TYPE, "y", 1);
-    seen[EDIT_OF_VIEW + EDIT_WAITS] = seen[EDIT_OF_VIEW + WAIT_SETS] = seen[VIEW_WRITABLE] = 1;
+    lends(edit, value, 1);
+    lends(edit + EDIT_TYPE, "y", 1);
+    edit[EDIT_WAITS] = edit[WAIT_SETS] = 1;
 }
 
-static bool are_alike(const uint8_t *before, const uint8_t *after)
+static void makes_key(uint8_t *key, const char *path, const char *before, const char *after)
 {
-    bool alike = false;
-    is_so(dconfdb_seen_alike(before, after, (const uint8_t *)"/k", 2, file, 0, &alike) == 0, "DconfdbView");
-    return alike;
+    memset(key, 0, KEY);
+    lends(key, path, 2);
+    lends(key + KEY_TYPE, "y", 0);
+    makes_waits(key + KEY_BEFORE, before);
+    makes_waits(key + KEY_AFTER, after);
 }
 
-static void tries_view(void)
+/* How many bytes the paths take that are told. */
+static size_t told_of(const uint8_t *keys, size_t count)
 {
-    _Alignas(16) uint8_t layer[ROOM], one[VIEW], other[VIEW];
-    static const size_t flags[] = {EDIT_OF_VIEW + EDIT_WAITS, EDIT_OF_VIEW + WAIT_SETS, VIEW_WRITABLE};
-    opens(file, sizeof file, true, layer);
-    makes_view(one, layer, 0, "1");
-    makes_view(other, layer, 0, "2");
-    is_so(are_alike(one, one) && !are_alike(one, other), "DconfdbView");
+    size_t len = ROOM;
+    uint8_t room[ROOM];
+    is_so(dconfdb_told(file, 0, file, 0, true, true, false, keys, count, room, ROOM, &len) == 0, "DconfdbKeyAsked");
+    return len;
+}
+
+static void tries_key(void)
+{
+    static const size_t flags[] = {KEY_BEFORE + EDIT_WAITS, KEY_BEFORE + WAIT_SETS, KEY_AFTER + EDIT_WAITS, KEY_AFTER + WAIT_SETS};
+    _Alignas(16) uint8_t keys[2 * KEY];
+    makes_key(keys, "/k", "1", "1");
+    is_so(told_of(keys, 1) == 0, "DconfdbKeyAsked");
+    makes_key(keys + KEY, "/j", "1", "2");
+    is_so(told_of(keys, 2) == 3, "DconfdbKeyAsked");
     for (size_t i = 0; i < sizeof flags / sizeof *flags; i++) {
-        makes_view(other, layer, 0, "1");
-        other[flags[i]] = 0;
-        is_so(!are_alike(one, other), "DconfdbView");
+        makes_key(keys, "/k", "1", "1");
+        keys[flags[i]] = 0;
+        is_so(told_of(keys, 2) == 6, "DconfdbWaits");
     }
-    makes_view(one, layer, 0, "1");
-    makes_view(other, layer, 1, "1");
-    one[EDIT_OF_VIEW + EDIT_WAITS] = other[EDIT_OF_VIEW + EDIT_WAITS] = 0;
-    is_so(are_alike(other, other) && !are_alike(one, other), "DconfdbView");
+    makes_key(keys, "/k", "1", "2");
+    lends(keys + KEY_TYPE, "n", 1);
+    is_so(told_of(keys, 1) == 0, "DconfdbKeyAsked");
     lies("DconfdbWaits", "value", 0, LENT);
     lies("DconfdbWaits", "type_text", EDIT_TYPE, LENT);
     lies("DconfdbWaits", "waits", EDIT_WAITS, FLAG);
     lies("DconfdbWaits", "sets", WAIT_SETS, FLAG);
     printf("TAKES(DconfdbWaits, %d);\n", WAITS);
-    lies("DconfdbView", "layers", at_in_lent, WORD);
-    lies("DconfdbView", "layers_len", len_in_lent, WORD);
-    lies("DconfdbView", "edit", EDIT_OF_VIEW, WAITS);
-    lies("DconfdbView", "writable", VIEW_WRITABLE, FLAG);
-    printf("TAKES(DconfdbView, %d);\n", VIEW);
+    lies("DconfdbKeyAsked", "path", 0, LENT);
+    lies("DconfdbKeyAsked", "type_text", KEY_TYPE, LENT);
+    lies("DconfdbKeyAsked", "before", KEY_BEFORE, WAITS);
+    lies("DconfdbKeyAsked", "after", KEY_AFTER, WAITS);
+    printf("TAKES(DconfdbKeyAsked, %d);\n", KEY);
 }
 
 /* ---- files: a stamp is read alone, and each field but the last makes another file */
@@ -935,7 +943,7 @@ int main(void)
     tries_asked();
     tries_seen();
     finds_ending();
-    tries_view();
+    tries_key();
     tries_stamp();
     finds_owner();
     return 0;

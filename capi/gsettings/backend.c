@@ -173,8 +173,7 @@ static gboolean dconfdb_backend_get_writable(GSettingsBackend *backend, const ch
     DconfdbBackend *self = backend_of(backend);
     look_if_unwatched(self);
     lock_opened(self);
-    bool may_be = self->now && getpid() == self->process; /* a child of fork() sets nothing */
-    bool is = may_be && seen_is_writable(self->now, name);
+    bool is = self->now && !is_forked(self) && seen_is_writable(self->now, name);
     g_mutex_unlock(&self->lock);
     return is;
 }
@@ -186,10 +185,10 @@ static GPermission *dconfdb_backend_get_permission(GSettingsBackend *backend, co
 
 /* ---- changes */
 
-/* `lock` is held. A child of fork() has no thread that writes, and its parent writes what waits. */
+/* `lock` is held. */
 static uint32_t entry_of(const DconfdbBackend *self, Change *change)
 {
-    if (self->has_ended || getpid() != self->process)
+    if (!is_at_work(self))
         return DCONFDB_ENTRY_REFUSED;
     return change_entry(change, &self->waiting, self->now);
 }
@@ -275,9 +274,7 @@ static gboolean dconfdb_backend_write_tree(GSettingsBackend *backend, GTree *tre
 static void dconfdb_backend_sync(GSettingsBackend *backend)
 {
     DconfdbBackend *self = backend_of(backend);
-    if (getpid() != self->process)
-        return;
-    if (!store_sync(self))
+    if (!is_forked(self) && !store_sync(self))
         g_warning("%s: what was set is not on the disk yet; it goes on waiting", self->place.folder);
 }
 
@@ -311,7 +308,7 @@ static gboolean has_turned(gpointer data)
         return G_SOURCE_REMOVE;
     g_mutex_lock(&self->lock);
     worker_begin(self);
-    if (self->has_worker && !self->has_ended && !self->is_to_watch && getpid() == self->process) {
+    if (!self->is_to_watch && worker_is_here(self)) {
         self->is_to_watch = true;
         worker_wake(self);
     }
@@ -348,7 +345,7 @@ static void dconfdb_backend_subscribe(GSettingsBackend *backend, const char *nam
         guint count = GPOINTER_TO_UINT(g_hash_table_lookup(self->subscribed, name));
         g_hash_table_insert(self->subscribed, g_strdup(name), GUINT_TO_POINTER(count + 1));
         worker_begin(self);
-        if (self->is_to_watch && self->has_worker && getpid() == self->process)
+        if (self->is_to_watch && worker_is_here(self))
             worker_wake(self);
     }
     g_mutex_unlock(&self->lock);
@@ -441,7 +438,7 @@ static void __attribute__((destructor)) end_all(void)
     if (!mutex_lock_until(&living_lock, g_get_monotonic_time() + G_USEC_PER_SEC))
         return;
     GSList *all = living;
-    if (all && ((DconfdbBackend *)all->data)->process != getpid())
+    if (all && is_forked(all->data))
         all = NULL;
     for (GSList *at = all; at; at = at->next)
         g_object_ref(at->data);

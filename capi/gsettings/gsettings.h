@@ -231,6 +231,13 @@ void patience_renew(Patience *patience, const DconfdbBackend *self);
 
 /* ---- the thread that writes and watches (worker.c); `lock` is held */
 
+/* Whether this is a child of fork(): it has no such thread, and its parent writes what waits; so it sets nothing. `lock` may be let go. */
+bool is_forked(const DconfdbBackend *self);
+
+/* Whether it sets, writes and watches: it is no such child, and hasn't ended. */
+bool is_at_work(const DconfdbBackend *self);
+
+bool worker_is_here(const DconfdbBackend *self);
 void worker_begin(DconfdbBackend *self);
 void worker_wake(DconfdbBackend *self);
 

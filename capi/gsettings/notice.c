@@ -11,14 +11,13 @@
 /* GSettings ends the program where one notice has more than 255 keys of a schema. */
 enum { MOST_KEYS = 255 };
 
-/* What is to be told. Paths are lent. A list is NULL as long as nothing is in it. */
+/* What is to be told of locks. Paths are lent. A list is NULL as long as nothing is in it. */
 typedef struct {
     DconfdbBackend *backend;
     const Notice *notice;
-    bool may_lock; /* keys may be written, or no longer; else neither locks nor the user differ */
     const char *locks_before, *locks_after; /* NULL: nothing may be written */
-    GPtrArray *changed;
-    GHashTable *writable;   /* such keys */
+    char *differences;
+    GHashTable *writable;   /* keys that may be written, or no longer */
     GPtrArray *directories; /* the same of all that is in them */
 } Telling;
 
@@ -83,33 +82,53 @@ static DconfdbEdit edit_of(const char *path, GVariant *value)
     return (DconfdbEdit){path, g_variant_get_type_string(value), g_variant_get_data(value), g_variant_get_size(value)};
 }
 
-/* Whether the key is seen as before, by who asks for a type, or, if it is NULL, for any. */
-static bool is_seen_alike(const Notice *notice, const char *path, const char *type)
+/* Keys that are asked for by themselves, and what they lend of our edits. */
+typedef struct {
+    SeenKey *keys;
+    DconfdbEdit *edits;
+    guint count;
+} Asked;
+
+static void add_asked(Asked *asked, const char *path, const char *type, const Edited *edited)
 {
-    const Edited *edited = edited_of(notice, path);
-    SeenBy before = {notice->before, NULL}, after = {notice->after, NULL};
-    if (!edited)
-        return seen_is_alike(before, after, path, type);
-    DconfdbEdit was = edit_of(path, edited->before), is = edit_of(path, edited->after);
-    before.edit = &was;
-    after.edit = edited->is_edited ? &is : NULL;
-    return seen_is_alike(before, after, path, type);
+    DconfdbEdit *was = &asked->edits[2 * asked->count], *is = was + 1;
+    if (edited) {
+        *was = edit_of(path, edited->before);
+        *is = edit_of(path, edited->after);
+    }
+    asked->keys[asked->count++] = (SeenKey){path, type, edited ? was : NULL, edited && edited->is_edited ? is : NULL};
 }
 
-/* A key that may be seen otherwise. */
-static void add_key(Telling *telling, const char *path, const char *type)
+/* What a program set was told when it set it; so only what is seen otherwise since. And keys of which a value of another type was passed
+ * over: their default is seen. */
+static Asked asked_of(const Notice *notice)
 {
-    if (is_subscribed(telling->backend, path) && !is_seen_alike(telling->notice, path, type))
-        add_path(&telling->changed, path);
+    guint edited = notice->edited ? notice->edited->len : 0, odd = notice->odd ? g_strv_length(notice->odd) / 2 : 0;
+    Asked asked = {g_new(SeenKey, edited + odd), g_new(DconfdbEdit, 2 * (edited + odd)), 0};
+    for (guint i = 0; i < edited; i++) {
+        const Edited *one = &g_array_index(notice->edited, Edited, i);
+        add_asked(&asked, one->path, NULL, one);
+    }
+    for (guint i = 0; i < odd; i++)
+        add_asked(&asked, notice->odd[2 * i], notice->odd[2 * i + 1], edited_of(notice, notice->odd[2 * i]));
+    return asked;
 }
 
-/* A key that the files have otherwise. Our own are asked by themselves. */
+/* The keys that are seen otherwise; NULL: no memory is left. */
+static char *told_of(const Notice *notice)
+{
+    Asked asked = asked_of(notice);
+    char *paths = seen_otherwise(notice->before, notice->after, asked.keys, asked.count, NULL);
+    g_free(asked.keys);
+    g_free(asked.edits);
+    return paths;
+}
+
+/* A key that the files have otherwise, or lock. */
 static void add_difference(Telling *telling, const char *path)
 {
-    if (telling->may_lock && is_subscribed(telling->backend, path) && !is_as_writable(telling->notice, path))
+    if (is_subscribed(telling->backend, path) && !is_as_writable(telling->notice, path))
         add_writable(telling, path);
-    if (!edited_of(telling->notice, path))
-        add_key(telling, path, NULL);
 }
 
 /* Keys that no database has are locked too: by their own lock, or with all of a directory. Which
@@ -140,35 +159,19 @@ static void add_locks(Telling *telling, const char *before, const char *after)
 
 /* ---- who is told */
 
-static int by_bytes(const void *one, const void *other)
-{
-    return strcmp(*(char *const *)one, *(char *const *)other);
-}
-
-/* Each once, in the order of their bytes. */
-static void put_in_order(GPtrArray *paths)
-{
-    guint count = 0;
-    g_ptr_array_sort(paths, by_bytes);
-    for (guint i = 0; i < paths->len; i++) {
-        if (count == 0 || strcmp(paths->pdata[count - 1], paths->pdata[i]) != 0)
-            paths->pdata[count++] = paths->pdata[i];
-    }
-    g_ptr_array_set_size(paths, (gint)count);
-}
-
-/* Paths without their first slash, as GSettings wants them below `/`. */
-static void send_changed(DconfdbBackend *self, GPtrArray *paths)
+/* Those that somebody listens to, without their first slash, as GSettings wants them below `/`. */
+static void send_changed(DconfdbBackend *self, const char *paths)
 {
     const char *items[MOST_KEYS + 1];
-    if (paths)
-        put_in_order(paths);
-    for (guint i = 0; paths && i < paths->len;) {
+    for (const char *at = paths; *at;) {
         guint count = 0;
-        while (i < paths->len && count < MOST_KEYS)
-            items[count++] = (const char *)paths->pdata[i++] + 1;
+        for (; *at && count < MOST_KEYS; at += strlen(at) + 1) {
+            if (is_subscribed(self, at))
+                items[count++] = at + 1;
+        }
         items[count] = NULL;
-        g_settings_backend_keys_changed(&self->parent, "/", items, NULL);
+        if (count > 0)
+            g_settings_backend_keys_changed(&self->parent, "/", items, NULL);
     }
 }
 
@@ -224,25 +227,12 @@ static bool has_other_locks(const DconfdbSnapshot *before, const DconfdbSnapshot
     return after && before != after && !(before && have_same_others(before, after));
 }
 
-static void add_differences(Telling *telling, const char *differences)
+/* Keys that came to be locked, or are no longer. */
+static void add_differences(Telling *telling)
 {
-    for (const char *at = differences; at && *at; at += strlen(at) + 1)
+    telling->differences = differences_of(telling->notice);
+    for (const char *at = telling->differences; at && *at; at += strlen(at) + 1)
         add_difference(telling, at);
-}
-
-/* What a program set was told when it set it; so only what is seen otherwise since. */
-static void add_edited(Telling *telling)
-{
-    const GArray *all = telling->notice->edited;
-    for (guint i = 0; all && i < all->len; i++)
-        add_key(telling, g_array_index(all, Edited, i).path, NULL);
-}
-
-/* Keys of which a value of another type was passed over: their default is seen. */
-static void add_odd(Telling *telling)
-{
-    for (char **at = telling->notice->odd; at && *at; at += 2)
-        add_key(telling, at[0], at[1]);
 }
 
 /* Whose lock came or went, or all, if the user's database did. */
@@ -254,28 +244,35 @@ static void add_all_locks(Telling *telling)
         add_lock(telling, "/");
 }
 
-static void send(DconfdbBackend *self, const Notice *notice)
+/* Of what it changed whether it may be written. */
+static void send_locks(DconfdbBackend *self, const Notice *notice)
 {
-    bool has_locks = has_other_locks(notice->before, notice->after), had = notice->had_user, has = notice->has_user;
-    Telling telling = {.backend = self, .notice = notice, .may_lock = has_locks || had != has};
-    char *differences = differences_of(notice);
-    char *before = telling.may_lock ? locks_of(notice->before, had) : NULL, *after = telling.may_lock ? locks_of(notice->after, has) : NULL;
+    Telling telling = {.backend = self, .notice = notice};
+    char *before = locks_of(notice->before, notice->had_user), *after = locks_of(notice->after, notice->has_user);
     telling.locks_before = before;
     telling.locks_after = after;
-    add_edited(&telling);
-    add_differences(&telling, differences);
-    add_odd(&telling);
-    if (telling.may_lock)
-        add_all_locks(&telling);
-    send_changed(self, telling.changed);
+    add_differences(&telling);
+    add_all_locks(&telling);
     send_directories(self, telling.directories);
     send_writable(&telling);
-    g_clear_pointer(&telling.changed, g_ptr_array_unref);
     g_clear_pointer(&telling.writable, g_hash_table_unref);
     g_clear_pointer(&telling.directories, g_ptr_array_unref);
-    free(differences);
+    free(telling.differences);
     free(before);
     free(after);
+}
+
+/* Without memory all keys are told: once too often, and not too seldom. */
+static void send(DconfdbBackend *self, const Notice *notice)
+{
+    char *told = told_of(notice);
+    if (told)
+        send_changed(self, told);
+    else
+        g_settings_backend_path_changed(&self->parent, "/", NULL);
+    free(told);
+    if (notice->had_user != notice->has_user || has_other_locks(notice->before, notice->after))
+        send_locks(self, notice);
 }
 
 /* Whether something may be seen otherwise. */

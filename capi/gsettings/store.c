@@ -312,7 +312,7 @@ static bool shows_amid_write(DconfdbBackend *self)
 void store_catch_up(DconfdbBackend *self)
 {
     g_mutex_lock(&self->lock);
-    bool is = self->place.folder && self->has_opened && !self->has_ended && self->process == getpid();
+    bool is = self->place.folder && self->has_opened && is_at_work(self);
     g_mutex_unlock(&self->lock);
     gint64 end = g_get_monotonic_time() + LONGEST_CATCH_UP;
     while (is && !g_mutex_trylock(&self->turn)) {

@@ -131,9 +131,24 @@ static void *work(void *data)
 
 /* ---- `lock` is held */
 
+bool is_forked(const DconfdbBackend *self)
+{
+    return getpid() != self->process;
+}
+
+bool is_at_work(const DconfdbBackend *self)
+{
+    return !self->has_ended && !is_forked(self);
+}
+
+bool worker_is_here(const DconfdbBackend *self)
+{
+    return self->has_worker && is_at_work(self);
+}
+
 void worker_begin(DconfdbBackend *self)
 {
-    if (self->has_worker || self->has_ended || !self->place.folder || getpid() != self->process)
+    if (self->has_worker || !self->place.folder || !is_at_work(self))
         return;
     if (self->wakes < 0)
         self->wakes = eventfd(0, EFD_CLOEXEC | EFD_NONBLOCK);

@@ -1,6 +1,7 @@
 /* What a key shows while an edit of it may wait, by the proved calls. */
 #define _POSIX_C_SOURCE 200809L
 #include "seen.h"
+#include "locked.h"
 #include "snapshot.h"
 #include "texts.h"
 
@@ -25,20 +26,39 @@ static DconfdbWaits waits_of(const DconfdbEdit *edit)
     return waits;
 }
 
-static DconfdbView seen_of(SeenBy by)
+static DconfdbKeyAsked asked_of(const SeenKey *key)
 {
-    static const DconfdbLayer no_layer = DCONFDB_EMPTY_LAYER;
-    const DconfdbSnapshot *of = by.snapshot;
-    return (DconfdbView){of ? of->layers : &no_layer, of ? of->count : 0, waits_of(by.edit), of && of->is_writable};
+    DconfdbBytes no_type = DCONFDB_NOTHING;
+    return (DconfdbKeyAsked){lent_text(key->path), key->type ? lent_text(key->type) : no_type, waits_of(key->before), waits_of(key->after)};
 }
 
-bool seen_is_alike(SeenBy before, SeenBy after, const char *path, const char *type)
+typedef struct {
+    const DconfdbSnapshot *before;
+    const DconfdbKeyAsked *keys;
+    size_t count;
+} Beside;
+
+static uint32_t lists_told(const DconfdbSnapshot *after, const void *of, uint8_t *room, size_t room_len, size_t *len)
 {
-    bool is = false;
-    DconfdbView first = seen_of(before), second = seen_of(after);
-    const char *text = type ? type : "";
-    uint32_t number = dconfdb_seen_alike(&first, &second, bytes_of(path), strlen(path), bytes_of(text), strlen(text), &is);
-    return number == DCONFDB_OK && is;
+    const Beside *beside = of;
+    const DconfdbSnapshot *before = beside->before;
+    return dconfdb_told(before->layers, before->count, after->layers, after->count, before->is_writable, after->is_writable,
+                        before == after || have_same_others(before, after), beside->keys, beside->count, room, room_len, len);
+}
+
+char *seen_otherwise(const DconfdbSnapshot *before, const DconfdbSnapshot *after, const SeenKey *keys, size_t count, DconfdbError *error)
+{
+    static DconfdbLayer no_layer = DCONFDB_EMPTY_LAYER;
+    static const DconfdbSnapshot nothing = {.references = 1, .layers = &no_layer};
+    DconfdbKeyAsked *asked = malloc((count + 1) * sizeof *asked);
+    if (!asked)
+        return NULL;
+    for (size_t i = 0; i < count; i++)
+        asked[i] = asked_of(&keys[i]);
+    Beside beside = {before ? before : &nothing, asked, count};
+    char *paths = snapshot_listed(lists_told, after ? after : &nothing, &beside, "differences", NULL, error);
+    free(asked);
+    return paths;
 }
 
 bool path_covers(const char *path, const char *other)

@@ -5,16 +5,19 @@
 #include "dconfdb.h"
 
 #include <stdbool.h>
+#include <stddef.h>
 
-/* What a key is seen through: a snapshot, or NULL where none could be had yet, and the newest edit that waits of the key, or NULL. */
+/* A key that is asked for by itself: the newest edit of it that waited, and the one that waits, or NULL, for who asks for a type, or, if
+ * it is NULL, for any. */
 typedef struct {
-    const DconfdbSnapshot *snapshot;
-    const DconfdbEdit *edit;
-} SeenBy;
+    const char *path, *type;
+    const DconfdbEdit *before, *after;
+} SeenKey;
 
-/* Whether the same value is seen before and after, or none both times, by who asks for a type, or, if it is NULL, for any. Without
- * memory it counts as another one: who listens is told once too often, and not too seldom. */
-bool seen_is_alike(SeenBy before, SeenBy after, const char *path, const char *type);
+/* The paths of the keys that are seen otherwise than before: of these keys, and of all others by what the snapshots show. `before` may be
+ * NULL: nothing was seen. In the order of their bytes, once each, a zero byte after each and one at the end: the caller's. NULL: no memory
+ * is left. */
+char *seen_otherwise(const DconfdbSnapshot *before, const DconfdbSnapshot *after, const SeenKey *keys, size_t count, DconfdbError *error);
 
 /* Whether a path may be written, a key's or all that is below a directory: there is a user's database, and no lock covers it. */
 bool seen_is_writable(const DconfdbSnapshot *snapshot, const char *path);

@@ -66,12 +66,6 @@ static void warn_of_faults(Watching *watch, const DconfdbSnapshot *now)
 
 /* ---- what is told */
 
-/* Of a key that differs, by its lock or its value. */
-static bool is_seen_otherwise(const DconfdbSnapshot *now, const DconfdbSnapshot *before, const char *path)
-{
-    return !seen_is_alike((SeenBy){before, NULL}, (SeenBy){now, NULL}, path, NULL);
-}
-
 static uint32_t print_into(const DconfdbValue *value, char *room, size_t room_len, size_t *len)
 {
     return dconfdb_print_value((const uint8_t *)value->type, value->type_size, value->data, value->size, (uint8_t *)room,
@@ -111,11 +105,11 @@ static bool put_key(const DconfdbSnapshot *now, const char *path)
 static bool tell(const Watching *watch, const DconfdbSnapshot *now, DconfdbError *error)
 {
     bool any = false, is_told = true;
-    char *paths = dconfdb_snapshot_differences(now, watch->before, NULL, error);
+    char *paths = seen_otherwise(watch->before, now, NULL, 0, error);
     if (!paths)
         return false;
     for (const char *at = paths; is_told && *at; at += strlen(at) + 1) {
-        if (path_covers(watch->path, at) && is_seen_otherwise(now, watch->before, at)) {
+        if (path_covers(watch->path, at)) {
             is_told = put_key(now, at);
             any = any || is_told;
         }

@@ -1,1 +1,3 @@
 pub mod SeeingLaws
+pub mod TellingLaws
+pub mod OthersLaws

@@ -1,11 +1,10 @@
-//! Whether a key is seen otherwise than before, through layers and beside an edit that waits: so who listens is told of it, by
-//! [`are_seen_alike`].
-//!
-//! Which keys are to be asked is a law of dconf_seen.
+//! Which keys are seen otherwise than before, through layers and beside edits that wait: so who listens is told of them, by [`told`].
 #![tactic(auto)]
 
 mod alike;
+mod news;
 mod seen;
 
 pub use alike::are_seen_alike;
+pub use news::{DconfdbKeyAsked, told, told_texts};
 pub use seen::{DconfdbView, DconfdbWaits};

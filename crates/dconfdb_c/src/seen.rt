@@ -1,17 +1,20 @@
 //! What is seen of a key while an edit of it may wait, and which paths stand for which.
-ghost use Rattle.std.specs.Prelude.{◌≡◌, ◌≢◌, ◌↔◌, IsTrue};
+ghost use Rattle.std.specs.Prelude.{◌≡◌, ◌≢◌, ℕ, List};
 ghost use Rattle.dconf_model.specs.Locks.{covers};
 ghost use Rattle.dconf_model.specs.Paths.{is_short};
-ghost use Rattle.dconf_model.specs.Salvaging.{IsKeyText};
 ghost use Rattle.dconf_seen.specs.Covering.{meets};
 ghost use Rattle.dconf_seen.specs.Waiting.{own_by, own_number, shown_as, shown_number, word_numbered};
 ghost use Rattle.dconf_texts.specs.Kinds.{kind_below, kind_number, kind_of};
-ghost use Rattle.dconf_told.specs.Seeing.{shown_to};
+ghost use Rattle.dconf_told.specs.Telling.{AreTold, before_in};
+ghost use Rattle.dconfdb_calls.specs.Given.{HandsOut};
+ghost use Rattle.dconfdb_calls.specs.Listed.{ended};
+ghost use Rattle.dconfdb_calls.specs.Seen.{layers_of};
 
+use dconf_layers::{Layer, LentLayers};
 use dconf_seen::{covers, meets, own_number, shown_number};
 use dconf_texts::{is_short, kind_below, kind_of, number_of_kind};
-use dconf_told::{DconfdbView, are_seen_alike};
-use dconfdb_calls::Fault;
+use dconf_told::{DconfdbKeyAsked, told_texts};
+use dconfdb_calls::{Fault, hand_out};
 use std::alloc::Global;
 
 /// Where what is seen of a key is found: 0 as it is stored, 1 without the user's value, 2 in the newest edit that waits of it. `waits`
@@ -38,24 +41,31 @@ pub extern "C" fn dconfdb_own(waits: bool, sets: bool, writable: bool) -> u32
     own_number(waits, sets, writable)
 }
 
-/// Whether the same value is seen at a key's path before and after, or none both times, by who asks for a type; an empty text asks for
-/// any. Else the number of a fault, and `alike` stays as it was.
+/// The paths of the keys that are seen otherwise than before: of those that are asked for by themselves, and of all others by what the
+/// layers show. Where `same_others`, the layers before but for the first count as those after. They are handed out as `dconfdb_list`
+/// does.
 #[unsafe(no_mangle)]
-pub extern "C" fn dconfdb_seen_alike(
+pub extern "C" fn dconfdb_told(
     alloc: Global,
-    before: &DconfdbView<'_, '_>,
-    after: &DconfdbView<'_, '_>,
-    path: &[u8],
-    type_text: &[u8],
-    alike: &mut bool,
+    before: &[Layer<'_>],
+    after: &[Layer<'_>],
+    was_writable: bool,
+    is_writable: bool,
+    same_others: bool,
+    asked: &[DconfdbKeyAsked<'_>],
+    room: &mut [u8],
+    len: &mut usize,
 ) -> u32
-    ensures done { result ≡ 0 → IsTrue alike.new ↔ (IsKeyText path.now → shown_to type_text.now before.now path.now ≡ shown_to type_text.now after.now path.now) }
+    ensures done { result ≡ 0 → (paths : List (List ℕ)) × AreTold (before_in same_others (layers_of before.now was_writable) (layers_of after.now is_writable))
+        (layers_of after.now is_writable) asked.now paths × HandsOut (ended paths) room.old room.new len.new }
     ensures refused { result ≢ 0 → result ≡ 1 }
-    ensures kept { result ≢ 0 → alike.new ≡ alike.old }
+    ensures kept { result ≢ 0 → (room.new ≡ room.old) × (len.new ≡ len.old) }
 {
-    match are_seen_alike(alloc, *before, *after, path, type_text) {
-        Ok(are) => {
-            *alike = are;
+    let before = LentLayers::new(was_writable, before);
+    let after = LentLayers::new(is_writable, after);
+    match told_texts(alloc, before, after, same_others, asked) {
+        Ok(paths) => {
+            *len = hand_out(paths.as_slice(), room);
             0
         }
         Err(_) => Fault::Memory.number(),

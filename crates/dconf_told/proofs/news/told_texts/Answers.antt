@@ -1,0 +1,17 @@
+use Rattle.std.specs.Prelude.{map, string_bytes}
+use Rattle.std.proofs.Common.{◌≡◌, ◌∙◌, ℕ, List, ap}
+use Rattle.std.specs.declared.alloc.Global.{Global}
+use Rattle.std.specs.declared.string.String.{String}
+use Rattle.std.proofs.lemmas.Result.{IfOk-weaker}
+use Rattle.dconf_layers.specs.LayerSettings.{seen_in}
+use Rattle.dconf_told.specs.Telling.{AreTold, before_in, ended}
+use Rattle.dconf_told.proofs.news.told_texts.Goals as goal
+
+pub returns : goal.returns
+returns c =
+    let m = seen_in c.args.after in
+    let l = before_in c.args.same_others (seen_in c.args.before) m in
+    IfOk-weaker c.texts_of.result (λ all. all.items ≡ ended (map string_bytes c.as_slice.result.now))
+    (λ all. (paths : List (List ℕ)) × AreTold l m c.args.asked.now paths × (all.items ≡ ended paths))
+    (λ all e. (map string_bytes c.in_ok-paths.paths.items, c.in_ok-paths.ensures, e ∙ ap (λ (ts : List (String Global)). ended (map string_bytes ts)) c.as_slice.ensures.value))
+    c.texts_of.ensures
