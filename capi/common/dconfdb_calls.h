@@ -241,12 +241,6 @@ bool dconfdb_read_default(const DconfdbLayer *layers, size_t n, bool writable, c
 /* The value that one layer has, whatever is locked: of the first, the user's own. `origin` is 0. */
 bool dconfdb_read_alone(const DconfdbLayer *layer, const uint8_t *path, size_t path_len, DconfdbFound *found);
 
-/* Whether the value that a layer has is this one: of the type that the text spells, and with the same in
- * it, whatever its bytes. False too where the text is no key's path, or spells no type. MEMORY, and then
- * `is` stays. */
-uint32_t dconfdb_is_stored(const DconfdbLayer *layer, const uint8_t *path, size_t path_len, const uint8_t *value, size_t value_len,
-                           const uint8_t *type_text, size_t type_text_len, bool *is);
-
 /* Whether a layer from the second on locks the key. */
 bool dconfdb_is_locked(const DconfdbLayer *layers, size_t n, const uint8_t *path, size_t path_len);
 
@@ -282,17 +276,22 @@ uint32_t dconfdb_differs(const DconfdbLayer *layers, size_t n, const DconfdbLaye
 uint32_t dconfdb_differs_first(const DconfdbLayer *layers, size_t n, const DconfdbLayer *first, uint8_t *room, size_t room_len,
                                size_t *len);
 
-/* A sound database of what can be saved of a file, sound or not, and how many values and locks it has:
- * for each path of a key its lowest value whose pointer is valid, and the locks of the lowest table of
- * locks that opens. `len` as dconfdb_list has it. MEMORY, SHORT to BAD_TABLE, TOO_BIG, and then nothing is
- * written. */
-uint32_t dconfdb_repair(const uint8_t *file, size_t len, uint8_t *room, size_t room_len, size_t *repaired_len, size_t *keys,
-                        size_t *locks);
+/* What a file counts as that isn't sound. */
+enum {
+    DCONFDB_MENDED_WHOLE, /* the sound database that it stands for: dconf made it of no key, and leaves the kind and the contents
+                           * of `/` unset then */
+    DCONFDB_MENDED_SAVED, /* what can be saved of it: for each path of a key its lowest value whose pointer is valid, and the locks
+                           * of the lowest table of locks that opens */
+    DCONFDB_MENDED_NOTHING /* it is no database, or that would have over 4,294,967,295 bytes */
+};
 
-/* The sound database that a file stands for which dconf made of no key: the file with its `/` as an empty
- * list, whose kind and contents dconf leaves unset. `len` as dconfdb_list has it. UNSOUND if it is none such,
- * or MEMORY, and then nothing is written. */
-uint32_t dconfdb_keyless(const uint8_t *file, size_t len, uint8_t *room, size_t room_len, size_t *mended_len);
+/* Its bytes, which dconfdb_open opens, and how many values and locks were saved; of NOTHING none. `len` as dconfdb_list has it.
+ * MEMORY, and then nothing is written. */
+uint32_t dconfdb_mend(const uint8_t *file, size_t len, uint8_t *room, size_t room_len, size_t *mended_len, uint32_t *standing, size_t *keys,
+                      size_t *locks);
+
+/* Whether a file that begins so may be a database: its signature and its version are one's, as far as they are there. */
+bool dconfdb_is_database_head(const uint8_t *head, size_t len);
 
 /* What is said of a bad database, after what is wrong with it: how many values and locks of it count, or,
  * where a change put a new file into its place (`is_aside`), how the text goes on after the name that it has
@@ -386,10 +385,33 @@ void dconfdb_database_path(const uint8_t *folder, size_t folder_len, bool is_bes
 bool dconfdb_has_users(const DconfdbName *names, size_t n);
 
 /* The user's file after all changes, each made in turn, or none, and without locks. `len` as
- * dconfdb_list has it. MEMORY, BAD_PATH to TOO_BIG, BAD_VALUE, and then only `at` is written: the index of the
- * change at fault, or 0 where none is, of MEMORY and TOO_BIG. */
+ * dconfdb_list has it. `is_same`: it says no more than was there, since the user's database has what each of them asks for, or
+ * since `old`, what its file holds, is the same bytes. MEMORY, BAD_PATH to TOO_BIG, BAD_VALUE, and then only `at` is written: the
+ * index of the change at fault, or `changes_len` where none is. */
 uint32_t dconfdb_change(const DconfdbLayer *layers, size_t n, bool writable, const DconfdbChange *changes, size_t changes_len,
-                        uint8_t *room, size_t room_len, size_t *len, size_t *at);
+                        const uint8_t *old, size_t old_len, uint8_t *room, size_t room_len, size_t *len, size_t *at, bool *is_same);
+
+/* Whether the user's database has what a change asks for already: this value, whatever its bytes, or none, or none below the directory.
+ * At a path that is no key's there is none. `writable`: the first layer is the user's. MEMORY, and then `is` stays. */
+uint32_t dconfdb_is_made(const DconfdbLayer *layers, size_t n, bool writable, const DconfdbChange *change, bool *is);
+
+/* What stands at the name of the user's file. */
+enum {
+    DCONFDB_USERS_THERE,
+    DCONFDB_USERS_MISSING,
+    DCONFDB_USERS_UNREADABLE, /* it can't be said */
+    DCONFDB_USERS_UNKNOWN,    /* nobody looked */
+    DCONFDB_USERS_NOWHERE     /* no database is the user's */
+};
+
+/* Whether one is to be made for changes. */
+enum {
+    DCONFDB_NEED_FILE,    /* as far as the changes go */
+    DCONFDB_NEED_NOTHING, /* neither a file nor a folder: there is nothing that could be changed */
+    DCONFDB_NEED_LOOK     /* that depends on what stands there; after a look it is one of the others */
+};
+
+uint32_t dconfdb_file_need(uint32_t users, const DconfdbChange *changes, size_t n);
 
 /* The first of these changes at whose path something else is seen through the layers than through the expected ones:
  * another value, or one where none was, or the key is locked through one of them alone. Of a path that ends in '/' each

@@ -21,8 +21,8 @@ uint32_t dconfdb_profile(const uint8_t *text, size_t len, void *room, size_t roo
 void dconfdb_turn_begin(void *turn);
 void dconfdb_turn_next(const void *turn, void *step);
 void dconfdb_turn_answered(void *turn, uint32_t fault, size_t n);
-uint32_t dconfdb_change(const void *layers, size_t n, bool writable, const void *changes, size_t changes_len, uint8_t *room,
-                        size_t room_len, size_t *len, size_t *at);
+uint32_t dconfdb_change(const void *layers, size_t n, bool writable, const void *changes, size_t changes_len, const uint8_t *old,
+                        size_t old_len, uint8_t *room, size_t room_len, size_t *len, size_t *at, bool *is_same);
 void dconfdb_refresh_begin(void *refresh, size_t count, bool has_old, bool in_turn, bool is_lenient);
 uint32_t dconfdb_same_file(const void *old, const void *now, uint64_t opened, bool is_held);
 uint32_t dconfdb_owner_and_bits(const void *old, const void *above, bool is_root, bool keeps, void *given);
@@ -424,12 +424,13 @@ static void tries_change(size_t value)
 {
     _Alignas(16) uint8_t before[ROOM], after[ROOM], changes[2 * CHANGE], made[1024];
     size_t len = 0, at = 0;
+    bool is_same = true;
     opens(file, sizeof file, true, before);
     makes_change(changes, "/new/key", "text", 5, "s");
     makes_change(changes + CHANGE, "/k", "", 0, "");
     is_so(has(before, value, "/k", "x", 2), "DconfdbFound");
-    is_so(dconfdb_change(before, 1, true, changes, 2, made, sizeof made, &len, &at) == 0, "DconfdbChange");
-    is_so(len <= sizeof made, "DconfdbChange");
+    is_so(dconfdb_change(before, 1, true, changes, 2, file, sizeof file, made, sizeof made, &len, &at, &is_same) == 0, "DconfdbChange");
+    is_so(len <= sizeof made && !is_same, "DconfdbChange");
     opens(made, len, true, after);
     is_so(has(after, value, "/new/key", "text", 5) && has(after, value, "/k", NULL, 0), "DconfdbChange");
     lies("DconfdbChange", "path", PATH, LENT);

@@ -4,15 +4,13 @@
 
 #include "files.h"
 
-/* How many values and locks are read of it. */
+/* What it counts as: DCONFDB_MENDED_WHOLE and so on, and how many values and locks are read of it. */
 typedef struct {
     size_t keys, locks;
-    bool is_whole; /* it lacks nothing: dconf wrote it so */
+    uint32_t standing;
 } Saved;
 
-/* Makes a sound database of a file that is none: a database of no key, as dconf writes it, whole, and of any
- * other what the command `repair` keeps. The bytes are the caller's. It answers as the proved
- * calls do: MEMORY, TOO_BIG, and SHORT to BAD_TABLE where nothing can be read. */
+/* The sound database that a file counts as; none where it counts as nothing. The bytes are the caller's. OK, or MEMORY. */
 uint32_t repair(const FileBytes *file, FileBytes *mended, Saved *saved);
 
 #endif

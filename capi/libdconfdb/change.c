@@ -47,55 +47,63 @@ static bool change_nothing(DconfdbStore *store, Asking *asking, DconfdbError *er
     return done && store_settle_own(store, NULL, error);
 }
 
-/* `lock` is NULL where no file is to be made. */
-static bool change_if(DconfdbStore *store, const FolderLock *lock, const DconfdbSnapshot *expected, const DconfdbEdit *edits,
-                      const Made *made, size_t count, DconfdbError *error)
+bool locked_change(DconfdbStore *store, const FolderLock *lock, const DconfdbEdit *edits, const Made *made, size_t count,
+                   DconfdbError *error)
 {
     Asking asking;
     if (count == 0)
         return true;
-    if (!asking_begin(&asking, edits, made, count))
-        return refuse_memory(error);
-    asking.expected = expected;
-    bool done = store->user_file && lock ? change_in_turn(store, lock, &asking, error) : change_nothing(store, &asking, error);
-    asking_free(&asking);
-    return done;
-}
-
-bool locked_change(DconfdbStore *store, const FolderLock *lock, const DconfdbEdit *edits, const Made *made, size_t count,
-                   DconfdbError *error)
-{
     int cancels = hold_cancellation();
-    bool done = change_if(store, lock, NULL, edits, made, count, error);
+    bool done = asking_begin(&asking, edits, made, count) || refuse_memory(error);
+    if (done) {
+        done = store->user_file ? change_in_turn(store, lock, &asking, error) : change_nothing(store, &asking, error);
+        asking_free(&asking);
+    }
     cancel_as_before(cancels);
     return done;
 }
 
-/* Whether there is nothing that could be changed: no user's database, or no file of it, and nothing is set. So no
- * folder is made, and no lock's file. */
-static bool has_nothing(const DconfdbStore *store, const DconfdbEdit *edits, size_t count)
+/* What stands at the name of the user's file. */
+static uint32_t users_file(const DconfdbStore *store)
 {
     FileState state;
-    if (!store->user_file)
-        return true;
-    for (size_t i = 0; i < count; i++) {
-        if (edits[i].type)
-            return false;
-    }
-    return file_look(store->user_file, &state) == 0 && !state.is_there;
+    if (file_look(store->user_file, &state) != 0)
+        return DCONFDB_USERS_UNREADABLE;
+    return state.is_there ? DCONFDB_USERS_THERE : DCONFDB_USERS_MISSING;
+}
+
+/* Where none is made, neither is a folder, nor a lock's file. */
+static bool needs_file(const DconfdbStore *store, const Asking *asking)
+{
+    uint32_t users = store->user_file ? DCONFDB_USERS_UNKNOWN : DCONFDB_USERS_NOWHERE;
+    uint32_t need = dconfdb_file_need(users, asking->changes, asking->count);
+    if (need == DCONFDB_NEED_LOOK)
+        need = dconfdb_file_need(users_file(store), asking->changes, asking->count);
+    return need == DCONFDB_NEED_FILE;
+}
+
+static bool lock_and_change(DconfdbStore *store, Asking *asking, DconfdbError *error)
+{
+    FolderLock lock;
+    int wait = store->options.longest_wait;
+    int fault = folder_lock(store->place.folder, wait < 0 ? WITHOUT_END : wait, &lock);
+    if (fault != 0)
+        return refuse_lock(store, fault, error);
+    bool done = change_in_turn(store, &lock, asking, error);
+    folder_unlock(&lock);
+    return done;
 }
 
 static bool change(DconfdbStore *store, const DconfdbSnapshot *expected, const DconfdbEdit *edits, size_t count, DconfdbError *error)
 {
-    FolderLock lock;
-    int wait = store->options.longest_wait;
-    if (count == 0 || has_nothing(store, edits, count))
-        return change_if(store, NULL, expected, edits, NULL, count, error);
-    int fault = folder_lock(store->place.folder, wait < 0 ? WITHOUT_END : wait, &lock);
-    if (fault != 0)
-        return refuse_lock(store, fault, error);
-    bool done = change_if(store, &lock, expected, edits, NULL, count, error);
-    folder_unlock(&lock);
+    Asking asking;
+    if (count == 0)
+        return true;
+    if (!asking_begin(&asking, edits, NULL, count))
+        return refuse_memory(error);
+    asking.expected = expected;
+    bool done = needs_file(store, &asking) ? lock_and_change(store, &asking, error) : change_nothing(store, &asking, error);
+    asking_free(&asking);
     return done;
 }
 

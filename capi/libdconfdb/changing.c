@@ -19,7 +19,7 @@ typedef struct Edited {
     Asking *asking;
     DconfdbSnapshot *before; /* the turn */
     DconfdbSnapshot *newer;  /* with the new file as its first part */
-    FileBytes file;          /* the new file's, until that is its part */
+    MadeFile file;           /* its bytes are the new file's until that is its part */
 } Edited;
 
 /* The part of the new file. What was wrong with the old one is kept, as it is set aside. */
@@ -100,16 +100,15 @@ static uint32_t make_bytes(Changing *it)
 
 static uint32_t compare(Changing *it)
 {
-    const Edited *edited = it->edited;
-    return found(edits_are_made(edited->store->now, edited->asking->changes, edited->asking->count, &edited->file));
+    return found(it->edited->file.is_same);
 }
 
 /* What has to be had for the newer snapshot is had now, so that nothing fails after the file is in place. */
 static uint32_t open_new(Changing *it)
 {
     Edited *edited = it->edited;
-    FileBytes file = edited->file;
-    edited->file = (FileBytes){NULL, 0, false};
+    FileBytes file = edited->file.bytes;
+    edited->file.bytes = (FileBytes){NULL, 0, false};
     it->answer = file.len;
     edited->newer = with_part(edited->store, part_of_new(edited->store, file, it->error), it->error);
     it->new = edited->newer ? edited->newer->parts[0] : NULL;
@@ -126,7 +125,7 @@ static uint32_t make(Changing *it, bool makes_file)
     uint32_t ask = DCONFDB_MAKING_EXPECT;
     while (ask < DCONFDB_MAKING_READY)
         ask = dconfdb_making_after(makes_file, it->edited->store->is_unsettled, ask, answers[ask](it));
-    file_release(&it->edited->file);
+    file_release(&it->edited->file.bytes);
     return ask;
 }
 

@@ -1,4 +1,4 @@
-/* What the user's file is with edits, and whether it is that already. */
+/* What the user's file is with edits, and whether it is that already: by the proved calls. */
 #define _DEFAULT_SOURCE
 #define _POSIX_C_SOURCE 200809L
 #define _FILE_OFFSET_BITS 64
@@ -27,16 +27,19 @@ static size_t guess(const DconfdbStore *store, const DconfdbChange *changes, siz
     return len;
 }
 
-/* Whether a fault of a change is one of its edits. */
-static bool is_of_edit(uint32_t number)
+/* What the user's file holds. */
+static DconfdbBytes old_bytes(const DconfdbSnapshot *now)
 {
-    return (number >= DCONFDB_BAD_PATH && number <= DCONFDB_TOO_LARGE) || number == DCONFDB_BAD_VALUE;
+    const FileBytes *old = now->count > 0 ? &now->parts[0]->bytes : NULL;
+    return old ? (DconfdbBytes){bytes_of(old->at), old->len} : (DconfdbBytes)DCONFDB_NOTHING;
 }
 
-bool edits_make_file(const DconfdbStore *store, const DconfdbChange *changes, const size_t *edits, size_t count, FileBytes *file,
+bool edits_make_file(const DconfdbStore *store, const DconfdbChange *changes, const size_t *edits, size_t count, MadeFile *made,
                      DconfdbError *error)
 {
     const DconfdbSnapshot *now = store->now;
+    DconfdbBytes old = old_bytes(now);
+    FileBytes *file = &made->bytes;
     size_t len = guess(store, changes, count), room_len, at = 0;
     uint32_t number = DCONFDB_OK;
     do {
@@ -44,42 +47,22 @@ bool edits_make_file(const DconfdbStore *store, const DconfdbChange *changes, co
         *file = (FileBytes){malloc(room_len), 0, false};
         if (!file->at)
             return refuse_memory(error);
-        number = dconfdb_change(now->layers, now->count, now->is_writable, changes, count, file->at, room_len, &len, &at);
+        number = dconfdb_change(now->layers, now->count, now->is_writable, changes, count, old.at, old.len, file->at, room_len, &len, &at,
+                                &made->is_same);
         file->len = len;
         if (number == DCONFDB_OK && len <= room_len)
             return true;
         file_release(file);
     } while (number == DCONFDB_OK);
-    if (at < count && is_of_edit(number))
+    if (at < count)
         return refuse_call(error, number, (const char *)changes[at].path.at, (Place){.edit = edits[at]});
     return refuse_call(error, number, user_file_or_folder(store), nowhere);
 }
 
 bool edit_is_made(const DconfdbSnapshot *now, const DconfdbChange *change)
 {
-    DconfdbFound found = {DCONFDB_NOTHING, DCONFDB_NOTHING, 0};
-    uint8_t room[1];
-    size_t len = 0;
     bool is = false;
-    if (now->count == 0 || !now->is_writable)
-        return false;
-    const DconfdbLayer *own = &now->layers[0];
-    const uint8_t *path = change->path.at;
-    size_t path_len = change->path.len;
-    if (change->sets)
-        return dconfdb_is_stored(own, path, path_len, change->value.at, change->value.len, change->type_text.at,
-                                 change->type_text.len, &is) == DCONFDB_OK && is;
-    if (path_len > 0 && path[path_len - 1] == '/')
-        return dconfdb_list(own, 1, path, path_len, room, 0, &len) == DCONFDB_OK && len == 0;
-    return !dconfdb_read_alone(own, path, path_len, &found);
-}
-
-bool edits_are_made(const DconfdbSnapshot *now, const DconfdbChange *changes, size_t count, const FileBytes *file)
-{
-    bool are = true;
-    for (size_t i = 0; are && i < count; i++)
-        are = edit_is_made(now, &changes[i]);
-    return are || part_has_bytes(now->parts[0], file);
+    return dconfdb_is_made(now->layers, now->count, now->is_writable, change, &is) == DCONFDB_OK && is;
 }
 
 bool dconfdb_snapshot_has_edit(const DconfdbSnapshot *snapshot, const DconfdbEdit *edit)

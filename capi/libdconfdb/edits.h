@@ -7,14 +7,17 @@
 /* As the proved calls have it; the bytes stay the caller's. */
 DconfdbChange change_of_edit(const DconfdbEdit *edit);
 
-/* The user's file with the changes: the caller's, to be released. `edits`: which each of them is. */
-bool edits_make_file(const DconfdbStore *store, const DconfdbChange *changes, const size_t *edits, size_t count, FileBytes *file,
+/* The user's file with changes, and whether that says no more than was there. */
+typedef struct {
+    FileBytes bytes;
+    bool is_same;
+} MadeFile;
+
+/* Makes it: the bytes are the caller's, to be released. `edits`: which each of the changes is. */
+bool edits_make_file(const DconfdbStore *store, const DconfdbChange *changes, const size_t *edits, size_t count, MadeFile *made,
                      DconfdbError *error);
 
-/* Whether a change leaves the user's own values as they are. */
+/* Whether the user has what a change asks for. False, too, where no memory is left to know it. */
 bool edit_is_made(const DconfdbSnapshot *now, const DconfdbChange *change);
-
-/* Each by itself leaves them, so all do; or all together, as the file with them has the same bytes. */
-bool edits_are_made(const DconfdbSnapshot *now, const DconfdbChange *changes, size_t count, const FileBytes *file);
 
 #endif

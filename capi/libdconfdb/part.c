@@ -62,21 +62,20 @@ bool part_blame(Part *part, const DconfdbError *fault, DconfdbError *error)
     return true;
 }
 
-/* Reads what can be read of a file that is no sound database, instead of its bytes. */
+/* Reads what can be read of a file that is no sound database, instead of its bytes. Where nothing can the layer stays empty. */
 static bool part_mend(Part *part, const DconfdbError *fault, DconfdbError *error)
 {
-    FileBytes mended = {NULL, 0, false};
+    FileBytes mended;
     DconfdbUnsound broken = {0, 0, false};
     Saved saved;
-    uint32_t number = repair(&part->bytes, &mended, &saved);
-    if (number == DCONFDB_MEMORY)
+    if (repair(&part->bytes, &mended, &saved) != DCONFDB_OK)
         return refuse_memory(error);
     file_release(&part->bytes);
     part->bytes = mended;
-    /* Where nothing can be read the layer stays empty. */
-    if (number == DCONFDB_OK && dconfdb_open(mended.at, mended.len, true, &part->layer, &broken) != DCONFDB_OK)
-        saved = (Saved){0, 0, false};
-    if (saved.is_whole)
+    uint32_t number = mended.at ? dconfdb_open(mended.at, mended.len, true, &part->layer, &broken) : DCONFDB_OK;
+    if (number != DCONFDB_OK)
+        return refuse_call(error, number, part->name, nowhere);
+    if (saved.standing == DCONFDB_MENDED_WHOLE)
         return true;
     if (!part_blame(part, fault, error))
         return false;

@@ -65,16 +65,6 @@ static bool is_as_said(const Look *look, Part *old, size_t at)
     return old->is_known && (is_alike || may_still_be_read(old, &state));
 }
 
-/* Whether a file that begins so may be a database. A signature and a version aren't better with more
- * bytes after them. */
-static bool may_be_database(const uint8_t *head, size_t len)
-{
-    DconfdbLayer layer = DCONFDB_EMPTY_LAYER;
-    DconfdbUnsound broken = {0, 0, false};
-    uint32_t number = dconfdb_open(head, len, true, &layer, &broken);
-    return number != DCONFDB_BAD_SIGNATURE && number != DCONFDB_BAD_VERSION;
-}
-
 /* Gives the fault of the system. Cancellation is held back here, since a look that reads nothing is no cancellation point; and who opens
  * a store has held it back. */
 static int read_at(Look *look, const Asked *asked)
@@ -82,7 +72,7 @@ static int read_at(Look *look, const Asked *asked)
     bool is_in_turn = asked->turn != NO_FOLDER, is_held = !look->store->now;
     int cancels = is_held ? 0 : hold_cancellation();
     look->opened = file_clock();
-    int fault = file_read(asked->turn, is_in_turn ? look->store->own_name : asked->name, asked->maps, may_be_database,
+    int fault = file_read(asked->turn, is_in_turn ? look->store->own_name : asked->name, asked->maps, dconfdb_is_database_head,
                           LARGEST_FILE, &look->bytes, &look->state);
     if (!is_held)
         cancel_as_before(cancels);

@@ -97,16 +97,14 @@ void check_database(const Lint *lint, const char *file, FileBytes *bytes)
     DconfdbLayer layers[2] = {DCONFDB_EMPTY_LAYER, DCONFDB_EMPTY_LAYER};
     DconfdbUnsound broken = {0, 0, false}, nothing = {0, 0, false};
     FileBytes mended = {NULL, 0, false};
-    Saved saved = {0, 0, true};
+    Saved saved = {0, 0, DCONFDB_MENDED_WHOLE};
     Place at = {file, 0};
-    uint32_t number = dconfdb_open(bytes->at, bytes->len, true, &layers[1], &broken), is_mended = DCONFDB_OK;
-    if (number != DCONFDB_OK)
-        is_mended = repair(bytes, &mended, &saved);
-    if (number != DCONFDB_OK && (is_mended != DCONFDB_OK || !saved.is_whole))
+    uint32_t number = dconfdb_open(bytes->at, bytes->len, true, &layers[1], &broken), opened = number;
+    if (number != DCONFDB_OK && repair(bytes, &mended, &saved) == DCONFDB_OK && mended.at)
+        opened = dconfdb_open(mended.at, mended.len, true, &layers[1], &nothing);
+    if (saved.standing != DCONFDB_MENDED_WHOLE)
         find_fault(at, number, &broken);
-    if (number != DCONFDB_OK && is_mended == DCONFDB_OK)
-        dconfdb_open(mended.at, mended.len, true, &layers[1], &nothing);
-    if (number == DCONFDB_OK || is_mended == DCONFDB_OK)
+    if (opened == DCONFDB_OK)
         check_layer(&alone, at, layers);
     file_release(&mended);
 }

@@ -105,6 +105,19 @@ bool refuse_file(DconfdbError *error, int fault, const char *name, Place place)
     return false;
 }
 
+/* What the proved call may say: nothing where no database is the user's, and after a look that a file is to be made or not. */
+uint32_t dconfdb_file_need(uint32_t users, const DconfdbChange *changes, size_t n)
+{
+    (void)changes, (void)n;
+    CHECK(has_asking, "order: what is asked for is had");
+    CHECK((users == DCONFDB_USERS_NOWHERE) == !store.user_file, "answer: whether a database is the user's");
+    if (users == DCONFDB_USERS_NOWHERE)
+        return DCONFDB_NEED_NOTHING;
+    if (users == DCONFDB_USERS_UNKNOWN && any_bool())
+        return DCONFDB_NEED_LOOK;
+    return any_bool() ? DCONFDB_NEED_FILE : DCONFDB_NEED_NOTHING;
+}
+
 /* harness change: unwind 8, quick */
 int change_(void)
 {

@@ -79,24 +79,18 @@ bool asking_leave_out(Asking *of, const DconfdbStore *at, Order *order, const Dc
     return any_bool();
 }
 
-bool edits_make_file(const DconfdbStore *at, const DconfdbChange *of, const size_t *edits, size_t count, FileBytes *file, DconfdbError *error)
+bool edits_make_file(const DconfdbStore *at, const DconfdbChange *of, const size_t *edits, size_t count, MadeFile *made, DconfdbError *error)
 {
     (void)error;
     CHECK(at == &store && of == changes && edits == numbers && count == asking.count, "step: what is left is made");
     if (any_bool()) {
-        *file = (FileBytes){some_bytes, sizeof some_bytes, false};
+        *made = (MadeFile){{some_bytes, sizeof some_bytes, false}, any_bool()};
         has_bytes_read = true;
         return true;
     }
-    *file = (FileBytes){NULL, 0, false};
+    made->bytes = (FileBytes){NULL, 0, false};
     refused++;
     return false;
-}
-
-bool edits_are_made(const DconfdbSnapshot *now, const DconfdbChange *of, size_t count, const FileBytes *file)
-{
-    CHECK(now == &old_room && of == changes && count == asking.count && file->at == some_bytes, "step: what is there already is asked of what is seen now");
-    return any_bool();
 }
 
 Part *part_open(const Asked *asked, FileState state, FileBytes bytes, const Part *old, DconfdbError *error)
@@ -164,7 +158,7 @@ int changing_bytes(void)
 {
     set_up();
     uint32_t found_ = real_make_bytes(&it);
-    CHECK(has_bytes_read == (edited.file.at != NULL) && (found_ == DCONFDB_FOUND_YES) == has_bytes_read, "answer: bytes are there exactly if that is said");
+    CHECK(has_bytes_read == (edited.file.bytes.at != NULL) && (found_ == DCONFDB_FOUND_YES) == has_bytes_read, "answer: bytes are there exactly if that is said");
     CHECK(found_ == DCONFDB_FOUND_YES || (found_ == DCONFDB_FOUND_FAULT && refused > 0), "answer: what failed is told");
     if (has_bytes_read)
         REACHED("bytes");
@@ -176,7 +170,7 @@ static uint32_t make_bytes(Changing *at)
 {
     CHECK(at->edited->asking->count > 0 || !at->edited->lock, "step: bytes of edits that are left");
     has_bytes_read = any_bool();
-    at->edited->file = has_bytes_read ? (FileBytes){some_bytes, sizeof some_bytes, false} : (FileBytes){NULL, 0, false};
+    at->edited->file.bytes = has_bytes_read ? (FileBytes){some_bytes, sizeof some_bytes, false} : (FileBytes){NULL, 0, false};
     refused += !has_bytes_read;
     return has_bytes_read ? DCONFDB_FOUND_YES : DCONFDB_FOUND_FAULT;
 }
@@ -211,8 +205,8 @@ static bool is_opened;
 static uint32_t open_new(Changing *at)
 {
     CHECK(at->edited->lock, "step: where no file is to be made none is opened");
-    CHECK(has_bytes_read && at->edited->file.at == some_bytes, "memory: the bytes are there");
-    at->edited->file = (FileBytes){NULL, 0, false};
+    CHECK(has_bytes_read && at->edited->file.bytes.at == some_bytes, "memory: the bytes are there");
+    at->edited->file.bytes = (FileBytes){NULL, 0, false};
     has_bytes_read = false;
     is_opened = any_bool();
     refused += !is_opened;
@@ -229,7 +223,7 @@ int changing_make_(void)
     size_t asked = asking.count;
     int fault = changing_make(&it);
     CHECK(fault == 0 || fault == IS_TOLD || fault == IS_NOTHING, "answer: made, told, or nothing to be changed");
-    CHECK(!has_bytes_read && edited.file.at == NULL, "memory: the bytes are the new part's, or released");
+    CHECK(!has_bytes_read && edited.file.bytes.at == NULL, "memory: the bytes are the new part's, or released");
     CHECK((fault == 0) == is_opened, "answer: made is what was opened");
     CHECK(fault != IS_TOLD || refused > 0, "answer: what failed is told");
     CHECK(fault != IS_NOTHING || asking.count == 0 || !store.is_unsettled, "answer: what is perhaps not on the disk is written once more");

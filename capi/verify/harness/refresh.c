@@ -22,7 +22,7 @@ int file_read(int folder, const char *name, bool maps, FileWanted *is_wanted, si
     CHECK(!has_bytes_read, "memory: what was read before is a part's, or released");
     CHECK(is_users || name == store.files[0] || name == store.files[1], "step: a file of the store; in a turn the user's alone in its folder");
     CHECK(is_cancel_held(), "step: no cancellation comes while a file is open");
-    CHECK(maps == !is_users && is_wanted == may_be_database && most == LARGEST_FILE, "step: the user's file alone isn't mapped");
+    CHECK(maps == !is_users && is_wanted == dconfdb_is_database_head && most == LARGEST_FILE, "step: the user's file alone isn't mapped");
     int fault = any_fault();
     state->is_there = any_bool();
     *bytes = (FileBytes){NULL, 0, false};

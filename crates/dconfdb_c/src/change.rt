@@ -1,39 +1,80 @@
-//! The user's database with changes.
-ghost use Rattle.std.specs.Prelude.{◌≡◌, ◌≢◌, ℕ, List};
-ghost use Rattle.dconfdb_calls.specs.Changed.{IsChanged, IsNoChangeTold};
+//! The user's database with changes, and what of them is there already.
+ghost use Rattle.std.specs.Prelude.{◌≡◌, ◌≢◌, ◌↔◌, ◌⊎◌, ℕ, IsTrue, List};
+ghost use Rattle.std.specs.List.{list_any};
+ghost use Rattle.dconfdb_calls.specs.Changed.{IsChanged};
 ghost use Rattle.dconfdb_calls.specs.Given.{HandsOut};
 ghost use Rattle.dconfdb_calls.specs.Seen.{layers_of};
+ghost use Rattle.dconf_made.specs.Made.{AreMade, IsMade, IsNoChangeTold};
+ghost use Rattle.dconf_made.specs.Needs.{need_number, need_of, users_of};
 
 use dconf_layers::Layer;
-use dconfdb_calls::{DconfdbChange, hand_out, user_file};
+use dconf_made::{changed_file, is_made, need_number};
+use dconfdb_calls::{DconfdbChange, hand_out};
 use std::alloc::Global;
 
 /// The bytes of the first layer's database after all changes, each made in turn, without locks:
-/// handed out as `dconfdb_list` does. Else the number of a fault, and nothing changes but `at`: the
-/// index of the change at fault, or 0 if none is.
+/// handed out as `dconfdb_list` does. `is_same` says whether the user's database has what each of them asks for, or the bytes are
+/// `old`, those of its file. Else the number of a fault, and nothing changes but `at`: the index of the change at fault, or how many
+/// there are if none is.
 #[unsafe(no_mangle)]
 pub extern "C" fn dconfdb_change(
     alloc: Global,
     layers: &[Layer<'_>],
     writable: bool,
     changes: &[DconfdbChange<'_>],
+    old: &[u8],
     room: &mut [u8],
     len: &mut usize,
     at: &mut usize,
+    is_same: &mut bool,
 ) -> u32
-    ensures done { result ≡ 0 → (file : List ℕ) × IsChanged (layers_of layers.now writable) changes.now file × HandsOut file room.old room.new len.new }
+    ensures done { result ≡ 0 → (file : List ℕ) × IsChanged (layers_of layers.now writable) changes.now file × HandsOut file room.old room.new len.new
+        × (IsTrue is_same.new ↔ (AreMade (layers_of layers.now writable) changes.now ⊎ (file ≡ old.now))) }
     ensures silent { result ≡ 0 → at.new ≡ at.old }
     ensures refused { result ≢ 0 → IsNoChangeTold (layers_of layers.now writable) changes.now result at.new }
-    ensures kept { result ≢ 0 → (room.new ≡ room.old) × (len.new ≡ len.old) }
+    ensures kept { result ≢ 0 → (room.new ≡ room.old) × (len.new ≡ len.old) × (is_same.new ≡ is_same.old) }
 {
-    match user_file(alloc, layers, writable, changes) {
-        Ok(file) => {
-            *len = hand_out(file.as_slice(), room);
+    match changed_file(alloc, layers, writable, changes, old) {
+        Ok(changed) => {
+            *len = hand_out(changed.file.as_slice(), room);
+            *is_same = changed.is_same;
             0
         }
-        Err(refused) => {
-            *at = refused.at;
-            refused.fault.number()
+        Err(unchanged) => {
+            *at = unchanged.at;
+            unchanged.fault.number()
         }
     }
+}
+
+/// Whether the user's database, which is the first if it may be written (`writable`), has what a change asks for already: this value
+/// of the key or, if it sets nothing, none, or none below the directory. Else the number of a fault, and `is` stays as it was.
+#[unsafe(no_mangle)]
+pub extern "C" fn dconfdb_is_made(
+    alloc: Global,
+    layers: &[Layer<'_>],
+    writable: bool,
+    change: &DconfdbChange<'_>,
+    is: &mut bool,
+) -> u32
+    ensures done { result ≡ 0 → IsTrue is.new ↔ IsMade (layers_of layers.now writable) change.now }
+    ensures refused { result ≢ 0 → result ≡ 1 }
+    ensures kept { result ≢ 0 → is.new ≡ is.old }
+{
+    match is_made(alloc, layers, writable, change) {
+        Ok(made) => {
+            *is = made;
+            0
+        }
+        Err(fault) => fault.number(),
+    }
+}
+
+/// Whether a file is to be made for changes, by what stands at its name. The numbers are those of
+/// [`need_number`](dconf_made::need_number).
+#[unsafe(no_mangle)]
+pub extern "C" fn dconfdb_file_need(users: u32, changes: &[DconfdbChange<'_>]) -> u32
+    ensures { result ≡ need_number (need_of (users_of users) (list_any (λ c. c.sets) changes.now)) }
+{
+    need_number(users, changes)
 }

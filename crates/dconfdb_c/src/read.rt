@@ -1,18 +1,14 @@
 //! The value that is seen at a path, and locks.
-ghost use Rattle.std.specs.Prelude.{◌≡◌, ◌≢◌, ◌↔◌, ℕ, List, IsTrue, Some, None, false, true};
+ghost use Rattle.std.specs.Prelude.{◌≡◌, ◌↔◌, ℕ, List, IsTrue, Some, None, false, true};
 ghost use Rattle.std.specs.FinMap.{get};
 ghost use Rattle.dconf_model.specs.Layers.{is_locked, origin, place_of, visible, visible_bytes, without_user};
 ghost use Rattle.dconf_model.specs.Salvaging.{IsKeyText};
 ghost use Rattle.dconf_model.specs.Values.{held_value};
 ghost use Rattle.dconf_layers.specs.LayerSettings.{settings_of};
 ghost use Rattle.dconfdb_calls.specs.Seen.{IsHeldIn, found_value, layers_of};
-ghost use Rattle.dconfdb_calls.specs.Stored.{IsStored};
 
 use dconf_layers::Layer;
-use dconfdb_calls::{
-    DconfdbFound, is_key_locked, is_key_writable, is_stored, read, read_default, read_own,
-};
-use std::alloc::Global;
+use dconfdb_calls::{DconfdbFound, is_key_locked, is_key_writable, read, read_default, read_own};
 
 /// The effective value at a path. False if the bytes are not a key's path, and if no layer gives a
 /// value; then `found` stays as it was.
@@ -83,31 +79,6 @@ pub extern "C" fn dconfdb_read_alone<'a>(
             true
         }
         None => false,
-    }
-}
-
-/// Whether the value that a layer has at a path is this one: of the type that the text spells, and
-/// with the same in it, whatever its bytes. False also if the bytes are not a key's path, and if the
-/// text spells no type. Else the number of a fault, and `is` stays as it was.
-#[unsafe(no_mangle)]
-pub extern "C" fn dconfdb_is_stored(
-    alloc: Global,
-    layer: &Layer<'_>,
-    path: &[u8],
-    value: &[u8],
-    type_text: &[u8],
-    is: &mut bool,
-) -> u32
-    ensures done { result ≡ 0 → IsTrue is.new ↔ IsStored (settings_of layer.now) path.now value.now type_text.now }
-    ensures refused { result ≢ 0 → result ≡ 1 }
-    ensures kept { result ≢ 0 → is.new ≡ is.old }
-{
-    match is_stored(alloc, layer, path, value, type_text) {
-        Ok(stored) => {
-            *is = stored;
-            0
-        }
-        Err(fault) => fault.number(),
     }
 }
 

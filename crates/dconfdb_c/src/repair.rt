@@ -1,57 +1,45 @@
-//! A sound database of what can be saved of a file.
-ghost use Rattle.std.specs.Prelude.{◌≡◌, ◌≢◌};
-ghost use Rattle.dconfdb_calls.specs.Keyless.{IsMended, IsNotMended};
-ghost use Rattle.dconfdb_calls.specs.Salvaged.{IsRepaired, IsUnrepaired};
+//! What a database's file counts as that isn't sound.
+ghost use Rattle.std.specs.Prelude.{◌≡◌, ◌≢◌, ◌↔◌, IsTrue};
+ghost use Rattle.dconf_mended.specs.Heads.{IsHead};
+ghost use Rattle.dconf_mended.specs.Mending.{IsMendedTold};
 
-use dconfdb_calls::{hand_out, keyless_file, salvaged_file};
+use dconf_mended::{may_be_database, mended_file, standing_number};
+use dconfdb_calls::hand_out;
 use std::alloc::Global;
 
-/// A sound database of what can be saved of a file, sound or not, and how many values and locks that
-/// has: what the command `repair` writes. It is handed out as `dconfdb_list` does. Else the number
-/// of a fault, and nothing changes.
+/// What a file counts as that isn't sound: 0, the sound database that it stands for, since dconf made it of no key; 1, what the
+/// command `repair` keeps, which has so many values and locks; 2, nothing. The bytes are handed out as `dconfdb_list` does. Else the
+/// number of a fault, and nothing changes.
 #[unsafe(no_mangle)]
-pub extern "C" fn dconfdb_repair(
+pub extern "C" fn dconfdb_mend(
     alloc: Global,
     file: &[u8],
     room: &mut [u8],
     len: &mut usize,
+    standing: &mut u32,
     keys: &mut usize,
     locks: &mut usize,
 ) -> u32
-    ensures done { result ≡ 0 → IsRepaired file.now room.old room.new len.new keys.new locks.new }
-    ensures refused { result ≢ 0 → IsUnrepaired file.now result }
-    ensures kept { result ≢ 0 → (room.new ≡ room.old) × (len.new ≡ len.old) × (keys.new ≡ keys.old) × (locks.new ≡ locks.old) }
+    ensures done { result ≡ 0 → IsMendedTold file.now room.old room.new len.new standing.new keys.new locks.new }
+    ensures refused { result ≢ 0 → result ≡ 1 }
+    ensures kept { result ≢ 0 → (room.new ≡ room.old) × (len.new ≡ len.old) × (standing.new ≡ standing.old) × (keys.new ≡ keys.old) × (locks.new ≡ locks.old) }
 {
-    match salvaged_file(alloc, file) {
-        Ok(saved) => {
-            *len = hand_out(saved.file.as_slice(), room);
-            *keys = saved.keys;
-            *locks = saved.locks;
+    match mended_file(alloc, file) {
+        Ok(mended) => {
+            *len = hand_out(mended.file.as_slice(), room);
+            *standing = standing_number(mended.standing);
+            *keys = mended.keys;
+            *locks = mended.locks;
             0
         }
         Err(fault) => fault.number(),
     }
 }
 
-/// The sound database that a file stands for which dconf made of no key: its `/` has a kind and
-/// contents that dconf leaves unset, and with an empty list there it is sound. It is handed out as
-/// `dconfdb_list` does. Else the number of a fault, and nothing changes.
+/// Whether a file that begins so may be a database: the signature and the version are a database's, as far as they are there.
 #[unsafe(no_mangle)]
-pub extern "C" fn dconfdb_keyless(
-    alloc: Global,
-    file: &[u8],
-    room: &mut [u8],
-    len: &mut usize,
-) -> u32
-    ensures done { result ≡ 0 → IsMended file.now room.old room.new len.new }
-    ensures refused { result ≢ 0 → IsNotMended file.now result }
-    ensures kept { result ≢ 0 → (room.new ≡ room.old) × (len.new ≡ len.old) }
+pub extern "C" fn dconfdb_is_database_head(head: &[u8]) -> bool
+    ensures { IsTrue result ↔ IsHead head.now }
 {
-    match keyless_file(alloc, file) {
-        Ok(mended) => {
-            *len = hand_out(mended.as_slice(), room);
-            0
-        }
-        Err(fault) => fault.number(),
-    }
+    may_be_database(head)
 }

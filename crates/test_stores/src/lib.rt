@@ -15,6 +15,8 @@ mod folders;
 #[cfg(test)]
 mod machines;
 #[cfg(test)]
+mod made;
+#[cfg(test)]
 mod maps;
 #[cfg(test)]
 mod places;

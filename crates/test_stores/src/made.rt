@@ -1,0 +1,148 @@
+//! Whether the user's database has what a change asks for, and whether what is made of changes is anything new: it has 5 at `/k`. And
+//! what a bad file counts as.
+use crate::calls::layer;
+use dconf_layers::Layer;
+use dconf_made::{changed_file, is_made, need_number};
+use dconf_mended::{may_be_database, mended_file, standing_number};
+use dconfdb_calls::{DconfdbChange, Fault};
+use std::alloc::Global;
+use std::test::Fail;
+use test_rows::sample;
+
+const FIVE: &[u8] = b"\x05\0\0\0";
+
+const SIX: &[u8] = b"\x06\0\0\0";
+
+/// A change that sets a number.
+fn sets<'a>(path: &'a [u8], value: &'a [u8]) -> DconfdbChange<'a> {
+    DconfdbChange {
+        path,
+        value,
+        type_text: b"i",
+        sets: true,
+    }
+}
+
+fn resets(path: &[u8]) -> DconfdbChange<'_> {
+    DconfdbChange {
+        path,
+        value: b"",
+        type_text: b"",
+        sets: false,
+    }
+}
+
+fn has(alloc: Global, layers: &[Layer<'_>], change: DconfdbChange<'_>) -> bool {
+    matches!(is_made(alloc, layers, true, &change), Ok(true))
+}
+
+/// Whether it has a value, or none, or none below a directory.
+fn are_had(alloc: Global, layers: &[Layer<'_>]) -> bool {
+    has(alloc, layers, sets(b"/k", FIVE))
+        && !has(alloc, layers, sets(b"/k", SIX))
+        && !has(alloc, layers, sets(b"/j", FIVE))
+        && !has(alloc, layers, resets(b"/k"))
+        && has(alloc, layers, resets(b"/j"))
+        && has(alloc, layers, resets(b"j"))
+        && has(alloc, layers, resets(b"/j/"))
+        && has(alloc, layers, resets(b"//"))
+        && !has(alloc, layers, resets(b"/"))
+        && !has(alloc, &[], resets(b"/j"))
+        && matches!(is_made(alloc, layers, false, &resets(b"/j")), Ok(false))
+}
+
+/// Whether the bytes that come of changes say no more than these do.
+fn is_same(
+    alloc: Global,
+    layers: &[Layer<'_>],
+    changes: &[DconfdbChange<'_>],
+    old: &[u8],
+) -> Option<bool> {
+    match changed_file(alloc, layers, true, changes, old) {
+        Ok(made) => Some(made.is_same),
+        Err(_) => None,
+    }
+}
+
+fn are_the_same(alloc: Global, layers: &[Layer<'_>], file: &[u8]) -> bool {
+    let back = [sets(b"/k", SIX), sets(b"/k", FIVE)];
+    is_same(alloc, layers, &[sets(b"/k", FIVE)], b"") == Some(true)
+        && is_same(alloc, layers, &[resets(b"/j"), resets(b"/j/")], b"") == Some(true)
+        && is_same(alloc, layers, &[resets(b"/j"), resets(b"/k")], b"") == Some(false)
+        && is_same(alloc, layers, &back, file) == Some(true)
+        && is_same(alloc, layers, &back, b"") == Some(false)
+}
+
+/// The fault of changes, and the edit that is named: of two, 2 is none.
+fn fault_of(
+    alloc: Global,
+    layers: &[Layer<'_>],
+    changes: &[DconfdbChange<'_>],
+) -> Option<(Fault, usize)> {
+    match changed_file(alloc, layers, true, changes, b"") {
+        Ok(_) => None,
+        Err(unchanged) => Some((unchanged.fault, unchanged.at)),
+    }
+}
+
+fn are_named(alloc: Global, layers: &[Layer<'_>]) -> bool {
+    let first = [resets(b"k"), resets(b"/j")];
+    let second = [resets(b"/j"), sets(b"/j/", FIVE)];
+    fault_of(alloc, layers, &first) == Some((Fault::BadPath, 0))
+        && fault_of(alloc, layers, &second) == Some((Fault::BadPath, 1))
+        && fault_of(alloc, &[], &first).is_some()
+}
+
+/// Whether a file is to be made: 0 is one, 1 none, 2 a look.
+fn are_needed() -> bool {
+    let (some, none) = ([resets(b"/j"), sets(b"/k", FIVE)], [resets(b"/j")]);
+    need_number(0, &none) == 0
+        && need_number(1, &none) == 1
+        && need_number(1, &some) == 0
+        && need_number(2, &none) == 0
+        && need_number(3, &none) == 2
+        && need_number(3, &some) == 0
+        && need_number(4, &some) == 1
+        && need_number(3, &[]) == 2
+}
+
+/// A database of no key, in which the kind of `/` is not set.
+const UNSET: &[u8] = b"GVariant\0\0\0\0\0\0\0\0\x18\0\0\0\x3c\0\0\0\
+    \0\0\0\0\x01\0\0\0\0\0\0\0\xd4\xb5\x02\0\xff\xff\xff\xff\x3c\0\0\0\x01\0?\0\0\0\0\0\0\0\0\0/";
+
+/// What a file counts as: 0 is whole, 1 saved, 2 nothing; and how many values and locks are saved.
+fn standing(alloc: Global, file: &[u8]) -> Option<(u32, usize, usize)> {
+    match mended_file(alloc, file) {
+        Ok(it) => Some((standing_number(it.standing), it.keys, it.locks)),
+        Err(_) => None,
+    }
+}
+
+fn are_mended(alloc: Global) -> bool {
+    standing(alloc, UNSET) == Some((0, 0, 0))
+        && standing(alloc, sample("locked")) == Some((1, 1, 1))
+        && standing(alloc, b"GVariant") == Some((2, 0, 0))
+        && may_be_database(b"GVar")
+        && may_be_database(sample("locked"))
+        && may_be_database(b"GVariant\0\0\0\0\0\0\0\0\0\0\0\0\0\0\0\0")
+        && !may_be_database(b"GVariant\x01\0\0\0\0\0\0\0\0\0\0\0\0\0\0\0")
+        && !may_be_database(b"tnairaVG\0\0\0\0\0\0\0\0\0\0\0\0\0\0\0\0")
+}
+
+#[test]
+fn bad_files_count_as_they_are(rt: HostRuntime) -> Result<(), Fail> {
+    assert!(rt; are_mended(rt.alloc()));
+    Ok(())
+}
+
+#[test]
+fn what_is_there_already_is_known(rt: HostRuntime) -> Result<(), Fail> {
+    let alloc = rt.alloc();
+    let own = [layer(sample("plain"))?];
+    assert!(rt; are_had(alloc, &own) && are_named(alloc, &own) && are_needed());
+    let Ok(made) = changed_file(alloc, &own, true, &[sets(b"/k", FIVE)], b"") else {
+        return Err(Fail::new("it is not made"));
+    };
+    assert!(rt; are_the_same(alloc, &own, made.file.as_slice()));
+    Ok(())
+}
