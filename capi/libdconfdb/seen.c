@@ -1,6 +1,7 @@
 /* What a key shows while an edit of it may wait, by the proved calls. */
 #define _POSIX_C_SOURCE 200809L
 #include "seen.h"
+#include "errors.h"
 #include "locked.h"
 #include "snapshot.h"
 #include "texts.h"
@@ -51,8 +52,10 @@ char *seen_otherwise(const DconfdbSnapshot *before, const DconfdbSnapshot *after
     static DconfdbLayer no_layer = DCONFDB_EMPTY_LAYER;
     static const DconfdbSnapshot nothing = {.references = 1, .layers = &no_layer};
     DconfdbKeyAsked *asked = malloc((count + 1) * sizeof *asked);
-    if (!asked)
+    if (!asked) {
+        refuse_memory(error);
         return NULL;
+    }
     for (size_t i = 0; i < count; i++)
         asked[i] = asked_of(&keys[i]);
     Beside beside = {before ? before : &nothing, asked, count};
