@@ -51,7 +51,8 @@
  * thread. An iterator is for one thread at a time. A store must not be closed while another thread
  * uses it. After fork() a child may read and drop snapshots; it must open a store of its own before it
  * does anything else. fork() waits for no file. No call is a cancellation point: a thread that is
- * cancelled in a call ends after it, even if the call waits. No call may be made in a signal handler.
+ * cancelled in a call ends after it, even if the call waits. No call may be made in a signal handler,
+ * or be left by longjmp(): the thread's next call would write to a stack that is gone.
  *
  * STACK. A call uses up to 256 KiB of its thread's stack, most of it for deeply nested values. A
  * thread with less may die in a call.

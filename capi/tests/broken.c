@@ -7,6 +7,7 @@
 #include <dlfcn.h>
 #include <fcntl.h>
 #include <pthread.h>
+#include <setjmp.h>
 #include <signal.h>
 #include <stdatomic.h>
 #include <stdint.h>
@@ -243,6 +244,32 @@ static void called_by_a_handler(void)
         dconfdb_store_refresh(store, NULL, NULL);
 }
 
+static jmp_buf before_the_call;
+static bool jumps;
+
+/* The library's, amid a change. */
+int fsync(int file)
+{
+    if (jumps)
+        longjmp(before_the_call, 1);
+    return fdatasync(file);
+}
+
+static bool changes(void)
+{
+    DconfdbEdit edit = sets_text("/left", "mine");
+    return dconfdb_store_change(store, NULL, &edit, 1, &error);
+}
+
+static void left_by_a_jump(void)
+{
+    jumps = true;
+    if (setjmp(before_the_call) == 0)
+        TRY(changes());
+    jumps = false;
+    TRY(changes());
+}
+
 /* ---- files that are changed in place */
 
 static void cut_off(void)
@@ -283,6 +310,7 @@ static const struct {
     {"closed_while_used", "race", closed_while_used},
     {"used_by_a_child", "wrong", used_by_a_child},
     {"called_by_a_handler", "hang", called_by_a_handler},
+    {"left_by_a_jump", "hang", left_by_a_jump},
     {"cut_off", "7", cut_off},
     {"written_over", "wrong", written_over},
 };
