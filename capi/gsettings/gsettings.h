@@ -218,6 +218,10 @@ gint64 turn_next(const DconfdbBackend *self);
 /* Ends a turn that turn_take gave, be it with a fault. */
 void turn_give(DconfdbBackend *self);
 
+/* Where nothing waits any longer, as it is there without a turn: gives the turn back, now or when it is called again after the turn has
+ * come. */
+void turn_leave(DconfdbBackend *self);
+
 /* How long something that waits for its turn is waited for. Neither call takes a lock or memory. */
 typedef struct {
     DconfdbPatience time;

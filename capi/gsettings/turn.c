@@ -102,6 +102,15 @@ void turn_give(DconfdbBackend *self)
     g_clear_pointer(&self->wait, g_free);
 }
 
+/* Without a thread it has nothing, and none that waits can be called back: it wakes the worker when it has the turn. */
+void turn_leave(DconfdbBackend *self)
+{
+    if (self->wait && !self->wait->has_thread)
+        g_clear_pointer(&self->wait, g_free);
+    else if (self->wait && is_thread_over(self, self->wait, 0))
+        turn_give(self);
+}
+
 /* ---- how long it is waited for */
 
 static struct timespec changed_at(const DconfdbBackend *self)

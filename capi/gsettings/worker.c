@@ -55,15 +55,24 @@ static int sleep_of(DconfdbBackend *self)
     return is ? (int)MIN(wait, INT_MAX) : -1;
 }
 
-/* Whether there is more to do; else it has given up what waits, if something does: the program ends, and a write has failed again. */
+/* Whether there is more to do; else it has given up what waits, if something does: the program ends, and a write has failed again. A
+ * thread that waits for the turn has the backend: that is kept until then where the program goes on. */
 static bool goes_on(DconfdbBackend *self, bool ends, bool waits)
 {
+    bool is_in_line = self->wait && g_atomic_int_get(&self->is_let_go);
     g_mutex_lock(&self->lock);
-    bool goes = dconfdb_writer_goes_on(ends, waits, self->failed, self->last_try);
+    bool goes = dconfdb_writer_goes_on(ends, waits || is_in_line, self->failed, self->last_try);
     g_mutex_unlock(&self->lock);
     if (!goes && waits)
         g_atomic_int_set(&self->has_given_up, TRUE);
     return goes;
+}
+
+/* What waited was settled without the turn: others have that. */
+static void leave_line(DconfdbBackend *self)
+{
+    turn_leave(self);
+    g_atomic_int_set(&self->is_writing, FALSE);
 }
 
 /* Does what is to be done. False: the program ends, and nothing waits, or can be written. */
@@ -86,6 +95,8 @@ static bool takes_turn(DconfdbBackend *self)
         waits = store_has_waiting(self);
         g_atomic_int_set(&self->is_writing, self->again != 0 || self->wait);
     }
+    if (!waits && self->wait)
+        leave_line(self);
     return goes_on(self, ends, waits);
 }
 
