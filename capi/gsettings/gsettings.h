@@ -15,6 +15,7 @@
 #include <pthread.h>
 #include <stdatomic.h>
 #include <sys/stat.h>
+#include <unistd.h>
 
 /* ---- changes that wait (changes.c) */
 
@@ -236,7 +237,10 @@ void patience_renew(Patience *patience, const DconfdbBackend *self);
 /* ---- the thread that writes and watches (worker.c); `lock` is held */
 
 /* Whether this is a child of fork(): it has no such thread, and its parent writes what waits; so it sets nothing. `lock` may be let go. */
-bool is_forked(const DconfdbBackend *self);
+static inline bool is_forked(const DconfdbBackend *self)
+{
+    return getpid() != self->process;
+}
 
 /* Whether it sets, writes and watches: it is no such child, and hasn't ended. */
 bool is_at_work(const DconfdbBackend *self);

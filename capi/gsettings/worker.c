@@ -142,11 +142,6 @@ static void *work(void *data)
 
 /* ---- `lock` is held */
 
-bool is_forked(const DconfdbBackend *self)
-{
-    return getpid() != self->process;
-}
-
 bool is_at_work(const DconfdbBackend *self)
 {
     return !self->has_ended && !is_forked(self);

@@ -82,8 +82,7 @@ bool locks_leave(const char *locks, const char *path)
     return leave;
 }
 
-/* Of what is no key that may be written: no lock covers it, and it is no key. */
-static bool is_left(const DconfdbSnapshot *snapshot, const char *path)
+bool seen_is_left(const DconfdbSnapshot *snapshot, const char *path)
 {
     bool is_short = false;
     if (!snapshot->is_writable || dconfdb_path_kind(bytes_of(path), strlen(path), &is_short) == DCONFDB_PATH_KEY)
@@ -92,9 +91,4 @@ static bool is_left(const DconfdbSnapshot *snapshot, const char *path)
     bool is = locks_leave(locks, path);
     free(locks);
     return is;
-}
-
-bool seen_is_writable(const DconfdbSnapshot *snapshot, const char *path)
-{
-    return snapshot && (dconfdb_snapshot_is_writable(snapshot, path) || is_left(snapshot, path));
 }

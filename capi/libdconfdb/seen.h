@@ -19,8 +19,14 @@ typedef struct {
  * is left. */
 char *seen_otherwise(const DconfdbSnapshot *before, const DconfdbSnapshot *after, const SeenKey *keys, size_t count, DconfdbError *error);
 
+/* Of what is no key that may be written: no lock covers it, and it is no key. */
+bool seen_is_left(const DconfdbSnapshot *snapshot, const char *path);
+
 /* Whether a path may be written, a key's or all that is below a directory: there is a user's database, and no lock covers it. */
-bool seen_is_writable(const DconfdbSnapshot *snapshot, const char *path);
+static inline bool seen_is_writable(const DconfdbSnapshot *snapshot, const char *path)
+{
+    return snapshot && (dconfdb_snapshot_is_writable(snapshot, path) || seen_is_left(snapshot, path));
+}
 
 /* The same of any path, by its locks, as dconfdb_snapshot_locks() lists those of "/"; NULL: nothing may be written. */
 bool locks_leave(const char *locks, const char *path);
