@@ -171,6 +171,7 @@ static uint32_t make_bytes(Changing *at)
     CHECK(at->edited->asking->count > 0 || !at->edited->lock, "step: bytes of edits that are left");
     has_bytes_read = any_bool();
     at->edited->file.bytes = has_bytes_read ? (FileBytes){some_bytes, sizeof some_bytes, false} : (FileBytes){NULL, 0, false};
+    at->edited->file.is_same = any_bool();
     refused += !has_bytes_read;
     return has_bytes_read ? DCONFDB_FOUND_YES : DCONFDB_FOUND_FAULT;
 }
