@@ -238,7 +238,7 @@ int look_compare(void)
 }
 
 /* The loop, with steps as those above have it. */
-/* harness look_loop: unwind 4, loops real_files_look.0:12, with machines.c, sliced */
+/* harness look_loop: unwind 4, long, loops real_files_look.0:12, with machines.c, sliced */
 int look_loop(void)
 {
     DconfdbSnapshot *newer = NULL;
