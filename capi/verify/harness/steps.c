@@ -234,7 +234,7 @@ int change_step(void)
     return 0;
 }
 
-/* harness change_loop: unwind 19, long, with machines.c, sliced */
+/* harness change_loop: unwind 19, with machines.c, sliced */
 int change_loop(void)
 {
     set_up();
