@@ -187,14 +187,14 @@ static void are_written(size_t count)
     batch_end(&batch);
 }
 
-/* harness batch: unwind 4, loops write_in_steps.0:14 queue_first_of.1:38, with waits.c */
+/* harness batch: unwind 4, long, loops write_in_steps.0:14 queue_first_of.1:38, with waits.c */
 int batch_(void)
 {
     are_written(2);
     return 0;
 }
 
-/* harness batch_one: unwind 4, loops write_in_steps.0:9 queue_first_of.1:38, with waits.c */
+/* harness batch_one: unwind 4, long, loops write_in_steps.0:9 queue_first_of.1:38, with waits.c */
 int batch_one(void)
 {
     are_written(1);

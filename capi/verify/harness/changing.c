@@ -171,6 +171,7 @@ static uint32_t make_bytes(Changing *at)
     CHECK(at->edited->asking->count > 0 || !at->edited->lock, "step: bytes of edits that are left");
     has_bytes_read = any_bool();
     at->edited->file.bytes = has_bytes_read ? (FileBytes){some_bytes, sizeof some_bytes, false} : (FileBytes){NULL, 0, false};
+    at->edited->file.is_same = any_bool();
     refused += !has_bytes_read;
     return has_bytes_read ? DCONFDB_FOUND_YES : DCONFDB_FOUND_FAULT;
 }
@@ -180,11 +181,11 @@ int changing_open(void)
 {
     set_up();
     has_bytes_read = true;
-    edited.file = (FileBytes){some_bytes, sizeof some_bytes, false};
+    edited.file.bytes = (FileBytes){some_bytes, sizeof some_bytes, false};
     uint32_t answer = real_open_new(&it);
     bool is = answer == DCONFDB_FOUND_YES;
     CHECK(is || (answer == DCONFDB_FOUND_FAULT && refused > 0), "answer: it is opened, or what failed is told");
-    CHECK(!has_bytes_read && edited.file.at == NULL, "memory: the bytes are the new part's");
+    CHECK(!has_bytes_read && edited.file.bytes.at == NULL, "memory: the bytes are the new part's");
     CHECK(is == (edited.newer != NULL) && has_newer == is, "answer: a newer snapshot is there exactly if that is said");
     CHECK(it.answer == sizeof some_bytes, "answer: as many bytes as are to be written");
     for (size_t i = 0; !is && i < FILES; i++)
@@ -196,6 +197,10 @@ int changing_open(void)
     }
     if (is && it.new->fault && store.count == 2)
         REACHED("a bad file's successor");
+    if (is)
+        dconfdb_snapshot_unref(edited.newer);
+    for (size_t i = 0; i < FILES; i++)
+        CHECK(old_parts[i].references == 1, "memory: who had the old parts has them still");
     return 0;
 }
 

@@ -81,6 +81,17 @@ bool part_blame(Part *part, const DconfdbError *fault, DconfdbError *error)
     return is;
 }
 
+const DconfdbError *part_fault(const Part *part)
+{
+    return part->fault && !part->fault->aside ? &part->fault->error : NULL;
+}
+
+bool file_may_be_read(const char *name)
+{
+    CHECK(name == old_parts[0].name || name == old_parts[1].name, "step: an old part's file");
+    return any_bool();
+}
+
 bool part_has_bytes(const Part *part, const FileBytes *bytes)
 {
     CHECK(__CPROVER_r_ok(part, sizeof *part) && __CPROVER_r_ok(bytes, sizeof *bytes), "memory: a part and bytes");
@@ -227,7 +238,7 @@ int look_compare(void)
 }
 
 /* The loop, with steps as those above have it. */
-/* harness look_loop: unwind 4, loops real_files_look.0:12, with machines.c, sliced */
+/* harness look_loop: unwind 4, long, loops real_files_look.0:12, with machines.c, sliced */
 int look_loop(void)
 {
     DconfdbSnapshot *newer = NULL;

@@ -107,7 +107,7 @@ static inline uint32_t queue_answer(uint32_t answer, size_t at)
 enum { WAIT_BEGINNINGS = 3, WAIT_TIMES = 4, WAIT_TAKEN = 0, WAIT_MOVED = WAIT_TIMES, WAIT_GOT = 2 * WAIT_TIMES, WAIT_FAILED, WAIT_ANSWERS };
 
 static const uint32_t wait_longest[WAIT_BEGINNINGS] = {0, 2, UINT32_MAX};
-static const uint64_t wait_passed[WAIT_TIMES] = {0, 1, 2, UINT64_MAX};
+static const uint64_t wait_passed[WAIT_TIMES] = {0, 1, 2, UINT64_MAX / 1000000};
 
 /* After an answer that isn't given there, or beyond the bounds. */
 enum { BEYOND = 65535 };
