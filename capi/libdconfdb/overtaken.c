@@ -242,9 +242,20 @@ bool asking_leave_out(Asking *asking, const DconfdbStore *store, Order *order, c
     return true;
 }
 
+static bool are_one_path(const DconfdbBytes *one, const DconfdbBytes *other)
+{
+    return one->len == other->len && memcmp(one->at, other->at, one->len) == 0;
+}
+
+/* A key that is set again and again is looked up once. */
 bool asking_note(Asking *asking, const DconfdbSnapshot *now, Order *order)
 {
-    for (size_t i = 0; i < asking->count; i++)
-        asking->times[i] = (DconfdbTime){asking->asked[i].path, asking->asked[i].when, value_in(now, &asking->changes[i].path)};
+    uint64_t value = 0;
+    for (size_t i = 0; i < asking->count; i++) {
+        const DconfdbBytes *path = &asking->changes[i].path;
+        if (i == 0 || !are_one_path(path, &asking->changes[i - 1].path))
+            value = value_in(now, path);
+        asking->times[i] = (DconfdbTime){asking->asked[i].path, asking->asked[i].when, value};
+    }
     return order_note_made(order, asking->times, asking->count);
 }
