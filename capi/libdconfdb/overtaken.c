@@ -206,24 +206,44 @@ static void keep(Asking *asking)
     for (size_t i = 0; i < asking->count; i++) {
         if (asking->is_left[i])
             continue;
-        asking->changes[kept] = asking->changes[i];
-        asking->asked[kept] = asking->asked[i];
-        asking->edits[kept++] = asking->edits[i];
+        if (kept != i) {
+            asking->changes[kept] = asking->changes[i];
+            asking->asked[kept] = asking->asked[i];
+            asking->edits[kept] = asking->edits[i];
+        }
+        kept++;
     }
     asking->count = kept;
+}
+
+static bool are_one_path(const DconfdbBytes *one, const DconfdbBytes *other)
+{
+    return one->len == other->len && memcmp(one->at, other->at, one->len) == 0;
+}
+
+/* Whether a change is of the path of the one before it: a key may be set again and again. */
+static bool is_of_last_path(const Asking *asking, size_t at)
+{
+    return at > 0 && are_one_path(&asking->changes[at].path, &asking->changes[at - 1].path);
+}
+
+/* Room for the paths of this file. Those of one path after the other are one. NULL: no memory is left. */
+static char *room_for_paths(const Asking *asking, const DconfdbStore *store, Order *order)
+{
+    size_t name = order_path_size(store->own_name, 0), size = 0;
+    for (size_t i = 0; i < asking->count; i++)
+        size += name + asking->changes[i].path.len;
+    return order_room(order, size);
 }
 
 /* When each was asked for, at a path of this file, and what is known of it. False: no memory is left. */
 static bool know_all(Asking *asking, const DconfdbStore *store, Order *order, const DconfdbSnapshot *before)
 {
-    size_t size = 0;
-    for (size_t i = 0; i < asking->count; i++)
-        size += order_path_size(store->own_name, asking->changes[i].path.len);
-    char *room = order_room(order, size);
+    char *room = room_for_paths(asking, store, order);
     for (size_t i = 0; room && i < asking->count; i++) {
         DconfdbAsked *asked = &asking->asked[i];
         const DconfdbChange *change = &asking->changes[i];
-        asked->path = order_path(&room, store->own_name, &change->path);
+        asked->path = is_of_last_path(asking, i) ? asked[-1].path : order_path(&room, store->own_name, &change->path);
         asked->when = order_time(order, asked->when, store->noted);
         asked->is_own = store->is_unsettled && edit_is_made(store->now, change);
         asked->is_as_before = is_as_before(before, store->now, &change->path);
@@ -242,20 +262,15 @@ bool asking_leave_out(Asking *asking, const DconfdbStore *store, Order *order, c
     return true;
 }
 
-static bool are_one_path(const DconfdbBytes *one, const DconfdbBytes *other)
-{
-    return one->len == other->len && memcmp(one->at, other->at, one->len) == 0;
-}
-
 /* A key that is set again and again is looked up once. */
 bool asking_note(Asking *asking, const DconfdbSnapshot *now, Order *order)
 {
     uint64_t value = 0;
     for (size_t i = 0; i < asking->count; i++) {
-        const DconfdbBytes *path = &asking->changes[i].path;
-        if (i == 0 || !are_one_path(path, &asking->changes[i - 1].path))
-            value = value_in(now, path);
-        asking->times[i] = (DconfdbTime){asking->asked[i].path, asking->asked[i].when, value};
+        const DconfdbAsked *asked = &asking->asked[i];
+        if (i == 0 || asked->path.at != asked[-1].path.at)
+            value = value_in(now, &asking->changes[i].path);
+        asking->times[i] = (DconfdbTime){asked->path, asked->when, value};
     }
     return order_note_made(order, asking->times, asking->count);
 }
