@@ -991,11 +991,16 @@ uint32_t dconfdb_told(const DconfdbLayer *before, size_t before_n, const Dconfdb
                       bool is_writable, bool same_others, const DconfdbKeyAsked *asked, size_t count, uint8_t *room, size_t room_len,
                       size_t *len);
 
-/* Whether a path covers another: it is the same, or a directory above it. A path is locked, be it a key's or a directory's,
- * if a lock covers it that dconfdb_locks lists of all layers. */
-bool dconfdb_covers(const uint8_t *path, size_t path_len, const uint8_t *other, size_t other_len);
+/* The paths of which it is otherwise than before whether they may be written: keys, and directories as a whole. What is below another of them
+ * isn't told by itself. The rest is as for dconfdb_told. */
+uint32_t dconfdb_relocked(const DconfdbLayer *before, size_t before_n, const DconfdbLayer *after, size_t after_n, bool was_writable,
+                          bool is_writable, bool same_others, uint8_t *room, size_t room_len, size_t *len);
 
-/* Whether one of two paths covers the other. */
+/* Whether a path may be written, a key's or all that is below a directory: `writable`, the first layer is the user's, and no lock covers it. A
+ * path that doesn't start with `/` is locked by nobody. MEMORY, and then nothing is written. */
+uint32_t dconfdb_may_write(const DconfdbLayer *layers, size_t count, bool writable, const uint8_t *path, size_t path_len, bool *may);
+
+/* Whether one of two paths is the other, or a directory above it. */
 bool dconfdb_meets(const uint8_t *one, size_t one_len, const uint8_t *other, size_t other_len);
 
 /* What a text is as a path. */

@@ -15,7 +15,7 @@
 #include <sys/stat.h>
 #include <unistd.h>
 
-/* No more than so many bytes are read at once, whatever they begin with. */
+/* No more than so many bytes are read at once, whatever they begin with, and are never mapped. */
 #ifndef SMALL
 #define SMALL 65536
 #endif
@@ -92,9 +92,10 @@ static int look_at_head(int file, FileWanted *is_wanted, size_t *len)
     return fault == 0 && lseek(file, 0, SEEK_SET) != 0 ? errno : fault;
 }
 
-/* The bytes of an open file, of which there is at least one. */
+/* The bytes of an open file, of which there is at least one. A small one costs less to read than to map. */
 static int take(int file, bool maps, FileWanted *is_wanted, size_t len, FileBytes *bytes)
 {
+    maps = maps && len > SMALL;
     int fault = maps ? 0 : look_at_head(file, is_wanted, &len);
     if (fault != 0)
         return fault;

@@ -277,7 +277,6 @@ void watch_end(DconfdbBackend *self);
 typedef struct {
     DconfdbSnapshot *before, *after;
     bool is_first; /* the store was opened: nobody has seen another one */
-    bool had_user, has_user;
     bool waits_again;        /* what was taken could not be written */
     GQueue written, refused; /* changes of ours */
     GArray *edited;          /* keys that an edit of ours was for; NULL: none */

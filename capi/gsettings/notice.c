@@ -11,42 +11,6 @@
 /* GSettings ends the program where one notice has more than 255 keys of a schema. */
 enum { MOST_KEYS = 255 };
 
-/* What is to be told of locks. Paths are lent. A list is NULL as long as nothing is in it. */
-typedef struct {
-    DconfdbBackend *backend;
-    const Notice *notice;
-    const char *locks_before, *locks_after; /* NULL: nothing may be written */
-    char *differences;
-    GHashTable *writable;   /* keys that may be written, or no longer */
-    GPtrArray *directories; /* the same of all that is in them */
-} Telling;
-
-static void add_path(GPtrArray **paths, const char *path)
-{
-    if (!*paths)
-        *paths = g_ptr_array_new();
-    g_ptr_array_add(*paths, (gpointer)path);
-}
-
-static void add_writable(Telling *telling, const char *path)
-{
-    if (!telling->writable)
-        telling->writable = g_hash_table_new(g_str_hash, g_str_equal);
-    g_hash_table_add(telling->writable, (gpointer)path);
-}
-
-/* ---- what differs */
-
-static bool is_writable(const DconfdbSnapshot *snapshot, const char *path)
-{
-    return snapshot && dconfdb_snapshot_is_writable(snapshot, path);
-}
-
-static bool is_as_writable(const Notice *notice, const char *path)
-{
-    return is_writable(notice->before, path) == is_writable(notice->after, path);
-}
-
 /* Whether somebody listens to the path, or to a directory above it. */
 static bool is_subscribed(DconfdbBackend *self, const char *path)
 {
@@ -124,39 +88,6 @@ static char *told_of(const Notice *notice)
     return paths;
 }
 
-/* A key that the files have otherwise, or lock. */
-static void add_difference(Telling *telling, const char *path)
-{
-    if (is_subscribed(telling->backend, path) && !is_as_writable(telling->notice, path))
-        add_writable(telling, path);
-}
-
-/* Keys that no database has are locked too: by their own lock, or with all of a directory. Which
- * keys that has, only GSettings knows. */
-static void add_lock(Telling *telling, const char *path)
-{
-    if (locks_leave(telling->locks_before, path) == locks_leave(telling->locks_after, path))
-        return;
-    if (g_str_has_suffix(path, "/"))
-        add_path(&telling->directories, path);
-    else if (is_subscribed(telling->backend, path))
-        add_writable(telling, path);
-}
-
-/* The locks that are in one of two lists alone; both are in the order of their bytes. */
-static void add_locks(Telling *telling, const char *before, const char *after)
-{
-    while (*before || *after) {
-        int order = !*before ? 1 : !*after ? -1 : strcmp(before, after);
-        if (order != 0)
-            add_lock(telling, order < 0 ? before : after);
-        if (order <= 0)
-            before += strlen(before) + 1;
-        if (order >= 0)
-            after += strlen(after) + 1;
-    }
-}
-
 /* ---- who is told */
 
 /* Those that somebody listens to, without their first slash, as GSettings wants them below `/`. */
@@ -175,110 +106,34 @@ static void send_changed(DconfdbBackend *self, const char *paths)
     }
 }
 
-static bool is_below(const GPtrArray *directories, const char *path)
+/* Keys, and directories as a whole, of which it changed whether they may be written. Which keys a directory has, only GSettings knows. */
+static void send_writable(DconfdbBackend *self, const char *paths)
 {
-    for (guint i = 0; directories && i < directories->len; i++) {
-        const char *directory = directories->pdata[i];
-        if (strcmp(directory, path) != 0 && path_covers(directory, path))
-            return true;
-    }
-    return false;
-}
-
-static void send_directories(DconfdbBackend *self, const GPtrArray *directories)
-{
-    for (guint i = 0; directories && i < directories->len; i++) {
-        if (!is_below(directories, directories->pdata[i]))
-            g_settings_backend_path_writable_changed(&self->parent, directories->pdata[i]);
+    for (const char *at = paths; *at; at += strlen(at) + 1) {
+        if (g_str_has_suffix(at, "/"))
+            g_settings_backend_path_writable_changed(&self->parent, at);
+        else if (is_subscribed(self, at))
+            g_settings_backend_writable_changed(&self->parent, at);
     }
 }
 
-static void send_writable(const Telling *telling)
-{
-    GHashTableIter at;
-    gpointer path;
-    if (!telling->writable)
-        return;
-    g_hash_table_iter_init(&at, telling->writable);
-    while (g_hash_table_iter_next(&at, &path, NULL)) {
-        if (!is_below(telling->directories, path))
-            g_settings_backend_writable_changed(&telling->backend->parent, path);
-    }
-}
-
-/* ---- a notice */
-
-static char *differences_of(const Notice *notice)
-{
-    if (!notice->after || notice->before == notice->after)
-        return NULL;
-    return dconfdb_snapshot_differences(notice->after, notice->before, NULL, NULL);
-}
-
-/* NULL: nothing may be written. */
-static char *locks_of(const DconfdbSnapshot *snapshot, bool has_user)
-{
-    return snapshot && has_user ? dconfdb_snapshot_locks(snapshot, "/", NULL, NULL) : NULL;
-}
-
-/* The first database's locks lock nothing. */
-static bool has_other_locks(const DconfdbSnapshot *before, const DconfdbSnapshot *after)
-{
-    return after && before != after && !(before && have_same_others(before, after));
-}
-
-/* Keys that came to be locked, or are no longer. */
-static void add_differences(Telling *telling)
-{
-    telling->differences = differences_of(telling->notice);
-    for (const char *at = telling->differences; at && *at; at += strlen(at) + 1)
-        add_difference(telling, at);
-}
-
-/* Whose lock came or went, or all, if the user's database did. */
-static void add_all_locks(Telling *telling)
-{
-    const char *before = telling->locks_before, *after = telling->locks_after;
-    add_locks(telling, before ? before : "", after ? after : "");
-    if (telling->notice->had_user != telling->notice->has_user)
-        add_lock(telling, "/");
-}
-
-/* Of what it changed whether it may be written. */
-static void send_locks(DconfdbBackend *self, const Notice *notice)
-{
-    Telling telling = {.backend = self, .notice = notice};
-    char *before = locks_of(notice->before, notice->had_user), *after = locks_of(notice->after, notice->has_user);
-    telling.locks_before = before;
-    telling.locks_after = after;
-    add_differences(&telling);
-    add_all_locks(&telling);
-    send_directories(self, telling.directories);
-    send_writable(&telling);
-    g_clear_pointer(&telling.writable, g_hash_table_unref);
-    g_clear_pointer(&telling.directories, g_ptr_array_unref);
-    free(telling.differences);
-    free(before);
-    free(after);
-}
-
-/* Without memory all keys are told: once too often, and not too seldom. */
+/* Without memory all is told: once too often, and not too seldom. */
 static void send(DconfdbBackend *self, const Notice *notice)
 {
-    char *told = told_of(notice);
+    char *told = told_of(notice), *relocked = seen_relocked(notice->before, notice->after, NULL);
     if (told)
         send_changed(self, told);
     else
         g_settings_backend_path_changed(&self->parent, "/", NULL);
+    send_writable(self, relocked ? relocked : "/\0");
     free(told);
-    if (notice->had_user != notice->has_user || has_other_locks(notice->before, notice->after))
-        send_locks(self, notice);
+    free(relocked);
 }
 
 /* Whether something may be seen otherwise. */
 static bool is_news(const Notice *notice)
 {
-    return !notice->is_first && (notice->before != notice->after || notice->edited || notice->had_user != notice->has_user);
+    return !notice->is_first && (notice->before != notice->after || notice->edited);
 }
 
 static bool has_ended(DconfdbBackend *self)

@@ -153,7 +153,6 @@ static void hand_out(DconfdbBackend *self, Notice *notice)
     self->settled += notice->written.length + notice->refused.length;
     g_cond_broadcast(&self->settles);
     notice->before = self->now;
-    notice->had_user = self->has_user;
     notice->is_first = !self->has_opened;
     self->has_opened = true;
     if (self->store) {
@@ -163,7 +162,6 @@ static void hand_out(DconfdbBackend *self, Notice *notice)
         dconfdb_snapshot_ref(self->now);
     }
     notice->after = self->now ? dconfdb_snapshot_ref(self->now) : NULL;
-    notice->has_user = self->has_user;
 }
 
 static void renew(DconfdbBackend *self, Notice *notice)

@@ -2,6 +2,9 @@
 #include "../gsettings/catch_up.h"
 #include "libdconf.h"
 
+#include "seen.h"
+#include "paths.h"
+
 #include <stdlib.h>
 #include <string.h>
 
@@ -68,72 +71,102 @@ void notice_changed(Engine *self, DConfChangeset *changes, const gchar *tag, gbo
         send(self, prefix, paths, tag, may_be_now);
 }
 
-/* ---- what differs */
+/* ---- what others changed */
 
-/* The paths that only one of the lists has, each at most once in each: locks. */
-static void add_locks(GHashTable *into, const char *locks)
+/* Keys that this client changes, and what it says of each: that is seen already. Paths and values are lent. */
+typedef struct {
+    GArray *edits; /* of DconfdbEdit */
+    GPtrArray *paths; /* lists of the paths below directories */
+} Own;
+
+static void add_edit(const Own *own, const gchar *path, GVariant *value)
 {
-    for (const char *at = locks; at && *at; at += strlen(at) + 1) {
-        if (!g_hash_table_remove(into, at))
-            g_hash_table_add(into, g_strdup(at));
-    }
+    DconfdbEdit edit = {path, NULL, NULL, 0};
+    if (value)
+        edit = (DconfdbEdit){path, g_variant_get_type_string(value), g_variant_get_data(value), g_variant_get_size(value)};
+    g_array_append_val(own->edits, edit);
 }
 
-/* Paths of which it changed whether they may be written: those whose lock came or went, and keys below. */
-static void send_writable(Engine *self, GHashTable *paths)
+/* The reset of a directory is that of each key below it. */
+static void add_resets(const Own *own, const DconfdbSnapshot *snapshot, const gchar *directory)
 {
-    static const gchar *const itself[] = {"", NULL};
-    GHashTableIter at;
-    gpointer path;
-    g_hash_table_iter_init(&at, paths);
-    while (g_hash_table_iter_next(&at, &path, NULL)) {
-        if (!engine_is_watched(self, path))
+    char *paths = snapshot ? snapshot_paths(snapshot, directory, NULL) : NULL;
+    if (!paths)
+        return;
+    g_ptr_array_add(own->paths, paths);
+    for (const char *at = paths; *at; at += strlen(at) + 1)
+        add_edit(own, at, NULL);
+}
+
+static void add_own(const Own *own, DConfChangeset *changes, const DconfdbSnapshot *before, const DconfdbSnapshot *now)
+{
+    const gchar *prefix, *const *paths;
+    GVariant *const *values;
+    guint count = dconf_changeset_describe(changes, &prefix, &paths, &values);
+    for (guint i = 0; i < count; i++) {
+        gchar *path = g_strconcat(prefix, paths[i], NULL);
+        g_ptr_array_add(own->paths, path);
+        if (!g_str_has_suffix(path, "/")) {
+            add_edit(own, path, values[i]);
             continue;
-        send(self, path, NULL, NULL, FALSE);
-        send(self, path, itself, "", FALSE);
+        }
+        add_resets(own, before, path);
+        add_resets(own, now, path);
     }
 }
 
-/* Before a first store is open nobody knows of any. */
-static bool is_as_writable(const DconfdbSnapshot *snapshots[2], const char *path)
+/* The keys that are seen otherwise beside what this client changes; NULL: no memory is left. */
+static char *changed_by_others(const DconfdbSnapshot *before, const DconfdbSnapshot *now, DConfChangeset *changes)
 {
-    return !snapshots[0] || dconfdb_snapshot_is_writable(snapshots[0], path) == dconfdb_snapshot_is_writable(snapshots[1], path);
-}
-
-/* Sorts the keys that differ into those that others changed, and those that became locked or unlocked. */
-static void sort(const char *differences, const DconfdbSnapshot *snapshots[2], DConfChangeset *own, DConfChangeset *changed,
-                 GHashTable *writable)
-{
-    for (const char *at = differences; at && *at; at += strlen(at) + 1) {
-        if (!is_as_writable(snapshots, at))
-            g_hash_table_add(writable, g_strdup(at));
-        else if (!own || !dconf_changeset_get(own, at, NULL))
-            dconf_changeset_set(changed, at, NULL);
+    Own own = {g_array_new(FALSE, FALSE, sizeof(DconfdbEdit)), g_ptr_array_new_with_free_func(free)};
+    if (changes)
+        add_own(&own, changes, before, now);
+    SeenKey *keys = g_new(SeenKey, own.edits->len);
+    for (guint i = 0; i < own.edits->len; i++) {
+        const DconfdbEdit *edit = &g_array_index(own.edits, DconfdbEdit, i);
+        keys[i] = (SeenKey){edit->path, NULL, edit, edit};
     }
+    char *paths = seen_otherwise(before, now, keys, own.edits->len, NULL);
+    g_free(keys);
+    g_array_unref(own.edits);
+    g_ptr_array_unref(own.paths);
+    return paths;
 }
 
-/* Without a snapshot before, all that is there is told, and that it may be written. */
-static void tell_differences(Engine *self, const DconfdbSnapshot *before, const DconfdbSnapshot *now, DConfChangeset *own)
+/* ---- who is told of it */
+
+static void send_changed(Engine *self, const char *paths)
 {
     const gchar *prefix;
     DConfChangeset *changed = dconf_changeset_new();
-    GHashTable *writable = g_hash_table_new_full(g_str_hash, g_str_equal, g_free, NULL);
-    char *differences = dconfdb_snapshot_differences(now, before, NULL, NULL);
-    char *locks = before ? dconfdb_snapshot_locks(now, "/", NULL, NULL) : NULL;
-    char *locks_before = before ? dconfdb_snapshot_locks(before, "/", NULL, NULL) : NULL;
-    add_locks(writable, locks);
-    add_locks(writable, locks_before);
-    if (!before)
-        g_hash_table_add(writable, g_strdup("/"));
-    sort(differences, (const DconfdbSnapshot *[]){before, now}, own, changed, writable);
-    send_writable(self, writable);
+    for (const char *at = paths; *at; at += strlen(at) + 1)
+        dconf_changeset_set(changed, at, NULL);
     if (dconf_changeset_describe(changed, &prefix, NULL, NULL) > 0 && engine_is_watched(self, prefix))
         notice_changed(self, changed, "", FALSE);
     dconf_changeset_unref(changed);
-    g_hash_table_unref(writable);
-    free(differences);
-    free(locks);
-    free(locks_before);
+}
+
+/* Keys, and directories as a whole, of which it changed whether they may be written: their values may be others, too. */
+static void send_writable(Engine *self, const char *paths)
+{
+    static const gchar *const itself[] = {"", NULL};
+    for (const char *at = paths; *at; at += strlen(at) + 1) {
+        if (!engine_is_watched(self, at))
+            continue;
+        send(self, at, NULL, NULL, FALSE);
+        send(self, at, itself, "", FALSE);
+    }
+}
+
+/* Without a snapshot before, all that is there is told, and that it may be written. Without memory all is. */
+static void tell_differences(Engine *self, const DconfdbSnapshot *before, const DconfdbSnapshot *now, DConfChangeset *own)
+{
+    char *relocked = seen_relocked(before, now, NULL), *changed = changed_by_others(before, now, own);
+    send_writable(self, relocked && changed ? relocked : "/\0");
+    if (changed)
+        send_changed(self, changed);
+    free(relocked);
+    free(changed);
 }
 
 void notice_others(Engine *self)

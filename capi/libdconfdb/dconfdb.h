@@ -76,11 +76,11 @@
  * which is kept as NAME.user~1, or ~2 if there is one. A crash at any moment leaves the bad file or
  * the new one.
  *
- * MAPPED FILES. Databases other than the user's are mapped. So they have to be replaced by a
- * rename, as `dconfdb compile` and `dconf update` do: truncating one in place kills the programs
- * that read it, with SIGBUS, and overwriting one changes what they were lent. The user's file is
- * read into memory: however it is changed, what was lent stays as it is. But a look amid an overwriting
- * in place reads what is there by then, old bytes and new ones.
+ * MAPPED FILES. Databases other than the user's that have more than 64 KiB are mapped. So they have to be
+ * replaced by a rename, as `dconfdb compile` and `dconf update` do: truncating one in place kills the
+ * programs that read it, with SIGBUS, and overwriting one changes what they were lent. The user's file and
+ * smaller ones are read into memory: however they are changed, what was lent stays as it is. But a look
+ * amid an overwriting in place reads what is there by then, old bytes and new ones.
  *
  * A CALLER'S DUTIES. Nothing checks them. Pointers point to live objects, and are NULL only if
  * this header allows it. A struct that has a `size` is made by its initialiser. Texts end in a zero byte. No other thread changes memory that is passed to a

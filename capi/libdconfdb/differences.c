@@ -85,14 +85,12 @@ static bool is_in_its_place(const Part *old, const Part *new)
     return old != new && old->bytes.is_mapped && old->state.inode == new->state.inode && old->state.device == new->state.device;
 }
 
-/* Whether such a file was written over. Of a large one nobody has the old bytes any more. */
+/* Whether such a file was perhaps written over: nobody has the old bytes any more. */
 static bool is_written_over(const DconfdbSnapshot *before, const DconfdbSnapshot *after)
 {
     bool is = false;
-    for (size_t i = 0; !is && i < before->count; i++) {
-        const Part *old = before->parts[i], *new = after->parts[i];
-        is = is_in_its_place(old, new) && !part_had_bytes(old, &new->bytes);
-    }
+    for (size_t i = 0; !is && i < before->count; i++)
+        is = is_in_its_place(before->parts[i], after->parts[i]);
     return is;
 }
 

@@ -9,11 +9,6 @@
 #include <stdlib.h>
 #include <string.h>
 
-/* Of so many bytes of a mapped file there is a copy, to be compared if its time is another. */
-#ifndef LARGEST_COPY
-#define LARGEST_COPY 65536
-#endif
-
 static void fault_free(Fault *fault)
 {
     if (fault)
@@ -26,7 +21,6 @@ void part_unref(Part *part)
     if (part && atomic_fetch_sub(&part->references, 1) == 1) {
         file_release(&part->bytes);
         fault_free(part->fault);
-        free(part->copy);
         free(part);
     }
 }
@@ -83,17 +77,6 @@ static bool part_mend(Part *part, const DconfdbError *fault, DconfdbError *error
     return true;
 }
 
-/* Without memory there is none. */
-static void keep_copy(Part *part)
-{
-    const FileBytes *bytes = &part->bytes;
-    if (!bytes->is_mapped || bytes->len > LARGEST_COPY)
-        return;
-    part->copy = malloc(bytes->len);
-    if (part->copy)
-        memcpy(part->copy, bytes->at, bytes->len);
-}
-
 /* Opens what a file holds that is there instead of the old part's. The bytes are the part's, or are freed. */
 Part *part_open(const Asked *asked, FileState state, FileBytes bytes, const Part *old, DconfdbError *error)
 {
@@ -106,10 +89,8 @@ Part *part_open(const Asked *asked, FileState state, FileBytes bytes, const Part
     /* What is mapped may have been written over, and then it is what it was no longer. */
     const DconfdbLayer *like = old && !old->bytes.is_mapped ? &old->layer : &empty;
     uint32_t number = dconfdb_open_after(like, bytes_of(bytes.at), bytes.len, state.is_there, &part->layer, &broken);
-    if (number == DCONFDB_OK) {
-        keep_copy(part);
+    if (number == DCONFDB_OK)
         return part;
-    }
     refuse_database(asked->is_lenient ? &fault : error, number, asked->name, &broken, (Place){.database = asked->index});
     if (asked->is_lenient && part_mend(part, &fault, error))
         return part;
@@ -120,11 +101,6 @@ Part *part_open(const Asked *asked, FileState state, FileBytes bytes, const Part
 bool part_has_bytes(const Part *part, const FileBytes *bytes)
 {
     return part->bytes.len == bytes->len && (bytes->len == 0 || memcmp(part->bytes.at, bytes->at, bytes->len) == 0);
-}
-
-bool part_had_bytes(const Part *part, const FileBytes *bytes)
-{
-    return part->copy && part->bytes.len == bytes->len && memcmp(part->copy, bytes->at, bytes->len) == 0;
 }
 
 /* What is wrong with a file that has its name still. */

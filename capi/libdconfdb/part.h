@@ -25,7 +25,6 @@ typedef struct {
     FileBytes bytes;
     DconfdbLayer layer;
     Fault *fault;    /* NULL: there is none */
-    uint8_t *copy;   /* of the bytes of a small file that is mapped, as they were when it was opened; NULL: there is none */
     bool is_settled; /* this store knows that it is on the disk; under its `refreshing` */
     bool is_known;   /* a file with the same numbers is this one; under `refreshing` */
     char name[];
@@ -58,9 +57,6 @@ bool part_blame(Part *part, const DconfdbError *fault, DconfdbError *error);
 void part_forgive(Part *part);
 
 bool part_has_bytes(const Part *part, const FileBytes *bytes);
-
-/* Whether a file that was mapped has the bytes that it had when it was opened. Of a large one nobody knows it. */
-bool part_had_bytes(const Part *part, const FileBytes *bytes);
 
 /* What is wrong with a file that has its name still; NULL: nothing is. */
 const DconfdbError *part_fault(const Part *part);

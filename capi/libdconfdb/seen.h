@@ -19,22 +19,21 @@ typedef struct {
  * is left. */
 char *seen_otherwise(const DconfdbSnapshot *before, const DconfdbSnapshot *after, const SeenKey *keys, size_t count, DconfdbError *error);
 
-/* Of what is no key that may be written: no lock covers it, and it is no key. */
+/* The paths of which it is otherwise than before whether they may be written: keys, and directories as a whole; what is below another of them
+ * isn't told by itself. `before` may be NULL, and nothing might be written. They come as those of seen_otherwise() do. */
+char *seen_relocked(const DconfdbSnapshot *before, const DconfdbSnapshot *after, DconfdbError *error);
+
+/* Whether a path may be written, by all locks. Without memory it may not. */
 bool seen_is_left(const DconfdbSnapshot *snapshot, const char *path);
 
-/* Whether a path may be written, a key's or all that is below a directory: there is a user's database, and no lock covers it. */
+/* Whether a path may be written, a key's or all that is below a directory: there is a user's database, and no lock covers it. A key that may
+ * costs no list of the locks. */
 static inline bool seen_is_writable(const DconfdbSnapshot *snapshot, const char *path)
 {
     return snapshot && (dconfdb_snapshot_is_writable(snapshot, path) || seen_is_left(snapshot, path));
 }
 
-/* The same of any path, by its locks, as dconfdb_snapshot_locks() lists those of "/"; NULL: nothing may be written. */
-bool locks_leave(const char *locks, const char *path);
-
 /* Whether one is the other, or a directory above it. */
-bool path_covers(const char *path, const char *other);
-
-/* Whether one of the two covers the other. */
 bool paths_meet(const char *one, const char *other);
 
 #endif

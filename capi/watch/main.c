@@ -109,7 +109,7 @@ static bool tell(const Watching *watch, const DconfdbSnapshot *now, DconfdbError
     if (!paths)
         return false;
     for (const char *at = paths; is_told && *at; at += strlen(at) + 1) {
-        if (path_covers(watch->path, at)) {
+        if (paths_meet(watch->path, at)) {
             is_told = put_key(now, at);
             any = any || is_told;
         }

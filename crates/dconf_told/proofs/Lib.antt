@@ -1,3 +1,4 @@
 pub mod SeeingLaws
 pub mod TellingLaws
 pub mod OthersLaws
+pub mod RelockedLaws

@@ -1,3 +1,4 @@
 pub mod Types
 pub mod Seeing
 pub mod Telling
+pub mod Relocking

@@ -7,6 +7,7 @@ ghost use Rattle.dconf_told.specs.Telling.{AreTold, HasAllOthers, after_first, a
 
 use crate::alike::are_seen_alike;
 use crate::seen::{DconfdbView, DconfdbWaits};
+use crate::texts::texts_of;
 use dconf_differences::{differing, differing_first};
 use dconf_layers::{Layer, LentLayers, Texts};
 use dconf_path::KeyPath;
@@ -105,26 +106,6 @@ pub fn told_texts<'a, 'l>(
 {
     let paths = told(alloc, before, after, same_others, asked)?;
     texts_of(alloc, paths.as_slice())
-}
-
-/// The texts, a zero byte after each.
-fn texts_of(alloc: Global, texts: &[String]) -> Result<Vec<u8>, AllocError>
-    ensures { IfOk result (λ all. all.items ≡ ended (map string_bytes texts.now)) }
-{
-    let mut all = Vec::new(alloc);
-    for text in texts {
-        add_text(text.as_str(), &mut all)?;
-    }
-    Ok(all)
-}
-
-/// Adds a text and a zero byte.
-fn add_text(text: &str, all: &mut Vec<u8>) -> Result<(), AllocError>
-    ensures { OnOk result (all.new.items ≡ all.old.items ++ (text.now ++ 0 ∷ [])) }
-{
-    all.extend_from_slice(text.as_bytes())?;
-    all.push(0)?;
-    Ok(())
 }
 
 impl<'a> Telling<'a, '_> {

@@ -1,19 +1,19 @@
 //! What is seen of a key while an edit of it may wait, and which paths stand for which.
-ghost use Rattle.std.specs.Prelude.{◌≡◌, ◌≢◌, ℕ, List};
-ghost use Rattle.dconf_model.specs.Locks.{covers};
-ghost use Rattle.dconf_model.specs.Paths.{is_short};
+ghost use Rattle.std.specs.Prelude.{◌≡◌, ◌≢◌, ℕ, List, false, true};
+ghost use Rattle.dconf_model.specs.Paths.{is_short, starts_with_slash};
 ghost use Rattle.dconf_seen.specs.Covering.{meets};
-ghost use Rattle.dconf_seen.specs.Waiting.{own_by, own_number, shown_as, shown_number, word_numbered};
+ghost use Rattle.dconf_seen.specs.Waiting.{may_write, own_by, own_number, shown_as, shown_number, word_numbered};
 ghost use Rattle.dconf_texts.specs.Kinds.{kind_below, kind_number, kind_of};
+ghost use Rattle.dconf_told.specs.Relocking.{AreRelocked};
 ghost use Rattle.dconf_told.specs.Telling.{AreTold, before_in};
 ghost use Rattle.dconfdb_calls.specs.Given.{HandsOut};
 ghost use Rattle.dconfdb_calls.specs.Listed.{ended};
 ghost use Rattle.dconfdb_calls.specs.Seen.{layers_of};
 
 use dconf_layers::{Layer, LentLayers};
-use dconf_seen::{covers, meets, own_number, shown_number};
+use dconf_seen::{meets, own_number, shown_number};
 use dconf_texts::{is_short, kind_below, kind_of, number_of_kind};
-use dconf_told::{DconfdbKeyAsked, told_texts};
+use dconf_told::{DconfdbKeyAsked, may_write, relocked_texts, told_texts};
 use dconfdb_calls::{Fault, hand_out};
 use std::alloc::Global;
 
@@ -72,15 +72,60 @@ pub extern "C" fn dconfdb_told(
     }
 }
 
-/// Whether a path covers another: it is the same, or a directory above it. So a lock covers what it locks.
+/// The paths of which it is otherwise than before whether they may be written: keys, and directories as a whole. What is below another of
+/// them isn't told by itself. `same_others` is as for `dconfdb_told`, and so they are handed out.
 #[unsafe(no_mangle)]
-pub extern "C" fn dconfdb_covers(path: &[u8], other: &[u8]) -> bool
-    ensures { result ≡ covers path.now other.now }
+pub extern "C" fn dconfdb_relocked(
+    alloc: Global,
+    before: &[Layer<'_>],
+    after: &[Layer<'_>],
+    was_writable: bool,
+    is_writable: bool,
+    same_others: bool,
+    room: &mut [u8],
+    len: &mut usize,
+) -> u32
+    ensures done { result ≡ 0 → (paths : List (List ℕ)) × AreRelocked (before_in same_others (layers_of before.now was_writable) (layers_of after.now is_writable))
+        (layers_of after.now is_writable) paths × HandsOut (ended paths) room.old room.new len.new }
+    ensures refused { result ≢ 0 → result ≡ 1 }
+    ensures kept { result ≢ 0 → (room.new ≡ room.old) × (len.new ≡ len.old) }
 {
-    covers(path, other)
+    let before = LentLayers::new(was_writable, before);
+    let after = LentLayers::new(is_writable, after);
+    match relocked_texts(alloc, before, after, same_others) {
+        Ok(paths) => {
+            *len = hand_out(paths.as_slice(), room);
+            0
+        }
+        Err(_) => Fault::Memory.number(),
+    }
 }
 
-/// Whether one of two paths covers the other.
+/// Whether a path may be written, a key, or all that is below a directory: the first layer is the user's, and no lock covers it. What
+/// doesn't start with `/` is locked by nobody.
+#[unsafe(no_mangle)]
+pub extern "C" fn dconfdb_may_write(
+    alloc: Global,
+    layers: &[Layer<'_>],
+    writable: bool,
+    path: &[u8],
+    may: &mut bool,
+) -> u32
+    ensures path { result ≡ 0 → starts_with_slash path.now ≡ true → may.new ≡ may_write (layers_of layers.now writable) path.now }
+    ensures none { result ≡ 0 → starts_with_slash path.now ≡ false → may.new ≡ writable }
+    ensures refused { result ≢ 0 → result ≡ 1 }
+    ensures kept { result ≢ 0 → may.new ≡ may.old }
+{
+    match may_write(alloc, LentLayers::new(writable, layers), path) {
+        Ok(is) => {
+            *may = is;
+            0
+        }
+        Err(_) => Fault::Memory.number(),
+    }
+}
+
+/// Whether one of two paths is the other, or a directory above it.
 #[unsafe(no_mangle)]
 pub extern "C" fn dconfdb_meets(one: &[u8], other: &[u8]) -> bool
     ensures { result ≡ meets one.now other.now }

@@ -23,6 +23,8 @@ mod places;
 #[cfg(test)]
 mod questions;
 #[cfg(test)]
+mod seen;
+#[cfg(test)]
 mod stores;
 #[cfg(test)]
 mod tables;

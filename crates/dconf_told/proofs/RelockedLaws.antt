@@ -1,0 +1,286 @@
+-- What is told of locks is exactly what may be written otherwise than before.
+use Rattle.std.specs.Prelude.{◌↔◌, Contains, filter, nat_lt}
+use Rattle.std.proofs.Common.{◌≡◌, ◌≢◌, ◌⊎◌, ◌∙◌, ◌&&◌, ◌||◌, ◌++◌, ◌+◌, ◌<◌, ◌≤◌, ℕ, zero, suc, Bool, true, false, List, [], ◌∷◌, append_assoc, append-nil, drop, length, not, ap, sym, refl, subst, inl, inr, arith}
+use Rattle.std.specs.List.{list_any}
+use Rattle.std.specs.Str.{bytes_eq}
+use Rattle.std.proofs.lemmas.Bool.{and_from, and_parts, or_cases, or_left, or_right}
+use Rattle.std.proofs.lemmas.Bool.Decides.{Decides-eqb}
+use Rattle.std.proofs.lemmas.List.Folds.{list_any-append}
+use Rattle.std.proofs.lemmas.Slice.Eq.{starts_is}
+use Rattle.dconf_model.specs.Layers.{Layers, all_locks, greatest_from, locks_path}
+use Rattle.dconf_model.specs.Locks.{covers, is_below}
+use Rattle.dconf_model.specs.Order.{listing}
+use Rattle.dconf_model.specs.Paths.{ends_with_slash, starts_with_slash}
+use Rattle.dconf_model.proofs.ListingOrder.{find_text, found_text, listing_is_once_each}
+use Rattle.dconf_model.proofs.ParentLaws.{by_bool}
+use Rattle.dconf_model.proofs.PathMaps.{any_passes, no_truth, passes}
+use Rattle.dconf_model.proofs.SameBytes.{itself, other_path, path_itself, same_or_not, same_path}
+use Rattle.dconf_layers.proofs.PathTests.{any_passing}
+use Rattle.dconf_seen.specs.Waiting.{may_write}
+use Rattle.dconf_seen.proofs.CoveringLaws.{locked_is_covered}
+use Rattle.dconf_told.specs.Relocking.{AreRelocked, IsSideOf, hides, is_covered, is_other, locks_beside, locks_in, may_beside, other_beside, others_of, outermost, told_between}
+use Rattle.dconf_told.specs.declared.sides.Side.{Side}
+
+abbrev Has : List (List ℕ) → List ℕ → Type 0
+Has paths path = list_any (bytes_eq path) paths ≡ true
+
+root : List ℕ
+root = 47 ∷ []
+
+-- ---- covering
+
+covers_how : (a b : List ℕ) → covers a b ≡ true → (a ≡ b) ⊎ ((ends_with_slash a ≡ true) × (is_below b a ≡ true))
+covers_how a b is = elim (or_cases (bytes_eq a b) (ends_with_slash a && is_below b a) is) [
+  | inl same ↦ inl (same_path a b same)
+  | inr below ↦ inr (and_parts (ends_with_slash a) (is_below b a) below)
+]
+
+below_cut : (b a : List ℕ) → is_below b a ≡ true → b ≡ a ++ drop (length a) b
+below_cut b a is = (starts_is Decides-eqb b a (is_below b a) refl).0 is
+
+below_twice : (a b c : List ℕ) → is_below b a ≡ true → is_below c b ≡ true → is_below c a ≡ true
+below_twice a b c h k =
+    (starts_is Decides-eqb c a (is_below c a) refl).1 (drop (length a) b ++ drop (length b) c)
+    (below_cut c b k ∙ (ap (λ (x : List ℕ). x ++ drop (length b) c) (below_cut b a h) ∙ append_assoc a (drop (length a) b) (drop (length b) c)))
+
+covers_directory : (a b : List ℕ) → ends_with_slash a ≡ true → is_below b a ≡ true → covers a b ≡ true
+covers_directory a b ends below = or_right (bytes_eq a b) (ends_with_slash a && is_below b a) (and_from (ends_with_slash a) (is_below b a) ends below)
+
+covers_twice : (a b c : List ℕ) → covers a b ≡ true → covers b c ≡ true → covers a c ≡ true
+covers_twice a b c h k = elim (covers_how a b h) [
+  | inl same ↦ subst (λ (x : List ℕ). covers x c ≡ true) (sym same) k
+  | inr upper ↦ elim (covers_how b c k) [
+    | inl same ↦ subst (λ (x : List ℕ). covers a x ≡ true) same h
+    | inr lower ↦ covers_directory a c upper.0 (below_twice a b c upper.1 lower.1)
+  ]
+]
+
+covers_itself : (a : List ℕ) → covers a a ≡ true
+covers_itself a = or_left (bytes_eq a a) (ends_with_slash a && is_below a a) (itself a)
+
+root_covers : (p : List ℕ) → starts_with_slash p ≡ true → covers root p ≡ true
+root_covers [] e = absurd (no_truth e)
+root_covers (c ∷ p) e = covers_directory root (c ∷ p) refl (and_from (starts_with_slash (c ∷ p)) true e refl)
+
+-- ---- the outermost
+
+parts_of : (p other : List ℕ) → hides p other ≡ true → (not (bytes_eq other p) ≡ true) × (covers other p ≡ true)
+parts_of p other e = and_parts (not (bytes_eq other p)) (covers other p) e
+
+longer : (a rest b : List ℕ) → b ≡ a ++ rest → not (bytes_eq a b) ≡ true → length a < length b
+longer a [] b cut other = absurd (no_truth (sym (ap not (path_itself a b (sym (cut ∙ append-nil a)))) ∙ other))
+longer a (c ∷ rest) b cut other = subst (λ (x : List ℕ). length a < length x) (sym cut) (more a)
+  where
+    more : (xs : List ℕ) → length xs < length (xs ++ c ∷ rest)
+    more [] = omega arith
+    more (x ∷ xs) = let h = more xs in omega (arith, h)
+
+shorter : (p other : List ℕ) → hides p other ≡ true → length other < length p
+shorter p other e = elim (covers_how other p (parts_of p other e).1) [
+  | inl same ↦ absurd (no_truth (sym (ap not (path_itself other p same)) ∙ (parts_of p other e).0))
+  | inr below ↦ longer other (drop (length other) p) p (below_cut p other below.1) (parts_of p other e).0
+]
+
+kept : (paths : List (List ℕ)) → List ℕ → Bool
+kept paths path = not (is_covered paths path)
+
+abbrev IsCoveredBy : List (List ℕ) → List ℕ → Type 0
+IsCoveredBy paths p = (q : List ℕ) × Has paths q × (covers q p ≡ true)
+
+above : (paths : List (List ℕ)) (n : ℕ) (p : List ℕ) → length p ≤ n → Has paths p → IsCoveredBy (outermost paths) p
+above paths n p less has =
+    by_bool (is_covered paths p) (IsCoveredBy (outermost paths) p)
+    (λ covered. higher n less (passes (hides p) paths covered))
+    (λ free. (p, any_passing p (kept paths) paths ∙ and_from (kept paths p) (list_any (bytes_eq p) paths) (ap not free) has, covers_itself p))
+  where
+    higher : (n : ℕ) → length p ≤ n → ((q : List ℕ) × Has paths q × (hides p q ≡ true)) → IsCoveredBy (outermost paths) p
+    higher zero less w = let h = shorter p w.0 w.2 in absurd (omega (arith, less, h))
+    higher (suc n) less w =
+        let h = shorter p w.0 w.2 in
+        let r = above paths n w.0 (omega (arith, less, h)) w.1 in
+        (r.0, r.1, covers_twice r.0 w.0 p r.2 (parts_of p w.0 w.2).1)
+
+-- ---- what may be written on a side
+
+other_told : (a b : Bool) → (is_other a b ≡ true) ↔ (a ≢ b)
+other_told true true = (λ e. absurd (no_truth e), λ n. absurd (n refl))
+other_told true false = (λ e s. no_truth (sym s), λ n. refl)
+other_told false true = (λ e s. no_truth s, λ n. refl)
+other_told false false = (λ e. absurd (no_truth e), λ n. absurd (n refl))
+
+is_not : (b : Bool) → not b ≡ true → b ≡ false
+is_not true e = absurd (no_truth e)
+is_not false e = refl
+
+abbrev locked : Side → List ℕ → Bool
+locked s p = list_any (λ lock. covers lock p) (locks_beside s)
+
+as_side : (s : Side) (l : Layers) → IsSideOf s l → (p : List ℕ) → starts_with_slash p ≡ true → may_write l p ≡ may_beside s p
+as_side s l is p starts =
+    let locks = locked_is_covered l p starts ∙ ap (list_any (λ lock. covers lock p)) (sym is.locks) in
+    λ i. sym is.writable i && not (locks i)
+
+-- where a path may be written, what covers it may be
+free_above : (t : Side) (c p : List ℕ) → covers c p ≡ true → may_beside t p ≡ true → may_beside t c ≡ true
+free_above t c p above may =
+    let parts = and_parts t.writable (not (locked t p)) may in
+    let free : locked t c ≡ false = by_bool (locked t c) (locked t c ≡ false)
+    (λ yes. let w = passes (λ lock. covers lock c) (locks_beside t) yes in
+      absurd (no_truth (sym (is_not (locked t p) parts.1) ∙ any_passes (λ lock. covers lock p) (locks_beside t) w.0 w.1 (covers_twice w.0 c p w.2 above))))
+    (λ no. no) in
+    and_from t.writable (not (locked t c)) parts.0 (ap not free)
+
+itself_locked : (s : Side) (c : List ℕ) → Has (locks_beside s) c → locked s c ≡ true
+itself_locked s c has = any_passes (λ lock. covers lock c) (locks_beside s) c has (covers_itself c)
+
+not_written : (s : Side) (c : List ℕ) → locked s c ≡ true → may_beside s c ≡ false
+not_written s c e = ap (λ b. s.writable && not b) e ∙ none s.writable
+  where
+    none : (b : Bool) → (b && false) ≡ false
+    none true = refl
+    none false = refl
+
+-- ---- candidates
+
+abbrev all : Side → Side → List (List ℕ)
+all s t = locks_beside s ++ (locks_beside t ++ root ∷ [])
+
+has_left : (p : List ℕ) (xs ys : List (List ℕ)) → Has xs p → Has (xs ++ ys) p
+has_left p xs ys h = list_any-append (bytes_eq p) xs ys ∙ or_left (list_any (bytes_eq p) xs) (list_any (bytes_eq p) ys) h
+
+has_right : (p : List ℕ) (xs ys : List (List ℕ)) → Has ys p → Has (xs ++ ys) p
+has_right p xs ys h = list_any-append (bytes_eq p) xs ys ∙ or_right (list_any (bytes_eq p) xs) (list_any (bytes_eq p) ys) h
+
+has_either : (p : List ℕ) (xs ys : List (List ℕ)) → Has (xs ++ ys) p → Has xs p ⊎ Has ys p
+has_either p xs ys h = or_cases (list_any (bytes_eq p) xs) (list_any (bytes_eq p) ys) (sym (list_any-append (bytes_eq p) xs ys) ∙ h)
+
+first_all : (s t : Side) (p : List ℕ) → Has (locks_beside s) p → Has (all s t) p
+first_all s t p h = has_left p (locks_beside s) (locks_beside t ++ root ∷ []) h
+
+second_all : (s t : Side) (p : List ℕ) → Has (locks_beside t) p → Has (all s t) p
+second_all s t p h = has_right p (locks_beside s) (locks_beside t ++ root ∷ []) (has_left p (locks_beside t) (root ∷ []) h)
+
+root_all : (s t : Side) → Has (all s t) root
+root_all s t = has_right root (locks_beside s) (locks_beside t ++ root ∷ []) (has_right root (locks_beside t) (root ∷ []) refl)
+
+lock_starts : (s : Side) (l : Layers) → IsSideOf s l → (p : List ℕ) → Has (locks_beside s) p → starts_with_slash p ≡ true
+lock_starts s l is p has =
+    let found : List (List ℕ) = filter (λ lock. is_below lock root) (all_locks (drop 1 l.layers)) in
+    let there : Has found p = sym ((listing_is_once_each found).same p) ∙ subst (λ (ls : List (List ℕ)). Has ls p) is.locks has in
+    let below : is_below p root ≡ true = (and_parts (is_below p root) (list_any (bytes_eq p) (all_locks (drop 1 l.layers))) (sym (any_passing p (λ lock. is_below lock root) (all_locks (drop 1 l.layers))) ∙ there)).0 in
+    ap starts_with_slash (below_cut p root below)
+
+-- a path that may be written on one side alone is below one that covers it
+abbrev IsFrom : Side → Side → List ℕ → List ℕ → Type 0
+IsFrom s t p c = (covers c p ≡ true) × (may_beside s c ≡ false) × (may_beside t c ≡ true)
+
+source : (s t : Side) (p : List ℕ) → starts_with_slash p ≡ true → may_beside s p ≡ false → may_beside t p ≡ true →
+    (c : List ℕ) × ((Has (locks_beside s) c) ⊎ (c ≡ root)) × IsFrom s t p c
+source s t p starts shut open =
+    by_bool (locked s p) ((c : List ℕ) × ((Has (locks_beside s) c) ⊎ (c ≡ root)) × IsFrom s t p c)
+    (λ yes. let w = passes (λ lock. covers lock p) (locks_beside s) yes in
+      (w.0, inl w.1, w.2, not_written s w.0 (itself_locked s w.0 w.1), free_above t w.0 p w.2 open))
+    (λ no. (root, inr refl, root_covers p starts, nothing no, free_above t root p (root_covers p starts) open))
+  where
+    nothing : locked s p ≡ false → may_beside s root ≡ false
+    nothing no = by_bool s.writable (may_beside s root ≡ false)
+      (λ yes. absurd (no_truth (sym shut ∙ and_from s.writable (not (locked s p)) yes (ap not no))))
+      (λ none. ap (λ b. b && not (locked s root)) none)
+
+module _ (s t : Side) (l m : Layers) (first : IsSideOf s l) (second : IsSideOf t m) where
+  abbrev others : List (List ℕ)
+  others = listing (others_of s t)
+
+  other_of_list : (p : List ℕ) → Has others p → (other_beside s t p ≡ true) × Has (all s t) p
+  other_of_list p has =
+      and_parts (other_beside s t p) (list_any (bytes_eq p) (all s t))
+      (sym (any_passing p (other_beside s t) (all s t)) ∙ (sym ((listing_is_once_each (others_of s t)).same p) ∙ has))
+
+  list_of_other : (p : List ℕ) → other_beside s t p ≡ true → Has (all s t) p → Has others p
+  list_of_other p other has =
+      (listing_is_once_each (others_of s t)).same p
+      ∙ (any_passing p (other_beside s t) (all s t) ∙ and_from (other_beside s t p) (list_any (bytes_eq p) (all s t)) other has)
+
+  starts : (p : List ℕ) → Has (all s t) p → starts_with_slash p ≡ true
+  starts p has = elim (has_either p (locks_beside s) (locks_beside t ++ root ∷ []) has) [
+    | inl one ↦ lock_starts s l first p one
+    | inr more ↦ elim (has_either p (locks_beside t) (root ∷ []) more) [
+      | inl two ↦ lock_starts t m second p two
+      | inr last ↦ ap starts_with_slash (elim (or_cases (bytes_eq p root) false last) [
+        | inl same ↦ same_path p root same
+        | inr none ↦ absurd (no_truth none)
+      ])
+    ]
+  ]
+
+  other_is : (p : List ℕ) → starts_with_slash p ≡ true → (other_beside s t p ≡ true) ↔ (may_write l p ≢ may_write m p)
+  other_is p slash = (
+    λ e same. (other_told (may_beside s p) (may_beside t p)).0 e (sym (as_side s l first p slash) ∙ (same ∙ as_side t m second p slash)),
+    λ n. (other_told (may_beside s p) (may_beside t p)).1 (λ same. n (as_side s l first p slash ∙ (same ∙ sym (as_side t m second p slash)))),
+  )
+
+  covered_other : (p : List ℕ) → starts_with_slash p ≡ true → other_beside s t p ≡ true → IsCoveredBy others p
+  covered_other p slash other = go (may_beside s p) (may_beside t p) refl refl other
+    where
+      among : (x y : Side) (c : List ℕ) → Has (locks_beside x) c ⊎ (c ≡ root) → (Has (locks_beside x) c → Has (all s t) c) → Has (all s t) c
+      among x y c w each = elim w [
+        | inl has ↦ each has
+        | inr is ↦ subst (Has (all s t)) (sym is) (root_all s t)
+      ]
+
+      go : (a b : Bool) → may_beside s p ≡ a → may_beside t p ≡ b → is_other a b ≡ true → IsCoveredBy others p
+      go true true e f o = absurd (no_truth o)
+      go false false e f o = absurd (no_truth o)
+      go false true e f o =
+          let w = source s t p slash e f in
+          (w.0, list_of_other w.0 ((λ i. is_other (w.2.1 i) (w.2.2 i))) (among s t w.0 w.1 (first_all s t w.0)), w.2.0)
+      go true false e f o =
+          let w = source t s p slash f e in
+          (w.0, list_of_other w.0 ((λ i. is_other (w.2.2 i) (w.2.1 i))) (among t s w.0 w.1 (second_all s t w.0)), w.2.0)
+
+  in_outermost : (p : List ℕ) → Contains (told_between s t) p → (kept others p ≡ true) × Has others p
+  in_outermost p has =
+      and_parts (kept others p) (list_any (bytes_eq p) others)
+      (sym (any_passing p (kept others) others) ∙ (sym ((listing_is_once_each (outermost others)).same p) ∙ find_text p (told_between s t) has))
+
+  told_is : (p : List ℕ) → Contains (told_between s t) p → may_write l p ≢ may_write m p
+  told_is p has =
+      let is = other_of_list p (in_outermost p has).1 in
+      (other_is p (starts p is.1)).0 is.0
+
+  told_all : (p : List ℕ) → starts_with_slash p ≡ true → may_write l p ≢ may_write m p → list_any (λ told. covers told p) (told_between s t) ≡ true
+  told_all p slash differs =
+      let c = covered_other p slash ((other_is p slash).1 differs) in
+      let d = above others (length c.0) c.0 (omega arith) c.1 in
+      any_passes (λ told. covers told p) (told_between s t) d.0 ((listing_is_once_each (outermost others)).same d.0 ∙ d.1) (covers_twice d.0 c.0 p d.2 c.2)
+
+  told_once : (p q : List ℕ) → Contains (told_between s t) p → Contains (told_between s t) q → covers p q ≡ true → p ≡ q
+  told_once p q one two over = elim (same_or_not p q) [
+    | inl same ↦ same
+    | inr other ↦ absurd (no_truth (sym (is_not (is_covered others q) (in_outermost q two).0)
+      ∙ any_passes (hides q) others p (in_outermost p one).1 (and_from (not (bytes_eq p q)) (covers p q) (ap not (other_path p q other)) over)))
+  ]
+
+  pub relocked_between : AreRelocked l m (told_between s t)
+  relocked_between = record {
+    rising = (listing_is_once_each (outermost others)).rising;
+    otherwise = told_is;
+    all = told_all;
+    once = told_once;
+  }
+
+-- ---- where nothing is otherwise
+
+pub none_relocked : (l m : Layers) → l.writable ≡ m.writable → drop 1 l.layers ≡ drop 1 m.layers → AreRelocked l m []
+none_relocked l m writable others = record {
+  rising = tt;
+  otherwise = λ p has. absurd (none_has p has);
+  all = λ p slash differs. absurd (differs (same p));
+  once = λ p q has. absurd (none_has p has);
+}
+  where
+    none_has : (p : List ℕ) → Contains {X = List ℕ} [] p → ⊥
+    none_has p has = no_truth (find_text p [] has)
+
+    same : (p : List ℕ) → may_write l p ≡ may_write m p
+    same p = λ i. writable i && not (nat_lt 0 (greatest_from 1 (locks_path p) (others i)))

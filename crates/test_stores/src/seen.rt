@@ -1,0 +1,190 @@
+//! What is seen while edits wait, and who is told of what: over a first layer that has 5 at `/k`, and a second that has the same and locks it.
+use crate::calls::layer;
+use dconf_layers::{Layer, LentLayers};
+use dconf_seen::{Own, Shown, Word, covers, meets, own_by, own_number, shown_as, shown_number};
+use dconf_texts::{PathKind, is_short, kind_below, kind_of, number_of_kind};
+use dconf_told::{
+    DconfdbKeyAsked, DconfdbView, DconfdbWaits, are_seen_alike, may_write, relocked,
+    relocked_texts, told, told_texts,
+};
+use std::alloc::{AllocError, Global};
+use std::test::Fail;
+use test_rows::sample;
+
+const NONE: DconfdbWaits<'_> = DconfdbWaits {
+    value: b"",
+    type_text: b"",
+    waits: false,
+    sets: false,
+};
+
+/// An edit that sets a number.
+fn sets(value: &[u8]) -> DconfdbWaits<'_> {
+    DconfdbWaits {
+        value,
+        type_text: b"i",
+        waits: true,
+        sets: true,
+    }
+}
+
+const FIVE: &[u8] = b"\x05\0\0\0";
+
+const SIX: &[u8] = b"\x06\0\0\0";
+
+/// Whether the list has just this text, or none.
+fn are_these(list: Result<Vec<String>, AllocError>, text: &str) -> bool {
+    match list {
+        Ok(list) => {
+            list.len() == usize::from(!text.is_empty())
+                && list.iter().all(|it| it.as_str() == text)
+        }
+        Err(_) => false,
+    }
+}
+
+/// Whether the texts are these bytes.
+fn are_bytes(texts: Result<Vec<u8>, AllocError>, wanted: &[u8]) -> bool {
+    match texts {
+        Ok(texts) => texts.as_slice() == wanted,
+        Err(_) => false,
+    }
+}
+
+/// What is asked of `/k`, beside an edit that waited, and one that waits.
+fn asked<'a>(before: DconfdbWaits<'a>, after: DconfdbWaits<'a>) -> DconfdbKeyAsked<'a> {
+    DconfdbKeyAsked {
+        path: b"/k",
+        type_text: b"",
+        before,
+        after,
+    }
+}
+
+/// Whether `/k` is told, if it was set and is set to these.
+fn is_told(
+    alloc: Global,
+    layers: &[Layer<'_>],
+    before: DconfdbWaits<'_>,
+    after: DconfdbWaits<'_>,
+) -> bool {
+    let lent = LentLayers::new(true, layers);
+    are_these(told(alloc, lent, lent, true, &[asked(before, after)]), "/k")
+}
+
+/// Whether who listens is told of what is seen otherwise, and of nothing else.
+fn are_told(alloc: Global, own: &[Layer<'_>], both: &[Layer<'_>]) -> bool {
+    let (none, first) = (LentLayers::new(true, &[]), LentLayers::new(true, own));
+    are_these(told(alloc, none, first, false, &[]), "/k")
+        && are_these(told(alloc, first, first, false, &[]), "")
+        && are_these(told(alloc, first, LentLayers::new(true, both), false, &[]), "")
+        && are_bytes(told_texts(alloc, none, first, false, &[]), b"/k\0")
+        && is_told(alloc, own, sets(SIX), NONE)
+        && is_told(alloc, own, sets(SIX), sets(FIVE))
+        && !is_told(alloc, own, sets(FIVE), NONE)
+        && !is_told(alloc, own, sets(SIX), sets(SIX))
+        && !is_told(alloc, both, sets(SIX), NONE)
+}
+
+/// Whether who asks what may be written is told of what came to be locked, or is no longer.
+fn are_relocked(alloc: Global, own: &[Layer<'_>], both: &[Layer<'_>]) -> bool {
+    let (open, locked) = (LentLayers::new(true, own), LentLayers::new(true, both));
+    let nobodys = LentLayers::new(false, own);
+    are_these(relocked(alloc, open, locked, false), "/k")
+        && are_these(relocked(alloc, locked, open, false), "/k")
+        && are_these(relocked(alloc, locked, locked, false), "")
+        && are_these(relocked(alloc, locked, open, true), "")
+        && are_these(relocked(alloc, nobodys, locked, false), "/")
+        && are_these(relocked(alloc, nobodys, open, true), "/")
+        && are_these(relocked(alloc, nobodys, nobodys, false), "")
+        && are_bytes(relocked_texts(alloc, open, locked, false), b"/k\0")
+}
+
+/// Whether a path may be written.
+fn may(alloc: Global, writable: bool, layers: &[Layer<'_>], path: &[u8]) -> Option<bool> {
+    may_write(alloc, LentLayers::new(writable, layers), path).ok()
+}
+
+fn may_be_written(alloc: Global, both: &[Layer<'_>]) -> bool {
+    may(alloc, true, both, b"/k") == Some(false)
+        && may(alloc, true, both, b"/j") == Some(true)
+        && may(alloc, true, both, b"/") == Some(true)
+        && may(alloc, true, both, b"/k/") == Some(true)
+        && may(alloc, true, both, b"k") == Some(true)
+        && may(alloc, false, both, b"/j") == Some(false)
+}
+
+/// Whether the same is seen with such an edit as without, by who asks for a type.
+fn is_alike(alloc: Global, layers: &[Layer<'_>], edit: DconfdbWaits<'_>, of: &[u8]) -> bool {
+    let view = |edit| DconfdbView {
+        layers,
+        edit,
+        writable: true,
+    };
+    matches!(
+        are_seen_alike(alloc, view(NONE), view(edit), b"/k", of),
+        Ok(true)
+    )
+}
+
+fn are_seen(alloc: Global, own: &[Layer<'_>], both: &[Layer<'_>]) -> bool {
+    is_alike(alloc, own, sets(FIVE), b"")
+        && !is_alike(alloc, own, sets(SIX), b"i")
+        && is_alike(alloc, own, sets(SIX), b"s")
+        && is_alike(alloc, both, sets(SIX), b"")
+}
+
+/// Whether what is seen is found where it is, and the user's own.
+fn are_found() -> bool {
+    shown_as(Word::Silent, true, true, true) == Shown::Stored
+        && shown_as(Word::Sets, true, true, false) == Shown::Edit
+        && shown_as(Word::Sets, true, false, true) == Shown::Default
+        && shown_as(Word::Sets, false, true, true) == Shown::Stored
+        && shown_as(Word::Unset, true, true, true) == Shown::Default
+        && shown_as(Word::Silent, true, true, false) == Shown::Default
+        && shown_number(true, true, true, true, true) == 2
+        && own_by(Word::Silent, true) == Own::First
+        && own_by(Word::Unset, true) == Own::Nothing
+        && own_by(Word::Sets, true) == Own::Edited
+        && own_by(Word::Sets, false) == Own::Nothing
+        && own_number(false, false, true) == 0
+}
+
+fn are_covered() -> bool {
+    covers(b"/a/", b"/a/b")
+        && covers(b"/a/b", b"/a/b")
+        && !covers(b"/a", b"/a/b")
+        && !covers(b"/a/b", b"/a/")
+        && meets(b"/a/b", b"/a/")
+        && !meets(b"/a/b", b"/a/c")
+}
+
+/// Whether a text is told by what it is as a path.
+fn are_kinds() -> bool {
+    kind_of(b"/a/b") == PathKind::Key
+        && kind_of(b"/") == PathKind::Directory
+        && kind_of(b"a//") == PathKind::NotAbsolute
+        && kind_of(b"/a\0//") == PathKind::HasNul
+        && kind_of(b"/a//") == PathKind::DoubleSlash
+        && kind_below(b"") == PathKind::Directory
+        && kind_below(b"a/b") == PathKind::Key
+        && kind_below(b"/a") == PathKind::Absolute
+        && number_of_kind(PathKind::DoubleSlash) == 4
+        && is_short(b"/a")
+}
+
+#[test]
+fn who_listens_is_told(rt: HostRuntime) -> Result<(), Fail> {
+    let alloc = rt.alloc();
+    let (own, locks) = (layer(sample("plain"))?, layer(sample("locked"))?);
+    let (own, both) = ([own], [own, locks]);
+    assert!(rt; are_told(alloc, &own, &both) && are_relocked(alloc, &own, &both));
+    assert!(rt; may_be_written(alloc, &both) && are_seen(alloc, &own, &both));
+    Ok(())
+}
+
+#[test]
+fn what_is_seen_is_found(rt: HostRuntime) -> Result<(), Fail> {
+    assert!(rt; are_found() && are_covered() && are_kinds());
+    Ok(())
+}
