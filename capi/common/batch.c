@@ -102,11 +102,10 @@ static bool write_in_steps(Batch *batch, DconfdbStore *store, const Turn *turn, 
 {
     DconfdbQueue queue = {.has_marked = false};
     DconfdbNext next = {0, 0};
-    dconfdb_queue_begin(&queue);
+    dconfdb_queue_begin(&queue, batch->queued, batch->count, &next);
     for (;;) {
         uint32_t answer = DCONFDB_QUEUE_YES;
         size_t at = 0;
-        dconfdb_queue_next(&queue, batch->queued, batch->count, &next);
         switch (next.kind) {
         case DCONFDB_QUEUE_TAKE:
             take(batch, next.number);
@@ -122,7 +121,7 @@ static bool write_in_steps(Batch *batch, DconfdbStore *store, const Turn *turn, 
         default:
             return next.kind == DCONFDB_QUEUE_WRITTEN;
         }
-        dconfdb_queue_answered(&queue, batch->queued, batch->count, answer, at);
+        dconfdb_queue_answered(&queue, batch->queued, batch->count, answer, at, &next);
     }
 }
 

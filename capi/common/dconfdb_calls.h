@@ -420,18 +420,15 @@ uint32_t dconfdb_file_need(uint32_t users, const DconfdbChange *changes, size_t 
 uint32_t dconfdb_changed_since(const DconfdbLayer *expected, size_t expected_n, const DconfdbLayer *layers, size_t n,
                                const DconfdbChange *changes, size_t changes_len, bool *changed, size_t *at);
 
-/* A turn of which nothing is done yet. */
-void dconfdb_turn_begin(DconfdbTurn *turn);
-
-/* What comes next. Whatever is answered, and wherever it is cut off: a crash at any moment leaves the old bytes
- * or the new ones under NAME, whole. It ends after at most 11 steps and one for each byte. */
-void dconfdb_turn_next(const DconfdbTurn *turn, DconfdbStep *step);
+/* A turn of which nothing is done yet, and what comes first. Whatever is answered, and wherever it is cut off: a crash at any moment
+ * leaves the old bytes or the new ones under NAME, whole. It ends after at most 11 steps and one for each byte. */
+void dconfdb_turn_begin(DconfdbTurn *turn, DconfdbStep *step);
 
 /* Takes the answer to the step: a fault, or 0 and the number that the step asks for. A fault says little: the step
- * may have been done. */
-void dconfdb_turn_answered(DconfdbTurn *turn, uint32_t fault, size_t n);
+ * may have been done. And what comes next. */
+void dconfdb_turn_answered(DconfdbTurn *turn, uint32_t fault, size_t n, DconfdbStep *step);
 
-/* ---- machines: each says its next step, C carries that out and gives the answer. C owns them, and nobody but
+/* ---- machines: each says its first step, C carries that out and gives the answer, and is told the next one. C owns them, and nobody but
  * these calls writes their fields; begin with all bits 0. They can be copied. Which steps may come, whatever is
  * answered, is proved (crates/dconf_steps). */
 
@@ -462,9 +459,8 @@ enum {
 
 /* A look at so many files. `has_old`: there is an old snapshot. `in_turn`: the first file is read whatever stat()
  * says, since it is this program's turn to change it. `is_lenient`: a file that can't be read by a fault of its own counts as nothing. */
-void dconfdb_refresh_begin(DconfdbRefresh *refresh, size_t count, bool has_old, bool in_turn, bool is_lenient);
-void dconfdb_refresh_next(const DconfdbRefresh *refresh, DconfdbNext *step);
-void dconfdb_refresh_answered(DconfdbRefresh *refresh, bool yes);
+void dconfdb_refresh_begin(DconfdbRefresh *refresh, size_t count, bool has_old, bool in_turn, bool is_lenient, DconfdbNext *step);
+void dconfdb_refresh_answered(DconfdbRefresh *refresh, bool yes, DconfdbNext *step);
 
 /* What a fault of the system answers, by its kind: no, but of a lenient look a file that can't be read by a fault of its own is had, and
  * counts as nothing. */
@@ -697,11 +693,10 @@ enum {
     DCONFDB_QUEUE_LATER   /* nothing was written, by no fault of an edit */
 };
 
-void dconfdb_queue_begin(DconfdbQueue *queue);
-void dconfdb_queue_next(const DconfdbQueue *queue, const DconfdbQueued *edits, size_t count, DconfdbNext *step);
+void dconfdb_queue_begin(DconfdbQueue *queue, const DconfdbQueued *edits, size_t count, DconfdbNext *step);
 
 /* It marks edits that are left out, and changes that are refused. */
-void dconfdb_queue_answered(DconfdbQueue *queue, DconfdbQueued *edits, size_t count, uint32_t answer, size_t at);
+void dconfdb_queue_answered(DconfdbQueue *queue, DconfdbQueued *edits, size_t count, uint32_t answer, size_t at, DconfdbNext *step);
 
 /* The wait for a lock that others may have. */
 typedef struct {
@@ -727,11 +722,10 @@ enum {
 };
 
 /* A wait of so many milliseconds at most. */
-void dconfdb_wait_begin(DconfdbWait *wait, uint32_t longest);
-void dconfdb_wait_next(const DconfdbWait *wait, DconfdbNext *step);
+void dconfdb_wait_begin(DconfdbWait *wait, uint32_t longest, DconfdbNext *step);
 
 /* `passed`: the milliseconds since it began, of TAKEN and MOVED. `fault`: of FAILED. Of a pause any answer will do. */
-void dconfdb_wait_answered(DconfdbWait *wait, uint32_t answer, uint64_t passed, uint32_t fault);
+void dconfdb_wait_answered(DconfdbWait *wait, uint32_t answer, uint64_t passed, uint32_t fault, DconfdbNext *step);
 
 /* When whoever is told of changes looks at the files. All moments are of one clock, in microseconds; 0 is none. */
 typedef struct {

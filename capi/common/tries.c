@@ -49,9 +49,8 @@ int try_for(uint32_t milliseconds, bool has_end, Tries *tries, void *it)
     int fault = 0;
     if (clock_gettime(CLOCK_MONOTONIC, &began) != 0)
         return errno;
-    dconfdb_wait_begin(&wait, has_end ? milliseconds : UINT32_MAX);
-    for (;; dconfdb_wait_answered(&wait, answer, passed, (uint32_t)fault)) {
-        dconfdb_wait_next(&wait, &next);
+    dconfdb_wait_begin(&wait, has_end ? milliseconds : UINT32_MAX, &next);
+    for (;; dconfdb_wait_answered(&wait, answer, passed, (uint32_t)fault, &next)) {
         switch (next.kind) {
         case DCONFDB_WAIT_TRY:
             passed = has_end ? (passed_since(&began) - uncounted) / MILLISECOND : 0;

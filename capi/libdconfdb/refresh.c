@@ -154,8 +154,7 @@ static void read_step(Look *look, DconfdbRefresh *refresh, DconfdbNext *step, Dc
     Asked asked = asked_of(look, at);
     int fault = read_at(look, &asked);
     look->fault.code = DCONFDB_ERROR_NONE;
-    dconfdb_refresh_answered(refresh, fault == 0 || dconfdb_refresh_is_had(refresh, fault_kind(fault)));
-    dconfdb_refresh_next(refresh, step);
+    dconfdb_refresh_answered(refresh, fault == 0 || dconfdb_refresh_is_had(refresh, fault_kind(fault)), step);
     if (fault != 0)
         refuse_file(step->kind == DCONFDB_LOOK_FAILED ? error : &look->fault, fault, asked.name, (Place){.database = at});
 }
@@ -167,8 +166,8 @@ static void take_step(Look *look, DconfdbRefresh *refresh, DconfdbNext *step, Dc
         read_step(look, refresh, step, error);
         return;
     }
-    dconfdb_refresh_answered(refresh, look_at(look, step, error));
-    dconfdb_refresh_next(refresh, step);
+    bool yes = look_at(look, step, error);
+    dconfdb_refresh_answered(refresh, yes, step);
 }
 
 /* What the files hold now, by the proved steps. Gives how it ended; where that is NEWER `newer` is the snapshot. */
@@ -182,8 +181,7 @@ uint32_t files_look(const DconfdbStore *store, int turn, DconfdbSnapshot **newer
     looking.newer = NULL;
     looking.turn = turn;
     looking.bytes = (FileBytes){NULL, 0, false};
-    dconfdb_refresh_begin(&refresh, store->count, store->now != NULL, turn != NO_FOLDER, store->options.is_lenient);
-    dconfdb_refresh_next(&refresh, &step);
+    dconfdb_refresh_begin(&refresh, store->count, store->now != NULL, turn != NO_FOLDER, store->options.is_lenient, &step);
     while (step.kind < DCONFDB_LOOK_FAILED)
         take_step(&looking, &refresh, &step, error);
     if (step.kind != DCONFDB_LOOK_NEWER) {

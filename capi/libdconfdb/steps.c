@@ -101,9 +101,9 @@ static uint32_t carry_out(Changing *it)
 
 void changing_run(Changing *it)
 {
-    dconfdb_turn_begin(&it->turn);
-    for (dconfdb_turn_next(&it->turn, &it->step); it->step.kind != DCONFDB_TURN_DONE; dconfdb_turn_next(&it->turn, &it->step)) {
+    dconfdb_turn_begin(&it->turn, &it->step);
+    while (it->step.kind != DCONFDB_TURN_DONE) {
         uint32_t fault = carry_out(it);
-        dconfdb_turn_answered(&it->turn, fault, it->answer);
+        dconfdb_turn_answered(&it->turn, fault, it->answer, &it->step);
     }
 }

@@ -6,9 +6,9 @@ ghost use Rattle.dconf_verdicts.specs.Faults.{kind_of};
 
 use dconf_steps::{NextStep, RefreshRecord};
 
-/// A look at so many files, of which nothing is done yet. `has_old`: there is an old snapshot.
-/// `in_turn`: the first file is read whatever the host says of it. `is_lenient`: what can't be read by a
-/// fault of its own counts as nothing.
+/// A look at so many files, of which nothing is done yet, and what comes first. `has_old`: there is an old
+/// snapshot. `in_turn`: the first file is read whatever the host says of it. `is_lenient`: what can't be
+/// read by a fault of its own counts as nothing.
 #[unsafe(no_mangle)]
 pub extern "C" fn dconfdb_refresh_begin(
     refresh: &mut RefreshRecord,
@@ -16,26 +16,27 @@ pub extern "C" fn dconfdb_refresh_begin(
     has_old: bool,
     in_turn: bool,
     is_lenient: bool,
+    step: &mut NextStep,
 )
-    ensures { IsRefreshBegun count has_old in_turn is_lenient (look_of refresh.new) }
+    ensures begun { IsRefreshBegun count has_old in_turn is_lenient (look_of refresh.new) }
+    ensures step { IsLookTold (look_step (look_of refresh.new)) step.new }
 {
     *refresh = RefreshRecord::begin(count, has_old, in_turn, is_lenient);
-}
-
-/// What comes next.
-#[unsafe(no_mangle)]
-pub extern "C" fn dconfdb_refresh_next(refresh: &RefreshRecord, step: &mut NextStep)
-    ensures { IsLookTold (look_step (look_of refresh.now)) step.new }
-{
     *step = refresh.next();
 }
 
-/// Takes the answer to the step, yes or no.
+/// Takes the answer to the step, yes or no. And what comes next.
 #[unsafe(no_mangle)]
-pub extern "C" fn dconfdb_refresh_answered(refresh: &mut RefreshRecord, yes: bool)
-    ensures { IsLookAnswered (look_of refresh.old) yes (look_of refresh.new) }
+pub extern "C" fn dconfdb_refresh_answered(
+    refresh: &mut RefreshRecord,
+    yes: bool,
+    step: &mut NextStep,
+)
+    ensures taken { IsLookAnswered (look_of refresh.old) yes (look_of refresh.new) }
+    ensures step { IsLookTold (look_step (look_of refresh.new)) step.new }
 {
     refresh.answered(yes);
+    *step = refresh.next();
 }
 
 /// What a fault of the host answers to the step, by its kind: no, but to a lenient look a file's own fault

@@ -5,32 +5,33 @@ ghost use Rattle.dconf_steps.specs.Queues.{IsQueueAnswered, queue_step, taking};
 
 use dconf_steps::{NextStep, QueueRecord, QueuedEdit};
 
-/// Nothing is done yet.
+/// Nothing is done yet of these edits; and what comes first.
 #[unsafe(no_mangle)]
-pub extern "C" fn dconfdb_queue_begin(queue: &mut QueueRecord)
-    ensures { queue_of queue.new ≡ taking }
+pub extern "C" fn dconfdb_queue_begin(
+    queue: &mut QueueRecord,
+    edits: &[QueuedEdit],
+    step: &mut NextStep,
+)
+    ensures begun { queue_of queue.new ≡ taking }
+    ensures step { IsQueueTold (queue_step (queue_of queue.new) edits.now) step.new }
 {
     *queue = QueueRecord::begin();
-}
-
-/// What comes next, of these edits.
-#[unsafe(no_mangle)]
-pub extern "C" fn dconfdb_queue_next(queue: &QueueRecord, edits: &[QueuedEdit], step: &mut NextStep)
-    ensures { IsQueueTold (queue_step (queue_of queue.now) edits.now) step.new }
-{
     *step = queue.next(edits);
 }
 
 /// Takes the answer to the step: 0 yes, 1 locked, 2 a fault of the edit `at`, else later. It marks
-/// edits that are left out, and changes that are refused.
+/// edits that are left out, and changes that are refused. And what comes next.
 #[unsafe(no_mangle)]
 pub extern "C" fn dconfdb_queue_answered(
     queue: &mut QueueRecord,
     edits: &mut [QueuedEdit],
     answer: u32,
     at: usize,
+    step: &mut NextStep,
 )
-    ensures { IsQueueAnswered (queue_of queue.old) edits.old (queue_answer_of answer at) (queue_of queue.new) edits.new }
+    ensures taken { IsQueueAnswered (queue_of queue.old) edits.old (queue_answer_of answer at) (queue_of queue.new) edits.new }
+    ensures step { IsQueueTold (queue_step (queue_of queue.new) edits.new) step.new }
 {
     queue.answered(edits, answer, at);
+    *step = queue.next(edits);
 }

@@ -5,26 +5,27 @@ ghost use Rattle.dconf_turn.specs.Progress.{IsAnswered, IsBegun};
 
 use dconf_turn::{StepRecord, TurnRecord};
 
-/// A turn of which nothing is done yet.
+/// A turn of which nothing is done yet, and what comes first.
 #[unsafe(no_mangle)]
-pub extern "C" fn dconfdb_turn_begin(turn: &mut TurnRecord)
-    ensures { IsBegun (turn_of turn.new) }
+pub extern "C" fn dconfdb_turn_begin(turn: &mut TurnRecord, step: &mut StepRecord)
+    ensures begun { IsBegun (turn_of turn.new) }
+    ensures step { IsStepTold (step_of (turn_of turn.new)) step.new }
 {
     *turn = TurnRecord::begin();
-}
-
-/// What comes next.
-#[unsafe(no_mangle)]
-pub extern "C" fn dconfdb_turn_next(turn: &TurnRecord, step: &mut StepRecord)
-    ensures { IsStepTold (step_of (turn_of turn.now)) step.new }
-{
     *step = turn.next();
 }
 
-/// Takes the answer to the step: a fault, or 0 and the number that the step asks for.
+/// Takes the answer to the step: a fault, or 0 and the number that the step asks for. And what comes next.
 #[unsafe(no_mangle)]
-pub extern "C" fn dconfdb_turn_answered(turn: &mut TurnRecord, fault: u32, n: usize)
-    ensures { IsAnswered (turn_of turn.old) (answer_of fault n) (turn_of turn.new) }
+pub extern "C" fn dconfdb_turn_answered(
+    turn: &mut TurnRecord,
+    fault: u32,
+    n: usize,
+    step: &mut StepRecord,
+)
+    ensures taken { IsAnswered (turn_of turn.old) (answer_of fault n) (turn_of turn.new) }
+    ensures step { IsStepTold (step_of (turn_of turn.new)) step.new }
 {
     turn.answered(fault, n);
+    *step = turn.next();
 }
