@@ -1,30 +1,42 @@
 -- What is told of locks is exactly what may be written otherwise than before.
-use Rattle.std.specs.Prelude.{◌↔◌, Contains, filter, nat_lt}
-use Rattle.std.proofs.Common.{◌≡◌, ◌≢◌, ◌⊎◌, ◌∙◌, ◌&&◌, ◌||◌, ◌++◌, ◌+◌, ◌<◌, ◌≤◌, ℕ, zero, suc, Bool, true, false, List, [], ◌∷◌, append_assoc, append-nil, drop, length, not, ap, sym, refl, subst, inl, inr, arith}
-use Rattle.std.specs.List.{list_any}
+use Rattle.std.specs.Prelude.{◌↔◌, Contains, Err, Ok, Result, filter, is_ok, map, nat_lt, string_bytes}
+use Rattle.std.proofs.Common.{◌≡◌, ◌≢◌, ◌⊎◌, ◌∙◌, ◌&&◌, ◌||◌, ◌++◌, ◌+◌, ◌<◌, ◌≤◌, ℕ, zero, suc, Bool, true, false, cond, List, [], ◌∷◌, append_assoc, append-nil, drop, length, not, ap, sym, refl, subst, inl, inr, arith}
+use Rattle.std.specs.Cmp.Lexicographic.{slice_cmp}
+use Rattle.std.specs.List.{HoldsAt, list_any}
+use Rattle.std.specs.List.Sorted.{IsBinarySearchResult, IsSearchInRange}
+use Rattle.std.specs.Ordering.{is_eq, nat_cmp}
 use Rattle.std.specs.Str.{bytes_eq}
+use Rattle.std.specs.declared.alloc.Global.{Global}
+use Rattle.std.specs.declared.cmp.Ordering.TheVariants.{Equal}
+use Rattle.std.specs.declared.string.String.{String}
 use Rattle.std.proofs.lemmas.Bool.{and_from, and_parts, or_cases, or_left, or_right}
 use Rattle.std.proofs.lemmas.Bool.Decides.{Decides-eqb}
 use Rattle.std.proofs.lemmas.List.Folds.{list_any-append}
+use Rattle.std.proofs.lemmas.List.Elements.{filter-append}
+use Rattle.std.proofs.lemmas.List.Sums.{fold-append}
+use Rattle.std.proofs.lemmas.Map.Text.{is_eq-slice_cmp}
 use Rattle.std.proofs.lemmas.Slice.Eq.{starts_is}
 use Rattle.dconf_model.specs.Layers.{Layers, all_locks, greatest_from, locks_path}
 use Rattle.dconf_model.specs.Locks.{covers, is_below}
 use Rattle.dconf_model.specs.Order.{listing}
-use Rattle.dconf_model.specs.Paths.{ends_with_slash, starts_with_slash}
+use Rattle.dconf_model.specs.Paths.{ends_with_slash, has_two_slashes, is_directory_path, starts_with_slash}
+use Rattle.dconf_model.specs.Settings.{Settings}
 use Rattle.dconf_model.proofs.ListingOrder.{find_text, found_text, listing_is_once_each}
 use Rattle.dconf_model.proofs.ParentLaws.{by_bool}
 use Rattle.dconf_model.proofs.PathMaps.{any_passes, no_truth, passes}
 use Rattle.dconf_model.proofs.SameBytes.{itself, other_path, path_itself, same_or_not, same_path}
+use Rattle.dconf_layers.specs.TextSets.{TextSet, with_text, with_texts}
 use Rattle.dconf_layers.proofs.PathTests.{any_passing}
 use Rattle.dconf_seen.specs.Waiting.{may_write}
 use Rattle.dconf_seen.proofs.CoveringLaws.{locked_is_covered}
-use Rattle.dconf_told.specs.Relocking.{AreRelocked, IsSideOf, hides, is_covered, is_other, locks_beside, locks_in, may_beside, other_beside, others_of, outermost, told_between}
+use Rattle.dconf_told.specs.Relocking.{AreRelocked, IsSideOf, have_same, hides, is_covered, is_other, locks_beside, locks_in, may_beside, other_beside, others_of, outermost, told_between}
+use Rattle.dconf_told.specs.Telling.{before_in, first_before}
 use Rattle.dconf_told.specs.declared.sides.Side.{Side}
 
 abbrev Has : List (List ℕ) → List ℕ → Type 0
 Has paths path = list_any (bytes_eq path) paths ≡ true
 
-root : List ℕ
+abbrev root : List ℕ
 root = 47 ∷ []
 
 -- ---- covering
@@ -60,7 +72,7 @@ covers_itself a = or_left (bytes_eq a a) (ends_with_slash a && is_below a a) (it
 
 root_covers : (p : List ℕ) → starts_with_slash p ≡ true → covers root p ≡ true
 root_covers [] e = absurd (no_truth e)
-root_covers (c ∷ p) e = covers_directory root (c ∷ p) refl (and_from (starts_with_slash (c ∷ p)) true e refl)
+root_covers (c ∷ p) e = covers_directory root (c ∷ p) refl e
 
 -- ---- the outermost
 
@@ -81,24 +93,27 @@ shorter p other e = elim (covers_how other p (parts_of p other e).1) [
   | inr below ↦ longer other (drop (length other) p) p (below_cut p other below.1) (parts_of p other e).0
 ]
 
-kept : (paths : List (List ℕ)) → List ℕ → Bool
+abbrev kept : List (List ℕ) → List ℕ → Bool
 kept paths path = not (is_covered paths path)
 
 abbrev IsCoveredBy : List (List ℕ) → List ℕ → Type 0
 IsCoveredBy paths p = (q : List ℕ) × Has paths q × (covers q p ≡ true)
 
+last : (paths : List (List ℕ)) (p : List ℕ) → Has paths p → is_covered paths p ≡ false → IsCoveredBy (outermost paths) p
+last paths p has free = (p, any_passing p (kept paths) paths ∙ and_from (kept paths p) (list_any (bytes_eq p) paths) (ap not free) has, covers_itself p)
+
 above : (paths : List (List ℕ)) (n : ℕ) (p : List ℕ) → length p ≤ n → Has paths p → IsCoveredBy (outermost paths) p
-above paths n p less has =
+above paths zero p less has =
     by_bool (is_covered paths p) (IsCoveredBy (outermost paths) p)
-    (λ covered. higher n less (passes (hides p) paths covered))
-    (λ free. (p, any_passing p (kept paths) paths ∙ and_from (kept paths p) (list_any (bytes_eq p) paths) (ap not free) has, covers_itself p))
-  where
-    higher : (n : ℕ) → length p ≤ n → ((q : List ℕ) × Has paths q × (hides p q ≡ true)) → IsCoveredBy (outermost paths) p
-    higher zero less w = let h = shorter p w.0 w.2 in absurd (omega (arith, less, h))
-    higher (suc n) less w =
-        let h = shorter p w.0 w.2 in
-        let r = above paths n w.0 (omega (arith, less, h)) w.1 in
-        (r.0, r.1, covers_twice r.0 w.0 p r.2 (parts_of p w.0 w.2).1)
+    (λ covered. let w = passes (hides p) paths covered in let h = shorter p w.0 w.2 in absurd (omega (arith, less, h)))
+    (λ free. last paths p has free)
+above paths (suc n) p less has =
+    by_bool (is_covered paths p) (IsCoveredBy (outermost paths) p)
+    (λ covered. let w = passes (hides p) paths covered in
+    let h = shorter p w.0 w.2 in
+    let r = above paths n w.0 (omega (arith, less, h)) w.1 in
+    (r.0, r.1, covers_twice r.0 w.0 p r.2 (parts_of p w.0 w.2).1))
+    (λ free. last paths p has free)
 
 -- ---- what may be written on a side
 
@@ -115,7 +130,7 @@ is_not false e = refl
 abbrev locked : Side → List ℕ → Bool
 locked s p = list_any (λ lock. covers lock p) (locks_beside s)
 
-as_side : (s : Side) (l : Layers) → IsSideOf s l → (p : List ℕ) → starts_with_slash p ≡ true → may_write l p ≡ may_beside s p
+pub as_side : (s : Side) (l : Layers) → IsSideOf s l → (p : List ℕ) → starts_with_slash p ≡ true → may_write l p ≡ may_beside s p
 as_side s l is p starts =
     let locks = locked_is_covered l p starts ∙ ap (list_any (λ lock. covers lock p)) (sym is.locks) in
     λ i. sym is.writable i && not (locks i)
@@ -126,8 +141,8 @@ free_above t c p above may =
     let parts = and_parts t.writable (not (locked t p)) may in
     let free : locked t c ≡ false = by_bool (locked t c) (locked t c ≡ false)
     (λ yes. let w = passes (λ lock. covers lock c) (locks_beside t) yes in
-      absurd (no_truth (sym (is_not (locked t p) parts.1) ∙ any_passes (λ lock. covers lock p) (locks_beside t) w.0 w.1 (covers_twice w.0 c p w.2 above))))
-    (λ no. no) in
+    absurd (no_truth (sym (is_not (locked t p) parts.1) ∙ any_passes (λ lock. covers lock p) (locks_beside t) w.0 w.1 (covers_twice w.0 c p w.2 above))))
+    (λ other. other) in
     and_from t.writable (not (locked t c)) parts.0 (ap not free)
 
 itself_locked : (s : Side) (c : List ℕ) → Has (locks_beside s) c → locked s c ≡ true
@@ -176,16 +191,16 @@ IsFrom s t p c = (covers c p ≡ true) × (may_beside s c ≡ false) × (may_bes
 
 source : (s t : Side) (p : List ℕ) → starts_with_slash p ≡ true → may_beside s p ≡ false → may_beside t p ≡ true →
     (c : List ℕ) × ((Has (locks_beside s) c) ⊎ (c ≡ root)) × IsFrom s t p c
-source s t p starts shut open =
+source s t p starts none may =
     by_bool (locked s p) ((c : List ℕ) × ((Has (locks_beside s) c) ⊎ (c ≡ root)) × IsFrom s t p c)
     (λ yes. let w = passes (λ lock. covers lock p) (locks_beside s) yes in
-      (w.0, inl w.1, w.2, not_written s w.0 (itself_locked s w.0 w.1), free_above t w.0 p w.2 open))
-    (λ no. (root, inr refl, root_covers p starts, nothing no, free_above t root p (root_covers p starts) open))
+    (w.0, inl w.1, (w.2, not_written s w.0 (itself_locked s w.0 w.1), free_above t w.0 p w.2 may)))
+    (λ free. (root, inr refl, (root_covers p starts, nothing free, free_above t root p (root_covers p starts) may)))
   where
     nothing : locked s p ≡ false → may_beside s root ≡ false
-    nothing no = by_bool s.writable (may_beside s root ≡ false)
-      (λ yes. absurd (no_truth (sym shut ∙ and_from s.writable (not (locked s p)) yes (ap not no))))
-      (λ none. ap (λ b. b && not (locked s root)) none)
+    nothing free = by_bool s.writable (may_beside s root ≡ false)
+        (λ yes. absurd (no_truth (sym none ∙ and_from s.writable (not (locked s p)) yes (ap not free))))
+        (λ off. ap (λ b. b && not (locked s root)) off)
 
 module _ (s t : Side) (l m : Layers) (first : IsSideOf s l) (second : IsSideOf t m) where
   abbrev others : List (List ℕ)
@@ -258,7 +273,7 @@ module _ (s t : Side) (l m : Layers) (first : IsSideOf s l) (second : IsSideOf t
   told_once p q one two over = elim (same_or_not p q) [
     | inl same ↦ same
     | inr other ↦ absurd (no_truth (sym (is_not (is_covered others q) (in_outermost q two).0)
-      ∙ any_passes (hides q) others p (in_outermost p one).1 (and_from (not (bytes_eq p q)) (covers p q) (ap not (other_path p q other)) over)))
+        ∙ any_passes (hides q) others p (in_outermost p one).1 (and_from (not (bytes_eq p q)) (covers p q) (ap not (other_path p q other)) over)))
   ]
 
   pub relocked_between : AreRelocked l m (told_between s t)
@@ -268,6 +283,96 @@ module _ (s t : Side) (l m : Layers) (first : IsSideOf s l) (second : IsSideOf t
     all = told_all;
     once = told_once;
   }
+
+-- ---- what is gathered, and found
+
+pub list_any-map : {X Y : Type 0} (f : Y → Bool) (h : X → Y) (xs : List X) → list_any (λ x. f (h x)) xs ≡ list_any f (map h xs)
+list_any-map f h [] = refl
+list_any-map f h (x ∷ xs) = ap (λ b. f (h x) || b) (list_any-map f h xs)
+
+pub gathered : (f : List ℕ → Bool) (xs ys zs : List (List ℕ)) (s : TextSet) →
+    with_texts (filter f zs) (with_texts (filter f ys) (with_texts (filter f xs) s)) ≡ with_texts (filter f (xs ++ (ys ++ zs))) s
+gathered f xs ys zs s = sym (
+    ap (λ (ts : List (List ℕ)). with_texts ts s) (filter-append f xs (ys ++ zs) ∙ ap (λ (ts : List (List ℕ)). filter f xs ++ ts) (filter-append f ys zs))
+    ∙ (fold-append with_text s (filter f xs) (filter f ys ++ filter f zs) ∙ fold-append with_text (with_texts (filter f xs) s) (filter f ys) (filter f zs)))
+
+same_text : (t u : List ℕ) → slice_cmp nat_cmp t u ≡ Equal → t ≡ u
+same_text t u e = same_path t u (sym (is_eq-slice_cmp t u) ∙ ap is_eq e)
+
+found_at : (p : List ℕ) (locks : List (String Global)) (i : ℕ) → i < length locks → HoldsAt (λ lock. slice_cmp nat_cmp (string_bytes lock) p ≡ Equal) locks i →
+    list_any (λ lock. covers lock p) (map string_bytes locks) ≡ true
+found_at p [] i less at = absurd (omega (arith, less))
+found_at p (l ∷ more) zero less at =
+    or_left (covers (string_bytes l) p) (list_any (λ lock. covers lock p) (map string_bytes more))
+    (subst (λ (t : List ℕ). covers t p ≡ true) (sym (same_text (string_bytes l) p (at l))) (covers_itself p))
+found_at p (l ∷ more) (suc i) less at =
+    or_right (covers (string_bytes l) p) (list_any (λ lock. covers lock p) (map string_bytes more)) (found_at p more i (omega (arith, less)) (λ d. at d))
+
+-- what a search by halving finds is a lock
+pub found_lock : (p : List ℕ) (locks : List (String Global)) (r : Result ℕ ℕ) → IsSearchInRange r (length locks) →
+    IsBinarySearchResult (λ lock. slice_cmp nat_cmp (string_bytes lock) p) locks r → is_ok r ≡ true → list_any (λ lock. covers lock p) (map string_bytes locks) ≡ true
+found_lock p locks (Ok i) less at is = found_at p locks i less at
+found_lock p locks (Err i) less at is = absurd (no_truth is)
+
+-- ---- the layers before
+
+pub before_writable : (same : Bool) (l m : Layers) → (before_in same l m).writable ≡ l.writable
+before_writable false l m = refl
+before_writable true l m = go l.layers
+  where
+    go : (ls : List Settings) → (first_before ls l m).writable ≡ l.writable
+    go [] = refl
+    go (s ∷ ls) = refl
+
+pub others_before : (same : Bool) (l m : Layers) → drop 1 (before_in same l m).layers ≡ cond (have_same same l.layers) (drop 1 m.layers) (drop 1 l.layers)
+others_before false l m = refl
+others_before true l m = go l.layers
+  where
+    go : (ls : List Settings) → drop 1 (first_before ls l m).layers ≡ cond (have_same true ls) (drop 1 m.layers) (drop 1 l.layers)
+    go [] = refl
+    go (s ∷ ls) = refl
+
+-- the side of the layers before, by the locks that were taken for theirs
+pub side_before : (same : Bool) (l m : Layers) (s : Side) (has : Bool) → has ≡ have_same same l.layers → s.writable ≡ l.writable →
+    locks_beside s ≡ cond has (locks_in (drop 1 m.layers)) (locks_in (drop 1 l.layers)) → IsSideOf s (before_in same l m)
+side_before same l m s has is w locks = record {
+  writable = w ∙ sym (before_writable same l m);
+  locks = locks ∙ (chosen has ∙ ap locks_in (ap (λ b. cond b (drop 1 m.layers) (drop 1 l.layers)) is ∙ sym (others_before same l m)));
+}
+  where
+    chosen : (b : Bool) → cond b (locks_in (drop 1 m.layers)) (locks_in (drop 1 l.layers)) ≡ locks_in (cond b (drop 1 m.layers) (drop 1 l.layers))
+    chosen true = refl
+    chosen false = refl
+
+pub relocked_list : (s t : Side) (l m : Layers) → IsSideOf s l → IsSideOf t m → (paths : List (List ℕ)) → paths ≡ told_between s t → AreRelocked l m paths
+relocked_list s t l m first second paths is = subst (AreRelocked l m) (sym is) (relocked_between s t l m first second)
+
+-- ---- what doesn't start with a slash
+
+starts_after : (xs ys : List ℕ) → starts_with_slash xs ≡ true → starts_with_slash (xs ++ ys) ≡ true
+starts_after [] ys e = absurd (no_truth e)
+starts_after (c ∷ xs) ys e = e
+
+covered_starts : (lock p : List ℕ) → covers lock p ≡ true → starts_with_slash lock ≡ true → starts_with_slash p ≡ true
+covered_starts lock p over e = elim (covers_how lock p over) [
+  | inl same ↦ ap starts_with_slash (sym same) ∙ e
+  | inr below ↦ ap starts_with_slash (below_cut p lock below.1) ∙ starts_after lock (drop (length lock) p) e
+]
+
+pub none_beside : (s : Side) (l : Layers) → IsSideOf s l → (p : List ℕ) → starts_with_slash p ≡ false → may_beside s p ≡ s.writable
+none_beside s l is p none =
+    by_bool (locked s p) (may_beside s p ≡ s.writable)
+    (λ yes. let w = passes (λ lock. covers lock p) (locks_beside s) yes in
+    absurd (no_truth (sym none ∙ covered_starts w.0 p w.2 (lock_starts s l is w.0 w.1))))
+    (λ free. ap (λ b. s.writable && not b) free ∙ whole s.writable)
+  where
+    whole : (b : Bool) → (b && true) ≡ b
+    whole true = refl
+    whole false = refl
+
+pub root_is_directory : is_directory_path root ≡ true
+unfolding has_two_slashes
+root_is_directory = refl
 
 -- ---- where nothing is otherwise
 
@@ -284,3 +389,7 @@ none_relocked l m writable others = record {
 
     same : (p : List ℕ) → may_write l p ≡ may_write m p
     same p = λ i. writable i && not (nat_lt 0 (greatest_from 1 (locks_path p) (others i)))
+
+pub none_alike : (same : Bool) (l m : Layers) → have_same same l.layers ≡ true → l.writable ≡ m.writable → AreRelocked (before_in same l m) m []
+none_alike same l m has w =
+    none_relocked (before_in same l m) m (before_writable same l m ∙ w) (others_before same l m ∙ ap (λ b. cond b (drop 1 m.layers) (drop 1 l.layers)) has)

@@ -63,3 +63,8 @@ told_between s t = listing (outermost (listing (others_of s t)))
 pub record IsSideOf (s : Side) (l : Layers) : Type 0 where
   pub writable : s.writable ≡ l.writable
   pub locks : locks_beside s ≡ locks_in (drop 1 l.layers)
+
+-- the layers before but for the first count as those after
+abbrev pub have_same : Bool → List Settings → Bool
+have_same true (first ∷ _) = true
+have_same _ _ = false

@@ -4,13 +4,13 @@
 
 mod alike;
 mod news;
-mod relocked;
+mod relocking;
 mod seen;
 mod sides;
 mod texts;
 
 pub use alike::are_seen_alike;
 pub use news::{DconfdbKeyAsked, told, told_texts};
-pub use relocked::{relocked, relocked_texts};
+pub use relocking::{relocked, relocked_texts};
 pub use seen::{DconfdbView, DconfdbWaits};
 pub use sides::may_write;

@@ -1,6 +1,8 @@
 //! What may be written: by the locks of all layers but the first.
-ghost use Rattle.std.specs.Prelude.{◌≡◌, IfOk, IsTrue, drop, map, string_bytes, true};
+ghost use Rattle.std.specs.Prelude.{◌≡◌, IfOk, IsTrue, drop, false, map, string_bytes, true};
+ghost use Rattle.std.specs.Cmp.Lexicographic.{slice_cmp};
 ghost use Rattle.std.specs.List.{list_any};
+ghost use Rattle.std.specs.Ordering.{nat_cmp};
 ghost use Rattle.dconf_model.specs.Locks.{covers};
 ghost use Rattle.dconf_model.specs.Paths.{starts_with_slash};
 ghost use Rattle.dconf_layers.specs.LayerSettings.{seen_in, settings_of};
@@ -11,6 +13,7 @@ use dconf_layers::{Layer, LentLayers, Texts};
 use dconf_path::DirPath;
 use dconf_seen::covers;
 use std::alloc::{AllocError, Global};
+use std::cmp::Ordering;
 
 /// The directory of all paths.
 const ROOT: &str = "/";
@@ -19,18 +22,14 @@ const ROOT: &str = "/";
 #[derive(Clone, Copy)]
 pub(crate) struct Side<'l> {
     writable: bool,
-    locks: &'l [String],
+    pub(crate) locks: &'l [String],
 }
 
 /// Whether a path may be written, a key, or all that is below a directory: there is a user's database, and no lock covers it. What
 /// doesn't start with `/` is locked by nobody.
 ///
 /// An error comes where a growth is refused. It looks at each lock.
-pub fn may_write(
-    alloc: Global,
-    layers: LentLayers<'_, '_>,
-    path: &[u8],
-) -> Result<bool, AllocError>
+pub fn may_write(alloc: Global, layers: LentLayers<'_, '_>, path: &[u8]) -> Result<bool, AllocError>
     ensures path { IfOk result (λ may. starts_with_slash path.now ≡ true → may ≡ may_write (seen_in layers.entry) path.now) }
     ensures none { IfOk result (λ may. starts_with_slash path.now ≡ false → may ≡ (seen_in layers.entry).writable) }
 {
@@ -92,7 +91,14 @@ impl<'l> Side<'l> {
         ensures { IsTrue result → list_any (λ lock. covers lock path.now) (locks_beside self.entry) ≡ true }
     {
         self.locks
-            .binary_search_by(|lock| lock.as_bytes().cmp(path))
+            .binary_search_by(|lock| order_of(lock, path))
             .is_ok()
     }
+}
+
+/// How a lock and a path are ordered, by their bytes.
+fn order_of(lock: &String, path: &[u8]) -> Ordering
+    ensures { result ≡ slice_cmp nat_cmp (string_bytes lock.now) path.now }
+{
+    lock.as_bytes().cmp(path)
 }

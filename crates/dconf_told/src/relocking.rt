@@ -1,9 +1,9 @@
 //! Which paths came to be locked, or are no longer: keys, and directories as a whole.
-ghost use Rattle.std.specs.Prelude.{◌≡◌, ◌∷◌, [], ℕ, List, IfOk, OnOk, filter, map, string_bytes};
+ghost use Rattle.std.specs.Prelude.{◌≡◌, ◌∷◌, [], ℕ, List, IfOk, OnOk, drop, filter, if◌then◌else◌, map, string_bytes};
 ghost use Rattle.dconf_model.specs.Order.{listing};
 ghost use Rattle.dconf_layers.specs.LayerSettings.{seen_in};
 ghost use Rattle.dconf_layers.specs.TextSets.{with_texts};
-ghost use Rattle.dconf_told.specs.Relocking.{AreRelocked, hides, is_covered, other_beside, outermost, told_between};
+ghost use Rattle.dconf_told.specs.Relocking.{AreRelocked, have_same, hides, is_covered, locks_in, other_beside, outermost, told_between};
 ghost use Rattle.dconf_told.specs.Telling.{before_in, ended};
 
 use crate::sides::{Side, locks_of};
@@ -25,16 +25,38 @@ pub fn relocked(
 ) -> Result<Vec<String>, AllocError>
     ensures { IfOk result (λ paths. AreRelocked (before_in same_others (seen_in before.entry) (seen_in after.entry)) (seen_in after.entry) (map string_bytes paths.items)) }
 {
-    let has_same = same_others && !before.layers.is_empty();
+    let has_same = have_same(before, same_others);
     if has_same && before.writable == after.writable {
         return Ok(Vec::new(alloc));
     }
-    let others = if has_same { after.layers } else { before.layers };
-    let locks_before = locks_of(alloc, others)?;
+    let locks_before = locks_before(alloc, before, after, has_same)?;
     let locks_after = locks_of(alloc, after.layers)?;
     let first = Side::new(before.writable, locks_before.as_slice());
     let second = Side::new(after.writable, locks_after.as_slice());
     between(alloc, first, second)
+}
+
+/// Whether the layers before but for the first count as those after: there is a first one.
+fn have_same(before: LentLayers<'_, '_>, same_others: bool) -> bool
+    ensures { result ≡ have_same same_others (seen_in before.entry).layers }
+{
+    same_others && !before.layers.is_empty()
+}
+
+/// The locks before, which may be those after.
+fn locks_before(
+    alloc: Global,
+    before: LentLayers<'_, '_>,
+    after: LentLayers<'_, '_>,
+    has_same: bool,
+) -> Result<Vec<String>, AllocError>
+    ensures { IfOk result (λ locks. map string_bytes locks.items ≡ (if has_same then locks_in (drop 1 (seen_in after.entry).layers) else locks_in (drop 1 (seen_in before.entry).layers))) }
+{
+    if has_same {
+        locks_of(alloc, after.layers)
+    } else {
+        locks_of(alloc, before.layers)
+    }
 }
 
 /// The same, as they are handed out: a zero byte after each.
@@ -51,11 +73,7 @@ pub fn relocked_texts(
 }
 
 /// What is told by two sides.
-fn between(
-    alloc: Global,
-    before: Side<'_>,
-    after: Side<'_>,
-) -> Result<Vec<String>, AllocError>
+fn between(alloc: Global, before: Side<'_>, after: Side<'_>) -> Result<Vec<String>, AllocError>
     ensures { IfOk result (λ paths. map string_bytes paths.items ≡ told_between before.entry after.entry) }
 {
     let mut others = Texts::new(alloc);

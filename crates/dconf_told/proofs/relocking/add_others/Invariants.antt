@@ -2,7 +2,7 @@ use Rattle.std.proofs.Common.{◌≡◌, drop, map}
 use Rattle.std.specs.Prelude.{filter, string_bytes}
 use Rattle.dconf_layers.specs.TextSets.{with_texts}
 use Rattle.dconf_told.specs.Relocking.{other_beside}
-use Rattle.dconf_told.proofs.relocked.add_others.Given as goal
+use Rattle.dconf_told.proofs.relocking.add_others.Given as goal
 
 -- what is left to add gives what all give
 abbrev pub invariant-loop-path : goal.invariant-loop-path

@@ -3,7 +3,7 @@ use Rattle.std.specs.FinMap.{empty}
 use Rattle.std.specs.Prelude.{string_bytes}
 use Rattle.dconf_layers.specs.TextSets.{with_texts}
 use Rattle.dconf_told.specs.Relocking.{left_of, outermost}
-use Rattle.dconf_told.proofs.relocked.outermost.Given as goal
+use Rattle.dconf_told.proofs.relocking.outermost.Given as goal
 
 -- what is left to add gives what all give
 abbrev pub invariant-loop-path : goal.invariant-loop-path
