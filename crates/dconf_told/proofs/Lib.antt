@@ -1,4 +1,5 @@
 pub mod SeeingLaws
 pub mod TellingLaws
 pub mod OthersLaws
+pub mod SearchLaws
 pub mod RelockedLaws

@@ -1,5 +1,5 @@
 -- Of the keys that differ none is missing that is shown otherwise.
-use Rattle.std.specs.Prelude.{◌↔◌, Contains, filter, is_some, option_and_then, option_map, take}
+use Rattle.std.specs.Prelude.{Contains, filter, is_some, option_and_then, option_map}
 use Rattle.std.proofs.Common.{◌≡◌, ◌≢◌, ◌≤◌, ◌⊎◌, ◌∙◌, ◌&&◌, ◌++◌, ◌+◌, ℕ, zero, suc, Bool, true, false, List, [], ◌∷◌, Option, Some, None, drop, length, ap, sym, refl, subst, inl, inr}
 use Rattle.std.specs.FinMap.{get, keys}
 use Rattle.std.specs.List.{list_any}
@@ -7,7 +7,6 @@ use Rattle.std.specs.Str.{bytes_eq}
 use Rattle.std.proofs.lemmas.List.{append-nil, take_all}
 use Rattle.std.proofs.lemmas.List.Elements.{Contains-append_left, Contains-append_right}
 use Rattle.dconf_model.specs.Layers.{Layers, all_paths, first_from, level, place_or, visible}
-use Rattle.dconf_model.specs.Order.{listing}
 use Rattle.dconf_model.specs.Settings.{Settings}
 use Rattle.dconf_model.specs.Values.{held_value}
 use Rattle.dconf_model.proofs.FirstKeys.{first_keys_are_enough}

@@ -1,27 +1,25 @@
 -- What is told of locks is exactly what may be written otherwise than before.
-use Rattle.std.specs.Prelude.{◌↔◌, Contains, Err, Ok, Result, filter, is_ok, map, nat_lt, string_bytes}
-use Rattle.std.proofs.Common.{◌≡◌, ◌≢◌, ◌⊎◌, ◌∙◌, ◌&&◌, ◌||◌, ◌++◌, ◌+◌, ◌<◌, ◌≤◌, ℕ, zero, suc, Bool, true, false, cond, List, [], ◌∷◌, append_assoc, append-nil, drop, length, not, ap, sym, refl, subst, inl, inr, arith}
+use Rattle.std.specs.Prelude.{◌↔◌, Contains, Result, filter, is_ok, map, nat_lt, string_bytes}
+use Rattle.std.proofs.Common.{◌≡◌, ◌≢◌, ◌⊎◌, ◌∙◌, ◌&&◌, ◌||◌, ◌++◌, ◌<◌, ◌≤◌, ℕ, zero, suc, Bool, true, false, cond, List, [], ◌∷◌, append_assoc, append-nil, drop, length, not, ap, sym, refl, subst, inl, inr, arith}
 use Rattle.std.specs.Cmp.Lexicographic.{slice_cmp}
-use Rattle.std.specs.List.{HoldsAt, list_any}
+use Rattle.std.specs.List.{list_any}
 use Rattle.std.specs.List.Sorted.{IsBinarySearchResult, IsSearchInRange}
-use Rattle.std.specs.Ordering.{is_eq, nat_cmp}
+use Rattle.std.specs.Ordering.{nat_cmp}
 use Rattle.std.specs.Str.{bytes_eq}
 use Rattle.std.specs.declared.alloc.Global.{Global}
-use Rattle.std.specs.declared.cmp.Ordering.TheVariants.{Equal}
 use Rattle.std.specs.declared.string.String.{String}
 use Rattle.std.proofs.lemmas.Bool.{and_from, and_parts, or_cases, or_left, or_right}
 use Rattle.std.proofs.lemmas.Bool.Decides.{Decides-eqb}
 use Rattle.std.proofs.lemmas.List.Folds.{list_any-append}
 use Rattle.std.proofs.lemmas.List.Elements.{filter-append}
 use Rattle.std.proofs.lemmas.List.Sums.{fold-append}
-use Rattle.std.proofs.lemmas.Map.Text.{is_eq-slice_cmp}
 use Rattle.std.proofs.lemmas.Slice.Eq.{starts_is}
 use Rattle.dconf_model.specs.Layers.{Layers, all_locks, greatest_from, locks_path}
 use Rattle.dconf_model.specs.Locks.{covers, is_below}
 use Rattle.dconf_model.specs.Order.{listing}
 use Rattle.dconf_model.specs.Paths.{ends_with_slash, has_two_slashes, is_directory_path, starts_with_slash}
 use Rattle.dconf_model.specs.Settings.{Settings}
-use Rattle.dconf_model.proofs.ListingOrder.{find_text, found_text, listing_is_once_each}
+use Rattle.dconf_model.proofs.ListingOrder.{find_text, listing_is_once_each}
 use Rattle.dconf_model.proofs.ParentLaws.{by_bool}
 use Rattle.dconf_model.proofs.PathMaps.{any_passes, no_truth, passes}
 use Rattle.dconf_model.proofs.SameBytes.{itself, other_path, path_itself, same_or_not, same_path}
@@ -31,6 +29,7 @@ use Rattle.dconf_seen.specs.Waiting.{may_write}
 use Rattle.dconf_seen.proofs.CoveringLaws.{locked_is_covered}
 use Rattle.dconf_told.specs.Relocking.{AreRelocked, IsSideOf, have_same, hides, is_covered, is_other, locks_beside, locks_in, may_beside, other_beside, others_of, outermost, told_between}
 use Rattle.dconf_told.specs.Telling.{before_in, first_before}
+use Rattle.dconf_told.proofs.SearchLaws.{found_text as found_one}
 use Rattle.dconf_told.specs.declared.sides.Side.{Side}
 
 abbrev Has : List (List ℕ) → List ℕ → Type 0
@@ -296,23 +295,10 @@ gathered f xs ys zs s = sym (
     ap (λ (ts : List (List ℕ)). with_texts ts s) (filter-append f xs (ys ++ zs) ∙ ap (λ (ts : List (List ℕ)). filter f xs ++ ts) (filter-append f ys zs))
     ∙ (fold-append with_text s (filter f xs) (filter f ys ++ filter f zs) ∙ fold-append with_text (with_texts (filter f xs) s) (filter f ys) (filter f zs)))
 
-same_text : (t u : List ℕ) → slice_cmp nat_cmp t u ≡ Equal → t ≡ u
-same_text t u e = same_path t u (sym (is_eq-slice_cmp t u) ∙ ap is_eq e)
-
-found_at : (p : List ℕ) (locks : List (String Global)) (i : ℕ) → i < length locks → HoldsAt (λ lock. slice_cmp nat_cmp (string_bytes lock) p ≡ Equal) locks i →
-    list_any (λ lock. covers lock p) (map string_bytes locks) ≡ true
-found_at p [] i less at = absurd (omega (arith, less))
-found_at p (l ∷ more) zero less at =
-    or_left (covers (string_bytes l) p) (list_any (λ lock. covers lock p) (map string_bytes more))
-    (subst (λ (t : List ℕ). covers t p ≡ true) (sym (same_text (string_bytes l) p (at l))) (covers_itself p))
-found_at p (l ∷ more) (suc i) less at =
-    or_right (covers (string_bytes l) p) (list_any (λ lock. covers lock p) (map string_bytes more)) (found_at p more i (omega (arith, less)) (λ d. at d))
-
 -- what a search by halving finds is a lock
 pub found_lock : (p : List ℕ) (locks : List (String Global)) (r : Result ℕ ℕ) → IsSearchInRange r (length locks) →
     IsBinarySearchResult (λ lock. slice_cmp nat_cmp (string_bytes lock) p) locks r → is_ok r ≡ true → list_any (λ lock. covers lock p) (map string_bytes locks) ≡ true
-found_lock p locks (Ok i) less at is = found_at p locks i less at
-found_lock p locks (Err i) less at is = absurd (no_truth is)
+found_lock p locks r less at is = any_passes (λ lock. covers lock p) (map string_bytes locks) p (found_one p locks r less at is) (covers_itself p)
 
 -- ---- the layers before
 

@@ -1,24 +1,26 @@
 -- Exactly what is seen otherwise is told.
 use Rattle.std.specs.Prelude.{◌↔◌, IsTrue, Contains, cond, filter, map, slice_index_or}
-use Rattle.std.proofs.Common.{◌≡◌, ◌≢◌, ◌⊎◌, ◌∙◌, ◌&&◌, ◌++◌, ◌==◌, ◌+◌, ◌<◌, ℕ, zero, suc, Bool, true, false, List, [], ◌∷◌, Option, Some, None, drop, length, not, ap, sym, refl, subst, inl, inr, arith}
+use Rattle.std.proofs.Common.{◌≡◌, ◌≢◌, ◌⊎◌, ◌∙◌, ◌&&◌, ◌||◌, ◌++◌, ◌==◌, ◌+◌, ◌<◌, ℕ, zero, suc, Bool, true, false, List, [], ◌∷◌, Option, Some, None, drop, length, not, ap, sym, refl, subst, inl, inr, arith}
 use Rattle.std.specs.List.{list_any}
 use Rattle.std.specs.Str.{bytes_eq, is_utf8}
 use Rattle.std.specs.FinMap.{empty, keys}
-use Rattle.std.proofs.lemmas.Bool.{and_parts}
+use Rattle.std.proofs.lemmas.Bool.{and_parts, or_cases}
+use Rattle.std.proofs.lemmas.List.Folds.{list_any-append}
 use Rattle.std.proofs.lemmas.List.{drop_more}
 use Rattle.std.proofs.lemmas.List.Elements.{Contains-append_cases, Contains-append_left, Contains-append_right}
 use Rattle.std.proofs.lemmas.List.Sums.{fold-append}
 use Rattle.std.proofs.lemmas.Str.{IsUtf8-from_is_utf8, is_utf8-from_IsUtf8}
 use Rattle.gv_model.specs.Tree.{Tree}
 use Rattle.dconf_model.specs.Layers.{Layers, visible, without_user}
-use Rattle.dconf_model.specs.Order.{listing}
+use Rattle.dconf_model.specs.Order.{IsRising, listing}
 use Rattle.dconf_model.specs.Paths.{is_key_path}
 use Rattle.dconf_model.specs.Salvaging.{IsKeyText}
 use Rattle.dconf_model.specs.Stores.Saying.{silent}
 use Rattle.dconf_model.proofs.Listings.{listing_from, listing_has, none_of_none}
 use Rattle.dconf_model.proofs.ListingOrder.{find_text, found_text, listing_is_once_each}
 use Rattle.dconf_model.proofs.ParentLaws.{by_bool}
-use Rattle.dconf_model.proofs.PathMaps.{no_truth, same_bool}
+use Rattle.dconf_model.proofs.PathMaps.{and_false, eq_turned, no_truth, same_bool}
+use Rattle.dconf_model.proofs.SameBytes.{same_path}
 use Rattle.dconf_layers.specs.TextSets.{TextSet, with_text, with_texts}
 use Rattle.dconf_layers.proofs.PathTests.{any_passing}
 use Rattle.dconf_layers.proofs.TextSetLaws.{keys_are_listed}
@@ -26,7 +28,7 @@ use Rattle.dconf_differences.specs.Differing.{same_value}
 use Rattle.dconf_differences.proofs.SameValueLaws.{values_told}
 use Rattle.dconf_seen.specs.Waiting.{counting, fitting, may_write, seen_as, seen_beside}
 use Rattle.dconf_told.specs.Seeing.{edit_value, is_of, layers_in, or_unset, said_of, shown_to}
-use Rattle.dconf_told.specs.Telling.{AreTold, HasAllOthers, IsAskedOtherwise, IsSeenOtherwise, asked_otherwise, asks_any, is_key_text, layers_otherwise, named_otherwise, seen_after, seen_before, shown_otherwise}
+use Rattle.dconf_told.specs.Telling.{AreTold, HasAllOthers, IsSeenOtherwise, any_name, any_names, asked_otherwise, asks_any, is_key_text, layers_otherwise, named_otherwise, seen_after, seen_before, shown_otherwise}
 use Rattle.dconf_told.specs.declared.news.DconfdbKeyAsked.{DconfdbKeyAsked}
 use Rattle.dconf_told.specs.declared.seen.DconfdbView.{DconfdbView}
 
@@ -107,6 +109,68 @@ bare_told l m a p named any before after =
     let second : seen_after m a ≡ visible m p =
     (λ i. seen_as (is_of (any i)) m (cond (after i) (or_unset (edit_value a.after)) silent) (named i)) ∙ seen_bare m p in
     λ i. is_key_text (named i) && not (same_value (first i) (second i))
+
+-- ---- keys that are asked for of any type
+
+or_none : (b : Bool) → (b || false) ≡ b
+or_none true = refl
+or_none false = refl
+
+one_name : (any key : Bool) (a p : List ℕ) → (bytes_eq p a ≡ true → key ≡ true) → list_any (bytes_eq p) (cond (any && key) (a ∷ []) []) ≡ (any && bytes_eq a p)
+one_name false key a p h = refl
+one_name true true a p h = or_none (bytes_eq p a) ∙ eq_turned p a
+one_name true false a p h = by_bool (bytes_eq p a) (false ≡ bytes_eq a p)
+    (λ yes. absurd (no_truth (h yes)))
+    (λ other. sym (eq_turned a p ∙ other))
+
+pub any_told : (asked : List DconfdbKeyAsked) (p : List ℕ) → is_key_text p ≡ true → list_any (bytes_eq p) (any_names asked) ≡ asks_any asked p
+any_told [] p key = refl
+any_told (a ∷ asked) p key =
+    list_any-append (bytes_eq p) (any_name a) (any_names asked)
+    ∙ (λ i. one_name (length a.type_text.now == 0) (is_key_text a.path.now) a.path.now p (λ same. ap is_key_text (sym (same_path p a.path.now same)) ∙ key) i || any_told asked p key i)
+
+named_key : (b : Bool) (a p : List ℕ) → (b ≡ true → is_key_text a ≡ true) → list_any (bytes_eq p) (cond b (a ∷ []) []) ≡ true → is_key_text p ≡ true
+named_key false a p h e = absurd (no_truth e)
+named_key true a p h e = ap is_key_text (same_path p a (sym (or_none (bytes_eq p a)) ∙ e)) ∙ h refl
+
+pub any_is_key : (asked : List DconfdbKeyAsked) (p : List ℕ) → list_any (bytes_eq p) (any_names asked) ≡ true → is_key_text p ≡ true
+any_is_key [] p e = absurd (no_truth e)
+any_is_key (a ∷ asked) p e =
+    elim (or_cases (list_any (bytes_eq p) (any_name a)) (list_any (bytes_eq p) (any_names asked)) (sym (list_any-append (bytes_eq p) (any_name a) (any_names asked)) ∙ e)) [
+      | inl here ↦ named_key (length a.type_text.now == 0 && is_key_text a.path.now) a.path.now p
+          (λ both. (and_parts (length a.type_text.now == 0) (is_key_text a.path.now) both).1) here
+      | inr there ↦ any_is_key asked p there
+    ]
+
+pub named_any : (a : DconfdbKeyAsked) → (length a.type_text.now == 0) ≡ true → IsKeyText a.path.now → any_name a ≡ a.path.now ∷ []
+named_any a any key = λ i. cond (any i && (key_told a.path.now).1 key i) (a.path.now ∷ []) []
+
+pub no_key_named : (a : DconfdbKeyAsked) → (IsKeyText a.path.now → ⊥) → any_name a ≡ []
+no_key_named a none =
+    let other : is_key_text a.path.now ≡ false = by_bool (is_key_text a.path.now) (is_key_text a.path.now ≡ false) (λ yes. absurd (none ((key_told a.path.now).0 yes))) (λ no_key. no_key) in
+    ap (λ b. cond b (a.path.now ∷ []) []) (and_false (length a.type_text.now == 0) (is_key_text a.path.now) other)
+
+-- what was searched for among them
+pub any_searched : (asked : List DconfdbKeyAsked) (texts : List (List ℕ)) (p : List ℕ) → texts ≡ listing (any_names asked) → list_any (bytes_eq p) texts ≡ list_any (bytes_eq p) (any_names asked)
+any_searched asked texts p is = ap (list_any (bytes_eq p)) is ∙ (listing_is_once_each (any_names asked)).same p
+
+pub any_rise : (asked : List DconfdbKeyAsked) (texts : List (List ℕ)) → texts ≡ listing (any_names asked) → IsRising texts
+any_rise asked texts is = subst IsRising (sym is) (listing_is_once_each (any_names asked)).rising
+
+pub one_any : (a : DconfdbKeyAsked) (more : List DconfdbKeyAsked) (s : TextSet) → with_texts (any_names (a ∷ more)) s ≡ with_texts (any_names more) (with_texts (any_name a) s)
+one_any a more s = fold-append with_text s (any_name a) (any_names more)
+
+-- a key that is asked for is told by that, and any other by the layers
+pub asked_is_left : (l m : Layers) (asked : List DconfdbKeyAsked) (p : List ℕ) → list_any (bytes_eq p) (any_names asked) ≡ true → shown_otherwise l m asked p ≡ false
+asked_is_left l m asked p has =
+    ap (λ b. not b && layers_otherwise l m p) (sym (any_told asked p (any_is_key asked p has)) ∙ has)
+
+pub other_is_shown : (l m : Layers) (asked : List DconfdbKeyAsked) (p : List ℕ) → list_any (bytes_eq p) (any_names asked) ≡ false → layers_otherwise l m p ≡ shown_otherwise l m asked p
+other_is_shown l m asked p none =
+    by_bool (is_key_text p) (layers_otherwise l m p ≡ shown_otherwise l m asked p)
+    (λ key. sym (ap (λ b. not b && layers_otherwise l m p) (sym (any_told asked p key) ∙ none)))
+    (λ other. let nothing : layers_otherwise l m p ≡ false = ap (λ b. b && not (same_value (visible l p) (visible m p))) other in
+    nothing ∙ sym (and_false (not (asks_any asked p)) (layers_otherwise l m p) nothing))
 
 -- ---- who is told
 

@@ -1,5 +1,5 @@
 -- Which keys are told to who listens: those that are seen otherwise than before.
-use Rattle.std.specs.Prelude.{◌≡◌, ◌≢◌, ◌⊎◌, ◌↔◌, ◌==◌, ◌&&◌, ◌∷◌, ◌++◌, ℕ, Bool, true, false, List, [], not, length, drop, map, Contains, Option, filter}
+use Rattle.std.specs.Prelude.{if◌then◌else◌, ◌≡◌, ◌≢◌, ◌⊎◌, ◌↔◌, ◌==◌, ◌&&◌, ◌∷◌, ◌++◌, ℕ, Bool, true, false, List, [], not, length, drop, map, Contains, Option, filter}
 use Rattle.std.specs.List.{flat_map, list_any}
 use Rattle.std.specs.Str.{bytes_eq, is_utf8}
 use Rattle.gv_model.specs.Tree.{Tree}
@@ -70,6 +70,13 @@ ended texts = flat_map (λ text. text ++ (0 ∷ [])) texts
 -- the same, computed
 abbrev pub is_key_text : List ℕ → Bool
 is_key_text path = is_utf8 path && is_key_path path
+
+-- the names of keys that are asked for of any type
+abbrev pub any_name : DconfdbKeyAsked → List (List ℕ)
+any_name a = if length a.type_text.now == 0 && is_key_text a.path.now then a.path.now ∷ [] else []
+
+abbrev pub any_names : List DconfdbKeyAsked → List (List ℕ)
+any_names asked = flat_map any_name asked
 
 abbrev pub asked_otherwise : Layers → Layers → DconfdbKeyAsked → Bool
 asked_otherwise l m a = is_key_text a.path.now && not (same_value (seen_before l a) (seen_after m a))

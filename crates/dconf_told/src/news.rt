@@ -2,12 +2,13 @@
 ghost use Rattle.std.specs.Prelude.{◌≡◌, ◌≤◌, [], ◌∷◌, ◌++◌, ℕ, List, false, IfOk, OnOk, drop, filter, length, map, string_bytes};
 ghost use Rattle.dconf_layers.specs.LayerSettings.{settings_of, seen_in};
 ghost use Rattle.dconf_layers.specs.TextSets.{with_texts};
+ghost use Rattle.dconf_model.specs.Order.{listing};
 ghost use Rattle.dconf_told.specs.Seeing.{layers_in};
-ghost use Rattle.dconf_told.specs.Telling.{AreTold, HasAllOthers, after_first, asked_otherwise, asks_any, asks_for, before_in, ended, named_otherwise, shown_otherwise};
+ghost use Rattle.dconf_told.specs.Telling.{AreTold, HasAllOthers, after_first, any_name, any_names, asked_otherwise, before_in, ended, named_otherwise, shown_otherwise};
 
 use crate::alike::are_seen_alike;
 use crate::seen::{DconfdbView, DconfdbWaits};
-use crate::texts::texts_of;
+use crate::texts::{has_text, texts_of};
 use dconf_differences::{differing, differing_first};
 use dconf_layers::{Layer, LentLayers, Texts};
 use dconf_path::KeyPath;
@@ -36,7 +37,7 @@ struct Telling<'a, 'l> {
 /// the layers before but for the first count as those after.
 ///
 /// An error comes where a growth is refused. It asks what [`differing`] asks, or [`differing_first`] where the others are the same, and
-/// once more of what differs.
+/// once more of what differs, which is searched for by halving among the keys that are asked for.
 pub fn told<'a, 'l>(
     alloc: Global,
     before: LentLayers<'a, 'l>,
@@ -116,7 +117,19 @@ impl<'a> Telling<'a, '_> {
     {
         let mut paths = Texts::new(alloc);
         self.add_asked(alloc, &mut paths)?;
-        self.add_others(alloc, others, &mut paths)?;
+        let any = self.asked_of_any(alloc)?;
+        self.add_others(alloc, others, any.as_slice(), &mut paths)?;
+        paths.list()
+    }
+
+    /// The keys that are asked for of any type, in the order of their bytes.
+    fn asked_of_any(self, alloc: Global) -> Result<Vec<String>, AllocError>
+        ensures { IfOk result (λ paths. map string_bytes paths.items ≡ listing (any_names self.entry.asked.now)) }
+    {
+        let mut paths = Texts::new(alloc);
+        for key in self.asked {
+            add_if_any(*key, &mut paths)?;
+        }
         paths.list()
     }
 
@@ -153,12 +166,14 @@ impl<'a> Telling<'a, '_> {
         self,
         alloc: Global,
         others: &[String],
+        any: &[String],
         paths: &mut Texts,
     ) -> Result<(), AllocError>
+        requires { map string_bytes any.now ≡ listing (any_names self.asked.now) }
         ensures { OnOk result (paths.new ≡ with_texts (filter (shown_otherwise (seen_in self.entry.before) (seen_in self.entry.after) self.entry.asked.now) (map string_bytes others.now)) paths.old) }
     {
         for path in others {
-            if self.is_shown_otherwise(alloc, path.as_bytes())? {
+            if self.is_shown_otherwise(alloc, any, path.as_str())? {
                 paths.add(path.as_str())?;
             }
         }
@@ -166,21 +181,19 @@ impl<'a> Telling<'a, '_> {
     }
 
     /// Whether a key is shown otherwise that nobody asks for of any type.
-    #[tactic(auto, using(crate::proofs::TellingLaws::bare_told))]
-    fn is_shown_otherwise(self, alloc: Global, path: &[u8]) -> Result<bool, AllocError>
+    fn is_shown_otherwise(
+        self,
+        alloc: Global,
+        any: &[String],
+        path: &str,
+    ) -> Result<bool, AllocError>
+        requires { map string_bytes any.now ≡ listing (any_names self.asked.now) }
         ensures { IfOk result (λ is. is ≡ shown_otherwise (seen_in self.entry.before) (seen_in self.entry.after) self.entry.asked.now path.now) }
     {
-        if self.asks_any(path) {
+        if has_text(any, path) {
             return Ok(false);
         }
-        self.is_otherwise(alloc, bare(path))
-    }
-
-    /// Whether a key is asked for of any type.
-    fn asks_any(self, path: &[u8]) -> bool
-        ensures { result ≡ asks_any self.entry.asked.now path.now }
-    {
-        self.asked.iter().any(|key| asks_for(*key, path))
+        self.is_otherwise(alloc, bare(path.as_bytes()))
     }
 
     /// Whether a key that is asked for by itself is seen otherwise.
@@ -234,11 +247,17 @@ fn view<'a, 'l>(layers: LentLayers<'a, 'l>, edit: DconfdbWaits<'a>) -> DconfdbVi
     }
 }
 
-/// Whether a key is that path, and asked for of any type.
-fn asks_for(key: DconfdbKeyAsked<'_>, path: &[u8]) -> bool
-    ensures { result ≡ asks_for path.now key.entry }
+/// Adds a key, if it is asked for of any type.
+fn add_if_any(key: DconfdbKeyAsked<'_>, paths: &mut Texts) -> Result<(), AllocError>
+    ensures { OnOk result (paths.new ≡ with_texts (any_name key.entry) paths.old) }
 {
-    key.type_text.is_empty() && key.path == path
+    if !key.type_text.is_empty() {
+        return Ok(());
+    }
+    match KeyPath::of_bytes(key.path) {
+        Some(path) => paths.add(path.as_str()),
+        None => Ok(()),
+    }
 }
 
 /// A key of any type that nothing waits of.

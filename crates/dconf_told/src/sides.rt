@@ -1,19 +1,17 @@
 //! What may be written: by the locks of all layers but the first.
 ghost use Rattle.std.specs.Prelude.{◌≡◌, IfOk, IsTrue, drop, false, map, string_bytes, true};
-ghost use Rattle.std.specs.Cmp.Lexicographic.{slice_cmp};
 ghost use Rattle.std.specs.List.{list_any};
-ghost use Rattle.std.specs.Ordering.{nat_cmp};
 ghost use Rattle.dconf_model.specs.Locks.{covers};
 ghost use Rattle.dconf_model.specs.Paths.{starts_with_slash};
 ghost use Rattle.dconf_layers.specs.LayerSettings.{seen_in, settings_of};
 ghost use Rattle.dconf_seen.specs.Waiting.{may_write};
 ghost use Rattle.dconf_told.specs.Relocking.{locks_beside, locks_in, may_beside, other_beside};
 
+use crate::texts::order_of;
 use dconf_layers::{Layer, LentLayers, Texts};
 use dconf_path::DirPath;
 use dconf_seen::covers;
 use std::alloc::{AllocError, Global};
-use std::cmp::Ordering;
 
 /// The directory of all paths.
 const ROOT: &str = "/";
@@ -94,11 +92,4 @@ impl<'l> Side<'l> {
             .binary_search_by(|lock| order_of(lock, path))
             .is_ok()
     }
-}
-
-/// How a lock and a path are ordered, by their bytes.
-fn order_of(lock: &String, path: &[u8]) -> Ordering
-    ensures { result ≡ slice_cmp nat_cmp (string_bytes lock.now) path.now }
-{
-    lock.as_bytes().cmp(path)
 }

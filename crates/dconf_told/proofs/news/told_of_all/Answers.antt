@@ -1,5 +1,5 @@
 use Rattle.std.specs.Prelude.{map, string_bytes}
-use Rattle.std.proofs.Common.{◌≡◌, ap}
+use Rattle.std.proofs.Common.{ap}
 use Rattle.dconf_layers.specs.LayerSettings.{seen_in}
 use Rattle.dconf_told.proofs.OthersLaws.{all_given}
 use Rattle.dconf_told.proofs.news.told_of_all.Goals as goal

@@ -1,11 +1,9 @@
-use Rattle.std.proofs.Common.{◌≡◌, ◌∙◌, ◌∷◌, [], ℕ, ap, arith, drop, map, refl, sym, List, subst}
+use Rattle.std.proofs.Common.{◌≡◌, ◌∙◌, ◌∷◌, [], ap, arith, drop, map, sym, List}
 use Rattle.std.specs.FinMap.{empty, keys}
 use Rattle.std.proofs.Math.ListN.{drop_of_length-le}
 use Rattle.std.proofs.lemmas.List.{nil_from_length}
 use Rattle.std.proofs.lemmas.Result.{IfOk-weaker}
 use Rattle.dconf_model.specs.Layers.{all_locks}
-use Rattle.dconf_model.specs.Order.{listing}
-use Rattle.dconf_path.specs.Paths.{directory_text}
 use Rattle.dconf_layers.specs.declared.layer.Layer.{Layer}
 use Rattle.dconf_layers.specs.LayerSettings.{settings_of}
 use Rattle.dconf_layers.specs.LayerRows.{locks_under}

@@ -1,4 +1,4 @@
-use Rattle.std.proofs.Common.{◌≡◌, ◌∙◌, ap, map, sym, drop}
+use Rattle.std.proofs.Common.{◌∙◌, ap, map, sym}
 use Rattle.std.specs.Prelude.{string_bytes}
 use Rattle.dconf_layers.specs.LayerSettings.{seen_in}
 use Rattle.dconf_told.specs.Relocking.{IsSideOf}
