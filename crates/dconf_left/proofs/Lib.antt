@@ -1,1 +1,4 @@
 pub mod NumberLaws
+pub mod RecordLaws
+pub mod FrontLaws
+pub mod StateLaws

@@ -101,7 +101,6 @@ fn number_at(bytes: &[u8], at: usize) -> u64
 }
 
 /// Writes a number into the eight bytes at a place.
-#[tactic(auto, using(crate::proofs::NumberLaws::eight_written))]
 #[inline(always)]
 fn put_number(number: u64, at: usize, room: &mut [u8])
     requires { at + 8 ≤ length room.old }
