@@ -23,13 +23,13 @@ front_length left name file synced most kept there some is =
     sym (ap length (front_is left name file synced most kept there some is)
     ∙ (length-append front kept ∙ ap (λ n. n + length kept) (length_all (numbers (left_file name file) synced))))
 
-pub front_fits : (all front kept room first rest : List ℕ) → all ≡ front ++ kept → 56 + length kept ≤ length room
-    → first ≡ front ++ drop 56 (take 56 room) → rest ≡ kept ++ drop (length kept) (drop 56 room) → first ++ rest ≡ all ++ drop (56 + length kept) room
-front_fits all front kept room first rest is reach a b =
-    let none : drop 56 (take 56 room) ≡ [] = drop_all 56 (take 56 room) (omega (arith, length-take-le 56 room (omega (arith, reach)))) in
-    let one : first ≡ front = a ∙ (ap (λ xs. front ++ xs) none ∙ append-nil front) in
-    let two : rest ≡ kept ++ drop (56 + length kept) room = b ∙ ap (λ xs. kept ++ xs) (drop-drop (length kept) 56 room) in
-    ap₂ ◌++◌ one two ∙ (sym (append_assoc front kept (drop (56 + length kept) room)) ∙ ap (λ xs. xs ++ drop (56 + length kept) room) (sym is))
+pub front_fits : (all front kept room first rest : List ℕ) → all ≡ front ++ kept → 56 + length kept ≡ length all → length all ≤ length room
+    → first ≡ front ++ drop 56 (take 56 room) → rest ≡ kept ++ drop (length kept) (drop 56 room) → first ++ rest ≡ all ++ drop (length all) room
+front_fits all front kept room first rest is size reach a b =
+    let none : drop 56 (take 56 room) ≡ [] = drop_all 56 (take 56 room) (omega (arith, length-take-le 56 room (omega (arith, reach, size)))) in
+    let one : first ≡ front = a ∙ ap (λ xs. front ++ xs) none ∙ append-nil front in
+    let two : rest ≡ kept ++ drop (length all) room = b ∙ ap (λ xs. kept ++ xs) (drop-drop (length kept) 56 room) ∙ ap (λ (n : ℕ). kept ++ drop n room) size in
+    ap₂ ◌++◌ one two ∙ sym (append_assoc front kept (drop (length all) room)) ∙ ap (λ xs. xs ++ drop (length all) room) (sym is)
 
 -- what is kept, by what was lent
 pub kept_is : (left name rest kept : List ℕ) (file : FileStamp) (of : LeftFile) (most : ℕ) → of ≡ left_file name file → records rest ≡ others of (records left)

@@ -17,8 +17,8 @@ pub fn with_left(
     room: &mut [u8],
 ) -> usize
     ensures count { result ≡ length (with_left left.now name.now file.now is_synced most) }
-    ensures fits { result ≤ length room.old → room.new ≡ with_left left.now name.now file.now is_synced most ++ drop result room.old }
-    ensures short { length room.old < result → room.new ≡ room.old }
+    ensures fits { let all = with_left left.now name.now file.now is_synced most in length all ≤ length room.old → room.new ≡ all ++ drop (length all) room.old }
+    ensures short { length room.old < length (with_left left.now name.now file.now is_synced most) → room.new ≡ room.old }
 {
     if most == 0 || !file.is_there {
         return put(newest(left, most), room);
