@@ -3,17 +3,15 @@ use Rattle.std.proofs.Common.{ℕ, zero, suc, ◌+◌, ◌-◌, ◌*◌, ◌/◌
 use Rattle.std.specs.Prelude.{⊤, if◌then◌else◌}
 use Rattle.std.specs.Simd.{first_chunks}
 use Rattle.std.proofs.lemmas.List.{take_at, drop_at, length-take-le}
-use Rattle.gv_model.specs.Encode.{number_bytes}
 use Rattle.gv_model.specs.BasicValue.{truth_bits}
 use Rattle.dconf_files.specs.declared.stamp.FileStamp.{FileStamp}
 use Rattle.dconf_left.specs.declared.files.LeftFile.{LeftFile}
-use Rattle.dconf_left.specs.declared.states.LeftState.{LeftState}
 use Rattle.dconf_left.specs.declared.states.LeftState.TheVariants.{Unknown, Left, Synced}
 use Rattle.dconf_left.specs.Records.{file_in, is_one, left_file, number_at, numbers, record_bytes, synced_in}
-use Rattle.dconf_left.specs.Left.{in_front, joined, left_state, others, records, state_in, state_of, with_left}
+use Rattle.dconf_left.specs.Left.{in_front, joined, left_state, others, records, state_of, with_left}
 use Rattle.dconf_left.specs.Laws.{LeftIsFound, OthersStay}
 use Rattle.dconf_left.proofs.NumberLaws.{length_all, placed}
-use Rattle.dconf_left.proofs.RecordLaws.{records_none, records_more}
+use Rattle.dconf_left.proofs.RecordLaws.{records_more}
 
 -- ---- a record that was written
 

@@ -9,8 +9,12 @@ use Rattle.dconf_left.specs.Numbers.{name_number}
 -- a file is known by its name, its device, its number there, its size, and when it was written
 abbrev pub left_file : List ℕ → FileStamp → LeftFile
 left_file name file = record {
-    name = name_number name; device = file.device; inode = file.inode; size = file.size;
-    seconds = file.written.seconds; nanoseconds = file.written.nanoseconds
+  name = name_number name;
+  device = file.device;
+  inode = file.inode;
+  size = file.size;
+  seconds = file.written.seconds;
+  nanoseconds = file.written.nanoseconds;
 }
 
 abbrev pub is_one : LeftFile → LeftFile → Bool
@@ -34,8 +38,12 @@ number_at r at = number_in (slice_range r at (at + 8))
 
 abbrev pub file_in : List ℕ → LeftFile
 file_in r = record {
-    name = number_at r 0; device = number_at r 8; inode = number_at r 16; size = number_at r 24;
-    seconds = number_at r 32; nanoseconds = number_at r 40
+  name = number_at r 0;
+  device = number_at r 8;
+  inode = number_at r 16;
+  size = number_at r 24;
+  seconds = number_at r 32;
+  nanoseconds = number_at r 40;
 }
 
 abbrev pub synced_in : List ℕ → Bool

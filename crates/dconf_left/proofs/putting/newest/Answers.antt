@@ -1,4 +1,3 @@
-use Rattle.std.proofs.Common.{rules}
 use Rattle.dconf_left.proofs.RecordLaws.{newest_joined}
 use Rattle.dconf_left.proofs.putting.newest.Goals as goal
 

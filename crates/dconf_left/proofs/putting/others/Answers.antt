@@ -1,5 +1,5 @@
-use Rattle.std.proofs.Common.{rules, ◌≡◌, ◌≤◌, ◌∙◌, ap, sym, length, true, false, arith, take, drop}
-use Rattle.dconf_left.specs.Left.{others, records}
+use Rattle.std.proofs.Common.{◌∙◌, ap, sym}
+use Rattle.dconf_left.specs.Left.{records}
 use Rattle.dconf_left.specs.Records.{file_in, is_one}
 use Rattle.dconf_left.proofs.RecordLaws.{others_first, others_all}
 use Rattle.dconf_left.proofs.putting.others.Goals as goal

@@ -1,4 +1,4 @@
-use Rattle.std.proofs.Common.{ap, ◌∙◌, length, ◌≡◌, ◌*◌, ◌+◌, ◌++◌, take, drop, get_or, List, ℕ, arith}
+use Rattle.std.proofs.Common.{ap, ◌∙◌, ◌≡◌, ◌*◌, ◌+◌, ◌++◌, take, drop, get_or}
 use Rattle.gv_model.specs.Encode.{number_bytes}
 use Rattle.dconf_left.specs.Records.{numbers}
 use Rattle.dconf_left.proofs.NumberLaws.{one_more}
