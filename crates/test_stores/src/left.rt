@@ -26,27 +26,20 @@ fn file(inode: u64) -> FileStamp {
     }
 }
 
-/// Files of the name `user` that were left one after the other, at most two, in a room; and how many bytes they take.
-fn left_in(files: &[(u64, bool)], room: &mut [u8; ROOM]) -> usize {
-    let mut len = 0;
-    for (inode, is_synced) in files {
-        let old = *room;
-        len = with_left(
-            &old[..len.min(ROOM)],
-            b"user",
-            &file(*inode),
-            *is_synced,
-            2,
-            room,
-        );
-    }
-    len
+/// The first bytes of a room.
+fn front(room: &[u8], len: usize) -> &[u8] {
+    &room[..len.min(room.len())]
+}
+
+/// The file of a number and of the name `user`, in front of others, of which one may stay. How many bytes they take.
+fn put(left: &[u8], inode: u64, is_synced: bool, room: &mut [u8]) -> usize {
+    with_left(left, b"user", &file(inode), is_synced, 2, room)
 }
 
 /// The record that a program of a machine of x86-64 has written ever since: each number in eight bytes, the lowest first.
 fn records_are_so() -> bool {
     let mut room = [9; ROOM];
-    let len = left_in(&[(8, true)], &mut room);
+    let len = put(b"", 8, true, &mut room);
     let name = name_number(b"user").to_le_bytes();
     let numbers = [2, 1, 0, 0, 0, 0, 0, 0, 8, 0, 0, 0, 0, 0, 0, 0, 3, 0, 0, 0, 0, 0, 0, 0];
     let times = [4, 0, 0, 0, 0, 0, 0, 0, 5, 0, 0, 0, 0, 0, 0, 0, 1, 0, 0, 0, 0, 0, 0, 0];
@@ -58,9 +51,11 @@ fn records_are_so() -> bool {
 }
 
 fn files_are_found() -> bool {
-    let mut room = [0; ROOM];
-    let len = left_in(&[(1, true), (2, true), (3, false)], &mut room).min(ROOM);
-    let left = &room[..len];
+    let (mut one, mut two, mut room) = ([0; ROOM], [0; ROOM], [0; ROOM]);
+    let len = put(b"", 1, true, &mut one);
+    let len = put(front(&one, len), 2, true, &mut two);
+    let len = put(front(&two, len), 3, false, &mut room);
+    let left = front(&room, len);
     let gone = FileStamp {
         is_there: false,
         ..file(3)
@@ -71,27 +66,30 @@ fn files_are_found() -> bool {
         && state_number(left, b"user", &file(3)) == 1
         && state_number(left, b"other", &file(3)) == 0
         && state_number(left, b"user", &gone) == 0
-        && state_number(&left[..len - 1], b"user", &file(2)) == 0
-        && state_number(&left[1..], b"user", &file(3)) == 0
+        && state_number(front(left, 2 * RECORD - 1), b"user", &file(2)) == 0
+        && state_number(&room[1..], b"user", &file(3)) == 0
         && state_number(b"", b"user", &file(3)) == 0
 }
 
 /// The newest record of a file is kept once; of one that isn't there none is written, nor where there is no room.
 fn files_are_kept_once() -> bool {
-    let mut room = [0; ROOM];
-    let len = left_in(&[(1, false), (2, false), (2, true)], &mut room).min(ROOM);
+    let (mut one, mut two, mut room) = ([0; ROOM], [0; ROOM], [0; ROOM]);
+    let len = put(b"", 1, false, &mut one);
+    let len = put(front(&one, len), 2, false, &mut two);
+    let len = put(front(&two, len), 2, true, &mut room);
+    let left = front(&room, len);
     let gone = FileStamp {
         is_there: false,
         ..file(4)
     };
     let (mut other, mut short) = ([0; ROOM], [7; RECORD]);
-    let kept = with_left(&room[..len], b"user", &gone, true, 1, &mut other);
-    let wanted = with_left(&room[..len], b"user", &file(4), true, 2, &mut short);
+    let kept = with_left(left, b"user", &gone, true, 1, &mut other);
+    let wanted = with_left(left, b"user", &file(4), true, 2, &mut short);
     len == 2 * RECORD
-        && state_number(&room[..len], b"user", &file(1)) == 1
-        && state_number(&room[..len], b"user", &file(2)) == 2
+        && state_number(left, b"user", &file(1)) == 1
+        && state_number(left, b"user", &file(2)) == 2
         && kept == RECORD
-        && &other[..RECORD] == &room[..RECORD]
+        && front(&other, RECORD) == front(&room, RECORD)
         && wanted == 2 * RECORD
         && short == [7; RECORD]
 }
