@@ -14,7 +14,7 @@
 enum { LARGEST = 1 << 20, HEAD = 4096, HEAD_NOTES = 2 };
 
 /* The room that is made first: for so many bytes, and times. */
-enum { FEW_BYTES = 1024, FEW_TIMES = 16 };
+enum { FEW_BYTES = 1024, FEW_TIMES = 4 };
 
 /* The files that were left take no more bytes. */
 enum { LEFT_ROOM = 4096 };
