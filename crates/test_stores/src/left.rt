@@ -41,8 +41,12 @@ fn records_are_so() -> bool {
     let mut room = [9; ROOM];
     let len = put(b"", 8, true, &mut room);
     let name = name_number(b"user").to_le_bytes();
-    let numbers = [2, 1, 0, 0, 0, 0, 0, 0, 8, 0, 0, 0, 0, 0, 0, 0, 3, 0, 0, 0, 0, 0, 0, 0];
-    let times = [4, 0, 0, 0, 0, 0, 0, 0, 5, 0, 0, 0, 0, 0, 0, 0, 1, 0, 0, 0, 0, 0, 0, 0];
+    let numbers = [
+        2, 1, 0, 0, 0, 0, 0, 0, 8, 0, 0, 0, 0, 0, 0, 0, 3, 0, 0, 0, 0, 0, 0, 0,
+    ];
+    let times = [
+        4, 0, 0, 0, 0, 0, 0, 0, 5, 0, 0, 0, 0, 0, 0, 0, 1, 0, 0, 0, 0, 0, 0, 0,
+    ];
     len == RECORD
         && &room[..8] == name.as_slice()
         && &room[8..32] == numbers.as_slice()
