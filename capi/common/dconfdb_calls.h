@@ -940,6 +940,26 @@ uint32_t dconfdb_notes_read(const uint8_t *bytes, size_t bytes_len, DconfdbTime 
 uint32_t dconfdb_notes_written(const DconfdbTime *notes, size_t n, size_t most, size_t most_bytes, uint8_t *room, size_t room_len,
                                size_t *len);
 
+/* ---- files as those who noted what they set left them: bytes of records, the newest first, that programs share */
+
+/* What is known of a file as it is. */
+enum {
+    DCONFDB_LEFT_UNKNOWN, /* nobody who noted left it so */
+    DCONFDB_LEFT_SO,      /* one did; whether it was on the disk is not known */
+    DCONFDB_LEFT_SYNCED   /* one did, and it was on the disk */
+};
+
+/* The file of that name, whose first record counts. The bytes may be anybody's. */
+uint32_t dconfdb_left_state(const uint8_t *left, size_t left_len, const uint8_t *name, size_t name_len, const DconfdbFileStamp *file);
+
+/* Those that were left with this one in front, if it is there; so many at most, and the oldest go. Gives how many bytes they take: these
+ * are written if the room has so many. */
+size_t dconfdb_with_left(const uint8_t *left, size_t left_len, const uint8_t *name, size_t name_len, const DconfdbFileStamp *file,
+                         bool is_synced, size_t most, uint8_t *room, size_t room_len);
+
+/* A number for the value that a layer has at a path, locked or not: of its type and its bytes. 0: there is none, or it is no key's path. */
+uint64_t dconfdb_value_number(const DconfdbLayer *layer, const uint8_t *path, size_t path_len);
+
 /* ---- what is seen while edits wait, and which paths stand for which */
 
 /* What the newest edit says that waits of a key: it sets a value, or takes the user's away. One that sets bytes of no type

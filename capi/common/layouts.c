@@ -52,6 +52,8 @@ uint32_t dconfdb_told(const void *before, size_t before_n, const void *after, si
 uint32_t dconfdb_leave_out(const void *notes, size_t n, const void *seen, size_t seen_n, const void *edits, size_t count, uint64_t now, bool *room,
                            size_t room_len, size_t *len);
 uint32_t dconfdb_note_seen(const void *notes, size_t n, const void *seen, size_t seen_n, uint64_t now, void *room, size_t room_len, size_t *len);
+size_t dconfdb_with_left(const uint8_t *left, size_t left_len, const uint8_t *name, size_t name_len, const void *file, bool is_synced, size_t most,
+                         uint8_t *room, size_t room_len);
 void dconfdb_ending(uint32_t outcome, uint32_t fault, bool before, void *ending);
 
 /* How many bytes a field takes: a bool, a uint32_t, a size_t or pointer, and bytes that are lent. */
@@ -880,6 +882,17 @@ static void tries_stamp(void)
     lies("DconfdbFileTime", "nanoseconds", WORD, WORD);
 }
 
+/* Which word of it is which: the record of a file that is left has its words in this order, behind a number for the name. */
+static void tries_left(void)
+{
+    _Alignas(16) uint8_t stamp[STAMP_SIZE] = {0};
+    uint64_t words[] = {1, 2, 3, 4, 5}, entry[7];
+    memcpy(stamp, words, sizeof words);
+    stamp[IS_THERE] = 1;
+    is_so(dconfdb_with_left(stamp, 0, stamp, 0, stamp, true, 1, (uint8_t *)entry, sizeof entry) == sizeof entry, "DconfdbFileStamp");
+    is_so(memcmp(entry + 1, words, sizeof words) == 0 && entry[6] == 1, "DconfdbFileStamp");
+}
+
 /* A link that is root's own, and one that is not; what was read, and what was not. */
 enum { OLD_USER = 0, OLD_GROUP = 4, OLD_BITS = 8, OLD_IS_THERE = 12, OLD_IS_REGULAR = 13, OLD_IS_LINK = 14, OLD_IS_READ = 15, OLD_SIZE = 16 };
 
@@ -946,6 +959,7 @@ int main(void)
     finds_ending();
     tries_key();
     tries_stamp();
+    tries_left();
     finds_owner();
     return 0;
 }

@@ -5,7 +5,6 @@
 #include "order.h"
 
 #include <errno.h>
-#include <stddef.h>
 #include <stdlib.h>
 #include <string.h>
 #include <time.h>
@@ -15,7 +14,10 @@
 enum { LARGEST = 1 << 20, HEAD = 4096, HEAD_NOTES = 2 };
 
 /* The room that is made first: for so many bytes, and times. */
-enum { FEW_BYTES = 1024, FEW_TIMES = 16 };
+enum { FEW_BYTES = 1024, FEW_TIMES = 4 };
+
+/* The files that were left take no more bytes. */
+enum { LEFT_ROOM = 4096 };
 
 /* Two clocks are read at once if no more than so many nanoseconds pass meanwhile; else again, so often. */
 enum { MOST_BETWEEN = 50000, MOST_READS = 20 };
@@ -168,21 +170,6 @@ DconfdbBytes order_path(char **at, const char *name, const DconfdbBytes *path)
     return (DconfdbBytes){(const uint8_t *)start, 1 + len + path->len};
 }
 
-/* FNV-1a of a name. */
-static uint64_t number_of(const char *name)
-{
-    uint64_t hash = 0xcbf29ce484222325U;
-    for (; *name; name++)
-        hash = (hash ^ (uint8_t)*name) * 0x100000001b3U;
-    return hash;
-}
-
-static LeftFile left_of(const char *name, const FileState *file, bool is_synced)
-{
-    return (LeftFile){number_of(name), file->device, file->inode, file->size, (int64_t)file->written.seconds,
-                      (int64_t)file->written.nanoseconds, is_synced};
-}
-
 /* ---- what is noted */
 
 /* Once, as what is left of a file. A signal interrupts no such call for long. */
@@ -258,28 +245,19 @@ bool order_read(Order *order, int lock)
     return true;
 }
 
-/* Whether the file was left so, on the disk or not, by who left it last. */
-static bool finds_left(const Order *order, const char *name, const FileState *file, LeftFile *found)
+static uint32_t left_state(const Order *order, const char *name, const FileState *file)
 {
-    LeftFile sought = left_of(name, file, false);
-    for (size_t at = 0; file->is_there && at + sizeof *found <= order->left.len; at += sizeof *found) {
-        memcpy(found, order->left.at + at, sizeof *found);
-        if (memcmp(found, &sought, offsetof(LeftFile, is_synced)) == 0)
-            return true;
-    }
-    return false;
+    return dconfdb_left_state(order->left.at, order->left.len, (const uint8_t *)name, strlen(name), file);
 }
 
 bool order_has_left(const Order *order, const char *name, const FileState *file)
 {
-    LeftFile found;
-    return finds_left(order, name, file, &found);
+    return left_state(order, name, file) != DCONFDB_LEFT_UNKNOWN;
 }
 
 bool order_is_synced(const Order *order, const char *name, const FileState *file)
 {
-    LeftFile found;
-    return finds_left(order, name, file, &found) && found.is_synced == 1;
+    return left_state(order, name, file) == DCONFDB_LEFT_SYNCED;
 }
 
 /* Room for so many more in `others`. */
@@ -322,19 +300,6 @@ bool order_note_made(Order *order, const DconfdbTime *made, size_t count)
 }
 
 /* ---- written anew */
-
-/* The files that were left, in front of which the newest stands. */
-static DconfdbBytes with_left(const Order *order, LeftFile *room, const char *name, const FileState *left, bool is_synced)
-{
-    size_t count = 0, more = order->left.len / sizeof *room;
-    if (left->is_there)
-        room[count++] = left_of(name, left, is_synced);
-    if (more > MOST_LEFT - count)
-        more = MOST_LEFT - count;
-    if (more > 0)
-        memcpy(room + count, order->left.at, more * sizeof *room);
-    return (DconfdbBytes){(const uint8_t *)room, (count + more) * sizeof *room};
-}
 
 /* False: no memory is left. */
 static bool keep_newest(Order *order)
@@ -387,9 +352,11 @@ static size_t bytes_of_notes(Order *order, const DconfdbTime *all, size_t count)
 
 void order_write(Order *order, int lock, const char *name, const FileState *left, bool is_synced)
 {
-    LeftFile room[MOST_LEFT];
-    DconfdbBytes files = with_left(order, room, name, left, is_synced);
-    if (!keep_newest(order) || !has_room_for(order, HEAD_NOTES + order->count))
+    uint8_t room[LEFT_ROOM];
+    size_t size = dconfdb_with_left(order->left.at, order->left.len, (const uint8_t *)name, strlen(name), left, is_synced, MOST_LEFT, room,
+                                    sizeof room);
+    DconfdbBytes files = {room, size};
+    if (size > sizeof room || !keep_newest(order) || !has_room_for(order, HEAD_NOTES + order->count))
         return;
     size_t len = bytes_of_notes(order, order->others, all_notes(order, order->others, &files));
     if (len > 0)

@@ -16,13 +16,6 @@
  * all databases of the folder that they were set by then. */
 enum { MOST_NOTES = 8192, MOST_LEFT = 64 };
 
-/* A file as one who noted left it: a number for its name, what tells it from others, and whether it was on the disk. */
-typedef struct {
-    uint64_t name, device, inode, size;
-    int64_t seconds, nanoseconds;
-    uint64_t is_synced;
-} LeftFile;
-
 /* All bits 0 at first. What it holds is of one turn, and its memory stays for the next. */
 typedef struct {
     uint64_t now, moment;        /* the same, as a time and by order_clock() */
@@ -30,7 +23,7 @@ typedef struct {
     size_t count, most;
     DconfdbTime *notes;          /* those of the lock's file: of its turn, of the files that were left, and of what was set */
     size_t notes_most;
-    DconfdbBytes left;            /* files that were left, the newest first: LeftFile after LeftFile */
+    DconfdbBytes left;           /* files that were left, as the proved calls write them */
     char *text, *next, *own;      /* the bytes of the lock's file, which lend paths; room for those that it gets; the turn's own paths */
     size_t size, room, next_room; /* how many are taken, of how many there may be */
     size_t own_len, own_room;

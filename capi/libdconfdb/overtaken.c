@@ -111,20 +111,10 @@ void store_forget_seen(DconfdbStore *store)
     }
 }
 
-static uint64_t hashed(uint64_t hash, const DconfdbBytes *bytes)
-{
-    for (size_t i = 0; i < bytes->len; i++)
-        hash = (hash ^ bytes->at[i]) * 0x100000001b3U;
-    return hash;
-}
-
-/* FNV-1a of a value of the user's and its type; 0: there is none. */
+/* A number for the user's value; 0: there is none. */
 static uint64_t value_in(const DconfdbSnapshot *snapshot, const DconfdbBytes *path)
 {
-    DconfdbFound found = {DCONFDB_NOTHING, DCONFDB_NOTHING, 0};
-    if (!dconfdb_read_alone(&snapshot->layers[0], path->at, path->len, &found))
-        return 0;
-    return hashed(hashed(0xcbf29ce484222325U, &found.type_text), &found.value) | 1;
+    return dconfdb_value_number(&snapshot->layers[0], path->at, path->len);
 }
 
 /* How many paths others were seen to change, and how many bytes these take. */

@@ -141,7 +141,7 @@ says_one_thing bytes (n ∷ ns) (o ∷ os) f g =
 
 -- ---- while it is read
 
-records_append : (ns ms : List Noted) → records_bytes (ns ++ ms) ≡ records_bytes ns ++ records_bytes ms
+pub records_append : (ns ms : List Noted) → records_bytes (ns ++ ms) ≡ records_bytes ns ++ records_bytes ms
 records_append [] ms = refl
 records_append (n ∷ ns) ms = ap (λ x. record_bytes n ++ x) (records_append ns ms) ∙ sym (append_assoc (record_bytes n) (records_bytes ns) (records_bytes ms))
 

@@ -1,5 +1,5 @@
 -- How notes stand in a file: the title, the records, and the moment of the turn once more.
-use Rattle.std.specs.Prelude.{◌≡◌, ◌≤◌, ◌++◌, ℕ, List, [], ◌∷◌, length, codes}
+use Rattle.std.specs.Prelude.{◌≡◌, ◌≤◌, ◌<◌, ◌++◌, ℕ, List, [], ◌∷◌, length, drop, codes}
 use Rattle.std.specs.List.{AllByRecursion}
 use Rattle.gv_model.specs.Encode.{number_bytes}
 use Rattle.dconf_times.specs.declared.times.DconfdbTime.{DconfdbTime}
@@ -50,3 +50,10 @@ SaysOneThing = (bytes : List ℕ) (notes others : List Noted) → IsFile bytes n
 pub record IsForAll (sets : List DconfdbTime) (one : DconfdbTime) : Type 0 where
   pub root : one.path.now ≡ codes "/"
   pub latest : AllByRecursion (λ t. t.when ≤ one.when) sets
+
+-- n is how many bytes there are; they stand at the start of the room, and what is behind them stays.
+-- A room that is too short for them stays as it was.
+pub record IsHandedOut (bytes old new : List ℕ) (n : ℕ) : Type 0 where
+  pub count : n ≡ length bytes
+  pub fits : length bytes ≤ length old → new ≡ bytes ++ drop (length bytes) old
+  pub short : length old < length bytes → new ≡ old

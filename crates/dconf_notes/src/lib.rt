@@ -6,8 +6,9 @@
 //! Where `head` is of a turn at 7 that left no file, and `set` a note of `/user/desk/size`:
 //!
 //! ```
-//! let bytes = notes_written(alloc, &[head, set], 100, 1000)?;
-//! let read = notes_read(alloc, bytes.as_slice())?;
+//! let mut room = vec![in alloc; 0; 1000]?;
+//! let len = notes_written(alloc, &[head, set], 100, 1000, &mut room)?;
+//! let read = notes_read(alloc, &room[..len.min(1000)])?;
 //! let len = read.map(|notes| notes.len());
 //! Ok(len == Some(2) && notes_read(alloc, b"dconfdb times 1")?.is_none())
 //! ```

@@ -11,9 +11,9 @@ use std::alloc::{AllocError, Global};
 pub(crate) const TITLE: &[u8] = b"dconfdb times 2\n";
 
 /// How many bytes a number takes, and how many stand in front of a record's path.
-const NUMBER_LEN: usize = 8;
+pub(crate) const NUMBER_LEN: usize = 8;
 
-const NUMBERS_LEN: usize = 24;
+pub(crate) const NUMBERS_LEN: usize = 24;
 
 /// The notes that a file's bytes are: the first is of the turn in which they were written. `None`:
 /// they are no such file's, or not whole.

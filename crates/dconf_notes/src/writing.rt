@@ -1,38 +1,43 @@
 //! Notes as the bytes of a file.
-ghost use Rattle.std.specs.Prelude.{◌≡◌, ◌≤◌, ◌⊎◌, ◌++◌, ◌∷◌, [], ℕ, length, map, take, drop, IfOk, OnOk};
+ghost use Rattle.std.specs.Prelude.{◌≡◌, ◌+◌, ◌≤◌, ◌⊎◌, ◌++◌, ◌∷◌, [], ℕ, List, length, map, take, drop, IfOk, IfSome, IsErr};
 ghost use Rattle.std.specs.List.{AllByRecursion};
 ghost use Rattle.gv_model.specs.Encode.{number_bytes};
 ghost use Rattle.dconf_times.specs.declared.times.DconfdbTime.{DconfdbTime};
-ghost use Rattle.dconf_notes.specs.Records.{IsForAll, file_bytes, noted_of, record_bytes, records_bytes};
+ghost use Rattle.dconf_notes.specs.Records.{IsForAll, IsHandedOut, file_bytes, noted_of, record_bytes, records_bytes, title};
 
-use crate::reading::TITLE;
+use crate::reading::{NUMBER_LEN, NUMBERS_LEN, TITLE};
+use byteorder::{ByteOrder, LittleEndian};
 use dconf_times::DconfdbTime;
 use std::alloc::{AllocError, Global};
 
-/// A note mostly has no more bytes than that.
-const MOSTLY: usize = 96;
+/// How many bytes stand around the records.
+const FRAME_LEN: usize = 24;
 
 /// The path above that of each database's keys.
 const ROOT: &[u8] = b"/";
 
-/// The bytes of a file of these notes, of which the first is of the turn.
+/// Writes the bytes of a file of these notes, of which the first is of the turn, to the start of the room, if it has so
+/// many; what is behind them stays. Says how many they are.
 ///
 /// Where there are more than so many, or they would take more bytes than that, one note stands for all
 /// that were set: it says of all paths that they were set by then. The only error is a failed
-/// allocation. It looks at each note twice at most.
+/// allocation, or more bytes than can be counted. It looks at each note four times at most.
 pub fn notes_written(
     alloc: Global,
     notes: &[DconfdbTime<'_>],
     most: usize,
     most_bytes: usize,
-) -> Result<Vec<u8>, AllocError>
-    ensures { IfOk result (λ bytes. (bytes.items ≡ file_bytes (map noted_of notes.now))
-        ⊎ ((left : ℕ) × (one : DconfdbTime) × IsForAll (drop left notes.now) one × (bytes.items ≡ file_bytes (map noted_of (take left notes.now ++ one ∷ []))))) }
+    room: &mut [u8],
+) -> Result<usize, AllocError>
+    ensures done { IfOk result (λ n. (bytes : List ℕ) × IsHandedOut bytes room.old room.new n × ((bytes ≡ file_bytes (map noted_of notes.now))
+        ⊎ ((left : ℕ) × (one : DconfdbTime) × IsForAll (drop left notes.now) one × (bytes ≡ file_bytes (map noted_of (take left notes.now ++ one ∷ [])))))) }
+    ensures kept { IsErr result → room.new ≡ room.old }
 {
     if notes.len() <= most {
-        let bytes = all_written(alloc, notes)?;
-        if bytes.len() <= most_bytes {
-            return Ok(bytes);
+        let len = len_of(notes)?;
+        if len <= most_bytes {
+            put_if_fits(notes, len, room);
+            return Ok(len);
         }
     }
     let (left, sets) = notes.split_at(left_of(notes));
@@ -40,47 +45,98 @@ pub fn notes_written(
     let mut few = Vec::new(alloc);
     few.extend_from_slice(left)?;
     few.push(one)?;
-    all_written(alloc, few.as_slice())
+    let len = len_of(&few)?;
+    put_if_fits(&few, len, room);
+    Ok(len)
 }
 
-/// Their bytes.
-fn all_written(alloc: Global, notes: &[DconfdbTime<'_>]) -> Result<Vec<u8>, AllocError>
-    ensures { IfOk result (λ bytes. bytes.items ≡ file_bytes (map noted_of notes.now)) }
+/// How many bytes their file has.
+fn len_of(notes: &[DconfdbTime<'_>]) -> Result<usize, AllocError>
+    ensures { IfOk result (λ n. n ≡ length (file_bytes (map noted_of notes.now))) }
 {
-    let mut bytes = Vec::with_capacity(alloc, notes.len().saturating_mul(MOSTLY))?;
-    let Some(head) = notes.first() else {
-        return Ok(bytes);
-    };
-    bytes.extend_from_slice(TITLE)?;
-    push_records(notes, &mut bytes)?;
-    push_number(head.when, &mut bytes)?;
-    Ok(bytes)
-}
-
-fn push_records(notes: &[DconfdbTime<'_>], bytes: &mut Vec<u8>) -> Result<(), AllocError>
-    ensures { OnOk result (bytes.new.items ≡ bytes.old.items ++ records_bytes (map noted_of notes.now)) }
-{
-    for note in notes {
-        push_record(note, bytes)?;
+    if notes.is_empty() {
+        return Ok(0);
     }
-    Ok(())
+    let mut len = FRAME_LEN;
+    for note in notes {
+        len = len_with(len, note)?;
+    }
+    Ok(len)
 }
 
-fn push_record(note: &DconfdbTime<'_>, bytes: &mut Vec<u8>) -> Result<(), AllocError>
-    ensures { OnOk result (bytes.new.items ≡ bytes.old.items ++ record_bytes (noted_of note.now)) }
+/// So many bytes and those of a record.
+fn len_with(len: usize, note: &DconfdbTime<'_>) -> Result<usize, AllocError>
+    ensures { IfOk result (λ n. n ≡ len + length (record_bytes (noted_of note.now))) }
 {
-    push_number(note.when, bytes)?;
-    push_number(note.value, bytes)?;
-    push_number(note.path.len() as u64, bytes)?;
-    bytes.extend_from_slice(note.path)
+    match len.checked_add(NUMBERS_LEN + note.path.len()) {
+        Some(more) => Ok(more),
+        None => Err(AllocError),
+    }
 }
 
-/// A number in eight bytes.
-#[tactic(auto, using(crate::proofs::RecordLaws::appended, gv_model::proofs::NumberBytes::low_bytes))]
-fn push_number(number: u64, bytes: &mut Vec<u8>) -> Result<(), AllocError>
-    ensures { OnOk result (bytes.new.items ≡ bytes.old.items ++ number_bytes 8 number) }
+/// Writes their bytes, of which there are so many, if there is room.
+fn put_if_fits(notes: &[DconfdbTime<'_>], len: usize, room: &mut [u8])
+    requires { len ≡ length (file_bytes (map noted_of notes.now)) }
+    ensures { IsHandedOut (file_bytes (map noted_of notes.now)) room.old room.new len }
 {
-    bytes.extend_from_slice(&number.to_le_bytes())
+    if len > room.len() {
+        return;
+    }
+    if let Some(head) = notes.first() {
+        put_file(notes, head.when, room);
+    }
+}
+
+/// Writes the title, the records, and a moment.
+fn put_file(notes: &[DconfdbTime<'_>], moment: u64, room: &mut [u8])
+    requires { 24 + length (records_bytes (map noted_of notes.now)) ≤ length room.old }
+    ensures { let bytes = title ++ (records_bytes (map noted_of notes.now) ++ number_bytes 8 moment) in room.new ≡ bytes ++ drop (length bytes) room.old }
+{
+    let (front, rest) = room.split_at_mut(TITLE.len());
+    front.copy_from_slice(TITLE);
+    let at = put_records(notes, rest);
+    let (_, end) = rest.split_at_mut(at);
+    put_number(moment, end);
+}
+
+/// Writes records, and says how many bytes they have.
+fn put_records(notes: &[DconfdbTime<'_>], room: &mut [u8]) -> usize
+    requires { length (records_bytes (map noted_of notes.now)) ≤ length room.old }
+    ensures len { result ≡ length (records_bytes (map noted_of notes.now)) }
+    ensures put { room.new ≡ records_bytes (map noted_of notes.now) ++ drop result room.old }
+{
+    let mut at = 0;
+    for note in notes {
+        let (_, rest) = room.split_at_mut(at);
+        at += put_record(note, rest);
+    }
+    at
+}
+
+/// Writes a record, and says how many bytes it has.
+fn put_record(note: &DconfdbTime<'_>, room: &mut [u8]) -> usize
+    requires { length (record_bytes (noted_of note.now)) ≤ length room.old }
+    ensures len { result ≡ length (record_bytes (noted_of note.now)) }
+    ensures put { room.new ≡ record_bytes (noted_of note.now) ++ drop result room.old }
+{
+    let len = NUMBERS_LEN + note.path.len();
+    let (when, rest) = room.split_at_mut(NUMBER_LEN);
+    let (value, rest) = rest.split_at_mut(NUMBER_LEN);
+    let (path_len, rest) = rest.split_at_mut(NUMBER_LEN);
+    let (path, _) = rest.split_at_mut(note.path.len());
+    put_number(note.when, when);
+    put_number(note.value, value);
+    put_number(note.path.len() as u64, path_len);
+    path.copy_from_slice(note.path);
+    len
+}
+
+/// Writes a number in eight bytes.
+fn put_number(number: u64, room: &mut [u8])
+    requires { 8 ≤ length room.old }
+    ensures { room.new ≡ number_bytes 8 number ++ drop 8 room.old }
+{
+    LittleEndian::write_u64(room, number);
 }
 
 /// How many notes stand before those that were set.

@@ -8,7 +8,7 @@ ghost use Rattle.dconf_times.specs.Room.{AreNewest};
 ghost use Rattle.dconf_times.specs.Seeing.{is_unnoted, seen_of, stays_beside};
 ghost use Rattle.dconf_times.specs.Times.{note_of};
 ghost use Rattle.dconf_times.specs.declared.times.DconfdbTime.{DconfdbTime};
-ghost use Rattle.dconf_notes.specs.Records.{Noted, IsFile, IsForAll, file_bytes, noted_of};
+ghost use Rattle.dconf_notes.specs.Records.{Noted, IsFile, IsForAll, IsHandedOut, file_bytes, noted_of};
 ghost use Rattle.dconfdb_calls.specs.Given.{HandsOut};
 
 use dconf_notes::{notes_read, notes_written};
@@ -180,14 +180,14 @@ pub extern "C" fn dconfdb_notes_written(
     room: &mut [u8],
     len: &mut usize,
 ) -> u32
-    ensures done { result ≡ 0 → (bytes : List ℕ) × HandsOut bytes room.old room.new len.new × ((bytes ≡ file_bytes (map noted_of notes.now))
+    ensures done { result ≡ 0 → (bytes : List ℕ) × IsHandedOut bytes room.old room.new len.new × ((bytes ≡ file_bytes (map noted_of notes.now))
         ⊎ ((left : ℕ) × (one : DconfdbTime) × IsForAll (drop left notes.now) one × (bytes ≡ file_bytes (map noted_of (take left notes.now ++ one ∷ []))))) }
     ensures refused { result ≢ 0 → result ≡ 1 }
     ensures kept { result ≢ 0 → (room.new ≡ room.old) × (len.new ≡ len.old) }
 {
-    match notes_written(alloc, notes, most, most_bytes) {
-        Ok(bytes) => {
-            *len = hand_out(bytes.as_slice(), room);
+    match notes_written(alloc, notes, most, most_bytes, room) {
+        Ok(n) => {
+            *len = n;
             0
         }
         Err(_) => Fault::Memory.number(),

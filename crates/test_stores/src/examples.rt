@@ -107,8 +107,9 @@ fn of_times(alloc: Global) -> Result<bool, Fail> {
 }
 
 fn of_dconf_notes(alloc: Global, head: Time<'_>, set: Time<'_>) -> Result<bool, Fail> {
-    let bytes = notes_written(alloc, &[head, set], 100, 1000)?;
-    let read = notes_read(alloc, bytes.as_slice())?;
+    let mut room = vec![in alloc; 0; 1000]?;
+    let len = notes_written(alloc, &[head, set], 100, 1000, &mut room)?;
+    let read = notes_read(alloc, &room[..len.min(1000)])?;
     let len = read.map(|notes| notes.len());
     Ok(len == Some(2) && notes_read(alloc, b"dconfdb times 1")?.is_none())
 }

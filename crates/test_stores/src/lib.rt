@@ -13,6 +13,8 @@ mod examples;
 #[cfg(test)]
 mod folders;
 #[cfg(test)]
+mod left;
+#[cfg(test)]
 mod machines;
 #[cfg(test)]
 mod made;

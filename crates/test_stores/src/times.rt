@@ -5,6 +5,9 @@ use std::alloc::{AllocError, Global};
 use std::fmt::Write;
 use test_rows::number;
 
+/// Notes that are written here take no more bytes.
+const ROOM: usize = 1000;
+
 /// The time of a text, as `/a/k=5`.
 fn time_of(text: &str) -> DconfdbTime<'_> {
     let (path, when) = text.split_once('=').unwrap_or((text, ""));
@@ -95,9 +98,11 @@ fn show_kept(
 ) -> Result<(), AllocError> {
     let (most, most_bytes) = limits.split_once(' ').unwrap_or((limits, ""));
     let (most, most_bytes) = (number(most) as usize, number(most_bytes) as usize);
-    let bytes = notes_written(alloc, notes, most, most_bytes)?;
-    write!(found, "{}", bytes.len())?;
-    if let Some(read) = notes_read(alloc, &bytes)? {
+    let mut room = vec![in alloc; 0; ROOM]?;
+    let len = notes_written(alloc, notes, most, most_bytes, &mut room)?;
+    write!(found, "{len}")?;
+    let (bytes, _) = room.split_at(len.min(room.len()));
+    if let Some(read) = notes_read(alloc, bytes)? {
         show_times(&read, found)?;
     }
     for len in 0..bytes.len() {

@@ -1,0 +1,4 @@
+pub mod NumberLaws
+pub mod RecordLaws
+pub mod FrontLaws
+pub mod StateLaws

@@ -1,0 +1,4 @@
+pub mod Numbers
+pub mod Records
+pub mod Left
+pub mod Laws
