@@ -1,0 +1,3 @@
+mod LineAnswers
+mod SplitLines
+mod WholeLaw

@@ -1,0 +1,7 @@
+pub mod Answers
+pub mod Cursors
+pub mod Laws
+pub mod Lines
+pub mod Sayings
+pub mod Told
+pub mod Words
