@@ -1,3 +1,4 @@
 mod LineAnswers
+mod SignOf
 mod SplitLines
 mod WholeLaw

@@ -1,5 +1,6 @@
 pub mod Answers
 pub mod Cursors
+pub mod Kinds
 pub mod Laws
 pub mod Lines
 pub mod Sayings

@@ -1,5 +1,5 @@
 //! Where the reading of a text has come.
-ghost use Rattle.std.specs.Prelude.{◌≡◌, ◌<◌, ◌+◌, ◌∷◌, [], IfSome, IfNone};
+ghost use Rattle.std.specs.Prelude.{◌≡◌, ◌<◌, ◌+◌, ◌∷◌, [], IfSome, IfNone, length};
 ghost use Rattle.dconf_model.specs.Lines.{lines_of};
 
 use crate::lines::split_line;
@@ -36,6 +36,7 @@ impl<'a> Cursor<'a> {
     /// Goes on to the next line, if there is one.
     pub(crate) fn take_line(&mut self) -> Option<&'a [u8]>
         ensures some { IfSome result (λ line. lines_of self.old.rest.now ≡ line.now ∷ lines_of self.new.rest.now) }
+        ensures shorter { IfSome result (λ _. length self.new.rest.now < length self.old.rest.now) }
         ensures counted { IfSome result (λ _. self.old.line < 18446744073709551615 → self.new.line ≡ self.old.line + 1) }
         ensures place { (self.new.group ≡ self.old.group) × (self.new.place ≡ self.old.place) }
         ensures none { IfNone result (lines_of self.old.rest.now ≡ []) }

@@ -24,6 +24,7 @@ mod fault;
 mod groups;
 mod keyfile;
 mod keys;
+mod kinds;
 mod lines;
 mod locks;
 mod said;
@@ -31,6 +32,7 @@ mod told;
 
 pub use cursor::Cursor;
 pub use fault::LineFault;
+pub use kinds::TextKind;
 pub use said::Said;
 pub use told::ToldLine;
 

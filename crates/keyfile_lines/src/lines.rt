@@ -1,5 +1,5 @@
 //! The lines of a text, and what one of a keyfile says by itself (Desktop Entry Specification, "Basic format of the file").
-ghost use Rattle.std.specs.Prelude.{◌≡◌, ◌≢◌, ◌∷◌, length};
+ghost use Rattle.std.specs.Prelude.{◌≡◌, ◌≢◌, ◌<◌, ◌∷◌, length};
 ghost use Rattle.dconf_model.specs.Keyfiles.{line_kind, without_blanks};
 ghost use Rattle.dconf_model.specs.Keyfiles.LineKind.{entry};
 ghost use Rattle.dconf_model.specs.Lines.{lines_of};
@@ -64,7 +64,8 @@ impl<'a> Line<'a> {
 /// The first line of a text without its line feed, and what follows that.
 pub(crate) fn split_line(text: &[u8]) -> (&[u8], &[u8])
     requires { length text.now ≢ 0 }
-    ensures { lines_of text.now ≡ result.0.now ∷ lines_of result.1.now }
+    ensures lines { lines_of text.now ≡ result.0.now ∷ lines_of result.1.now }
+    ensures shorter { length result.1.now < length text.now }
 {
     match memchr(b'\n', text) {
         Some(end) => (&text[..end], &text[end + 1..]),
