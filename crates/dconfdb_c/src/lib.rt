@@ -12,6 +12,7 @@ mod fates;
 mod fault;
 mod file;
 mod get;
+mod keyfile;
 mod list;
 mod look;
 mod making;

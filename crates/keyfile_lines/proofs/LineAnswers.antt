@@ -1,20 +1,19 @@
 -- What a line that is UTF-8 gives where it stands, by what it says by itself.
-use Rattle.std.proofs.Common.{◌≡◌, ℕ, Bool, true, false, List, [], Option, Some, None, refl, sym, ap, ◌∙◌}
-use Rattle.std.specs.Prelude.{if◌then◌else◌, codes, IsUtf8}
+use Rattle.std.proofs.Common.{◌≡◌, ℕ, true, false, List, [], Some, None, refl, sym, ap, ◌∙◌}
+use Rattle.std.specs.Prelude.{IsUtf8}
 use Rattle.std.specs.List.{before_first, after_first}
 use Rattle.std.specs.Str.{is_utf8}
 use Rattle.std.proofs.lemmas.Bool.{false_from_ne_true}
 use Rattle.std.proofs.lemmas.Str.{IsUtf8-from_is_utf8}
-use Rattle.dconf_model.specs.Causes.SettingsCause.{not_utf8, bad_line, bad_group, lock_not_key}
+use Rattle.dconf_model.specs.Causes.SettingsCause.{not_utf8, bad_line, bad_group}
 use Rattle.dconf_model.specs.Lines.{is_space, without_start, without_end}
-use Rattle.dconf_model.specs.Lines.LineReading.{nothing, found, wrong}
-use Rattle.dconf_model.specs.Keyfiles.{LineKind, group_in, is_equals, line_kind, row_of, without_blanks}
+use Rattle.dconf_model.specs.Lines.LineReading.{nothing, wrong}
+use Rattle.dconf_model.specs.Keyfiles.{LineKind, group_in, is_equals, line_kind, without_blanks}
 use Rattle.dconf_model.specs.Keyfiles.LineKind.{empty, bracket, entry}
 use Rattle.dconf_model.specs.Locks.{lock_line}
-use Rattle.keyfile_core.specs.Readings.{line_meant, kind_meant}
-use Rattle.keyfile_lines.specs.Answers.{Answer, Place, answer_of, entry_read, if_empty, if_text, left_out, line_in, lock_answer, named, of_lock, place_after, place_by, reading_in}
+use Rattle.keyfile_lines.specs.Answers.{Place, entry_read, if_empty, line_in, lock_answer, named, of_lock, place_after, place_by, reading_in}
 use Rattle.keyfile_lines.specs.Answers.Place.{before, inside, lost}
-use Rattle.keyfile_lines.specs.Answers.Answer.{silent, locks, idle, refused}
+use Rattle.keyfile_lines.specs.Answers.Answer.{idle, refused}
 use Rattle.keyfile_lines.specs.Lines.{IsSaid, has_key}
 use Rattle.keyfile_lines.specs.declared.lines.Line.{Line}
 
@@ -74,8 +73,11 @@ module _ (line : List ℕ) (text : is_utf8 line ≡ true) where
   pub stays_by : (place : Place) (kind : LineKind) → line_kind s ≡ kind → place_by kind place s ≡ place → place ≡ place_after place line
   stays_by place kind is same = sym (goes_on place ∙ (ap (λ k. place_by k place s) is ∙ same))
 
-  pub comes_to : (place to : Place) → line_kind s ≡ bracket → named (group_in s) ≡ to → to ≡ place_after place line
-  comes_to place to kind is = sym (goes_on place ∙ (ap (λ k. place_by k place s) kind ∙ is))
+  pub comes_in : (place : Place) (group : List ℕ) → line_kind s ≡ bracket → group_in s ≡ Some group → inside group ≡ place_after place line
+  comes_in place group kind is = sym (goes_on place ∙ (ap (λ k. place_by k place s) kind ∙ ap named is))
+
+  pub is_lost : (place : Place) → line_kind s ≡ bracket → group_in s ≡ None → lost ≡ place_after place line
+  is_lost place kind is = sym (goes_on place ∙ (ap (λ k. place_by k place s) kind ∙ ap named is))
 
   -- ---- of a lock file
 

@@ -3,7 +3,7 @@ use Rattle.std.proofs.Common.{◌≡◌, ℕ, true, false, List, refl}
 use Rattle.std.specs.Str.{is_utf8}
 use Rattle.dconf_model.specs.Keyfiles.{line_kind, without_blanks}
 use Rattle.dconf_model.specs.Paths.{has_zero_byte, starts_with_slash}
-use Rattle.keyfile_lines.specs.Kinds.{LineSign, sign_by, sign_of}
+use Rattle.keyfile_lines.specs.Kinds.{sign_by, sign_of}
 use Rattle.keyfile_lines.specs.Kinds.LineSign.{other}
 
 pub of_text : (line : List ℕ) → has_zero_byte line ≡ false → starts_with_slash line ≡ false → is_utf8 line ≡ true →

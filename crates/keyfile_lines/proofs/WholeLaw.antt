@@ -1,26 +1,24 @@
 -- The readings of all lines together are what keyfile_core reads below no group.
-use Rattle.std.proofs.Common.{◌≡◌, ℕ, ◌+◌, ◌<◌, ◌≤◌, ◌==◌, Bool, true, false, List, [], ◌∷◌, length, get_or, drop, take, Option, Some, None, Result, Ok, Err, refl, sym, ap, subst, ◌∙◌, arith, suc, zero, eqb-true, length-drop}
-use Rattle.std.specs.Prelude.{IsUtf8, nat_lt, not, if◌then◌else◌, codes}
-use Rattle.std.specs.List.{AllByRecursion, slice_split, position_or_len, before_first, after_first, list_any}
+use Rattle.std.proofs.Common.{◌≡◌, ℕ, ◌+◌, ◌<◌, ◌==◌, Bool, true, false, List, [], ◌∷◌, length, get_or, drop, take, Option, Some, None, Ok, refl, sym, ap, subst, ◌∙◌, arith, suc, zero, eqb-true, length-drop}
+use Rattle.std.specs.Prelude.{IsUtf8, nat_lt, not, if◌then◌else◌}
+use Rattle.std.specs.List.{AllByRecursion, slice_split, position_or_len}
 use Rattle.std.specs.Str.{is_utf8}
 use Rattle.std.proofs.lemmas.Bool.{ltb-false, ltb-true, ne_eqb}
 use Rattle.std.proofs.lemmas.List.Elements.{All-from_get_or}
 use Rattle.std.proofs.lemmas.List.Splits.{slice_split_first, slice_split_none}
 use Rattle.std.proofs.lemmas.List.Sums.{fails_before_first, passes_at_first}
 use Rattle.std.proofs.lemmas.Str.{IsCharBoundary-after_ascii, IsCharBoundary-before_ascii, IsUtf8-drop, IsUtf8-from_is_utf8, IsUtf8-nil, IsUtf8-take, is_utf8-from_IsUtf8}
-use Rattle.dconf_model.specs.Paths.{has_zero_byte}
-use Rattle.dconf_model.specs.Keyfiles.{Row, LineKind, entry_in, group_in, is_equals, is_key, line_kind, row_if, row_of, without_blanks}
+use Rattle.dconf_model.specs.Keyfiles.{LineKind, group_in, is_key, line_kind, row_if, row_of, without_blanks}
 use Rattle.dconf_model.specs.Keyfiles.LineKind.{empty, bracket, entry}
-use Rattle.dconf_model.specs.Lines.{LineReading, LineFault, put_first, settings_text_fault, without_empty_end}
-use Rattle.dconf_model.specs.Lines.LineReading.{nothing, found, wrong}
+use Rattle.dconf_model.specs.Lines.{LineFault, put_first, without_empty_end}
 use Rattle.keyfile_core.specs.Feeds.{is_feed}
-use Rattle.keyfile_core.specs.Readings.{group_after, line_meant, or_before, read_below}
+use Rattle.keyfile_core.specs.Readings.{group_after, line_meant, read_below}
 use Rattle.keyfile_core.proofs.ReadingLaws.{rows_are}
-use Rattle.keyfile_lines.specs.Answers.{Place, line_in, named, place_after, reading_in, readings_in}
-use Rattle.keyfile_lines.specs.Answers.Place.{before, inside, lost}
+use Rattle.keyfile_lines.specs.Answers.{Place, line_in, place_after, reading_in, readings_in}
+use Rattle.keyfile_lines.specs.Answers.Place.{before, inside}
 use Rattle.keyfile_lines.specs.Laws.{ReadsAsAWhole, numbered, together}
 use Rattle.keyfile_lines.specs.Lines.{has_key}
-use Rattle.keyfile_lines.proofs.LineAnswers.{comes_to, reads, says_nothing, stays_by}
+use Rattle.keyfile_lines.proofs.LineAnswers.{comes_in, reads, says_nothing, stays_by}
 
 -- ---- one line: the same reading as keyfile_core's, but for its number
 
@@ -78,7 +76,7 @@ module _ (group : Option (List ℕ)) (n : ℕ) (l : List ℕ) (more : List (List
   next : Later → (k : LineKind) → line_kind s ≡ k → (o : Option (List ℕ)) → group_in s ≡ o → Next
   next later empty kind o is = same_place later group (sym (stays_by l text (place_in group) empty kind refl)) (rw kind refl)
   next later entry kind o is = same_place later group (sym (stays_by l text (place_in group) entry kind refl)) (rw kind refl)
-  next later bracket kind (Some g) is = same_place later (Some g) (sym (comes_to l text (place_in group) (inside g) kind (ap named is))) (rw (kind, is) refl)
+  next later bracket kind (Some g) is = same_place later (Some g) (sym (comes_in l text (place_in group) g kind is)) (rw (kind, is) refl)
   next later bracket kind None is = rw (kind, is) refl
 
   with_later : Later → together n (readings_in (place_in group) (l ∷ more)) ≡ read_below group n (l ∷ more)

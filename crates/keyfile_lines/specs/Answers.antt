@@ -1,6 +1,6 @@
 -- What is said of each line of a keyfile, and of a lock file, whatever is wrong with those before it. What a line means is keyfile_core's
 -- word and dconf_model's; this says of which group it is read, and what is left out.
-use Rattle.std.specs.Prelude.{ℕ, List, [], ◌∷◌, codes, Option, Some, None, if◌then◌else◌, map}
+use Rattle.std.specs.Prelude.{ℕ, List, [], ◌∷◌, codes, Option, Some, None, if◌then◌else◌}
 use Rattle.std.specs.Str.{is_utf8}
 use Rattle.dconf_model.specs.Causes.{SettingsCause}
 use Rattle.dconf_model.specs.Causes.SettingsCause.{not_utf8, path_fault}

@@ -1,5 +1,5 @@
 -- What is left to be said from a cursor on.
-use Rattle.std.specs.Prelude.{ℕ, List, ◌==◌, if◌then◌else◌, map}
+use Rattle.std.specs.Prelude.{List, ◌==◌, if◌then◌else◌, map}
 use Rattle.dconf_model.specs.Lines.{lines_of}
 use Rattle.keyfile_lines.specs.Answers.{Answer, Place, answer_of, lock_answer, readings_in}
 use Rattle.keyfile_lines.specs.Answers.Place.{before, inside, lost}

@@ -1,9 +1,8 @@
 use Rattle.std.proofs.Common.{[], ◌∷◌, ◌≡◌, ap, sym, ◌∙◌, refl, true, false}
 use Rattle.std.proofs.lemmas.Str.{is_utf8-from_IsUtf8}
 use Rattle.std.proofs.lemmas.Str.Pattern.{starts_text}
-use Rattle.dconf_model.specs.Keyfiles.{line_kind, without_blanks}
-use Rattle.dconf_model.specs.Locks.{lock_line}
-use Rattle.dconf_model.specs.Paths.{is_path, starts_with_slash}
+use Rattle.dconf_model.specs.Keyfiles.{without_blanks}
+use Rattle.dconf_model.specs.Paths.{is_path}
 use Rattle.dconf_path.proofs.LockLines.{a_lock, no_lock, no_path, refuted}
 use Rattle.keyfile_lines.specs.Answers.{if_empty, of_lock}
 use Rattle.keyfile_lines.proofs.LineAnswers.{is_idle, locks_by, locks_no_text}

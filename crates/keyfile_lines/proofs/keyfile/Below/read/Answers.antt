@@ -1,10 +1,10 @@
 use Rattle.std.proofs.Common.{ap, sym, ◌∙◌, refl}
 use Rattle.std.proofs.lemmas.Str.{is_utf8-from_IsUtf8}
 use Rattle.dconf_model.specs.Keyfiles.LineKind.{empty, entry}
-use Rattle.keyfile_lines.specs.Answers.{answer_of, named}
-use Rattle.keyfile_lines.specs.Answers.Place.{inside, lost}
+use Rattle.keyfile_lines.specs.Answers.{answer_of}
+use Rattle.keyfile_lines.specs.Answers.Place.{inside}
 use Rattle.keyfile_lines.specs.Cursors.{place_below}
-use Rattle.keyfile_lines.proofs.LineAnswers.{comes_to, has_entry, is_bad, names_group, names_none, says_no_text, says_nothing, stays_by, stays_there}
+use Rattle.keyfile_lines.proofs.LineAnswers.{comes_in, has_entry, is_bad, is_lost, names_group, names_none, says_no_text, says_nothing, stays_by, stays_there}
 use Rattle.keyfile_lines.proofs.keyfile.Below.read.Goals as goal
 
 pub returns-in_default-clause-said : goal.returns-in_default-clause-said
@@ -35,8 +35,7 @@ pub returns-in-Group-clause-below : goal.returns-in-Group-clause-below
 returns-in-Group-clause-below c =
     let is = is_utf8-from_IsUtf8 c.args.line.now c.in-Ok.ensures.cases.1 in
     let kind = rw (c.in-Group.group-is, c.in-Ok.ensures.cases.0) at c.in-Group.ensures in
-    ap inside c.as_bytes.ensures.value
-    ∙ comes_to c.args.line.now is (place_below c.args.self) (inside c.in-Group.group.now) kind.0 (ap named kind.1)
+    ap inside c.as_bytes.ensures.value ∙ comes_in c.args.line.now is (place_below c.args.self) c.in-Group.group.now kind.0 kind.1
 
 pub returns-in-Unnamed-clause-said : goal.returns-in-Unnamed-clause-said
 returns-in-Unnamed-clause-said c =
@@ -48,7 +47,7 @@ pub returns-in-Unnamed-clause-below : goal.returns-in-Unnamed-clause-below
 returns-in-Unnamed-clause-below c =
     let is = is_utf8-from_IsUtf8 c.args.line.now c.in-Ok.ensures.cases.1 in
     let kind = rw c.in-Ok.ensures.cases.0 at c.in-Unnamed.ensures in
-    comes_to c.args.line.now is (place_below c.args.self) lost kind.0 (ap named kind.1)
+    is_lost c.args.line.now is (place_below c.args.self) kind.0 kind.1
 
 pub returns-in-Entry-clause-said : goal.returns-in-Entry-clause-said
 returns-in-Entry-clause-said c =
