@@ -11,10 +11,7 @@ use keyfile_lines::{Cursor, TextKind, ToldLine};
 /// What the next line of a keyfile says, whatever is wrong with those before it: the answers are, one after
 /// another, those of all lines that are left. False if there is none, and then nothing changes.
 #[unsafe(no_mangle)]
-pub extern "C" fn dconfdb_keyfile_line<'a>(
-    cursor: &mut Cursor<'a>,
-    line: &mut ToldLine<'a>,
-) -> bool
+pub extern "C" fn dconfdb_keyfile_line<'a>(cursor: &mut Cursor<'a>, line: &mut ToldLine<'a>) -> bool
     ensures told { IsTrue result → (answer : Answer) × (keyfile_answers cursor.old ≡ answer ∷ keyfile_answers cursor.new) × IsTold answer line.new }
     ensures counted { IsTrue result → cursor.old.line < 18446744073709551615 → cursor.new.line ≡ cursor.old.line + 1 }
     ensures none { result ≡ false → keyfile_answers cursor.old ≡ [] }

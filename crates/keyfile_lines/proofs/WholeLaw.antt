@@ -1,22 +1,22 @@
 -- The readings of all lines together are what keyfile_core reads below no group.
 use Rattle.std.proofs.Common.{◌≡◌, ℕ, ◌+◌, ◌<◌, ◌==◌, Bool, true, false, List, [], ◌∷◌, length, get_or, drop, take, Option, Some, None, Ok, refl, sym, ap, subst, ◌∙◌, arith, suc, zero, eqb-true, length-drop}
-use Rattle.std.specs.Prelude.{IsUtf8, nat_lt, not, if◌then◌else◌}
+use Rattle.std.specs.Prelude.{IsUtf8, nat_lt}
 use Rattle.std.specs.List.{AllByRecursion, slice_split, position_or_len}
 use Rattle.std.specs.Str.{is_utf8}
 use Rattle.std.proofs.lemmas.Bool.{ltb-false, ltb-true, ne_eqb}
 use Rattle.std.proofs.lemmas.List.Elements.{All-from_get_or}
 use Rattle.std.proofs.lemmas.List.Splits.{slice_split_first, slice_split_none}
 use Rattle.std.proofs.lemmas.List.Sums.{fails_before_first, passes_at_first}
-use Rattle.std.proofs.lemmas.Str.{IsCharBoundary-after_ascii, IsCharBoundary-before_ascii, IsUtf8-drop, IsUtf8-from_is_utf8, IsUtf8-nil, IsUtf8-take, is_utf8-from_IsUtf8}
-use Rattle.dconf_model.specs.Keyfiles.{LineKind, group_in, is_key, line_kind, row_if, row_of, without_blanks}
+use Rattle.std.proofs.lemmas.Str.{IsCharBoundary-after_ascii, IsCharBoundary-before_ascii, IsUtf8-drop, IsUtf8-nil, IsUtf8-take, is_utf8-from_IsUtf8}
+use Rattle.dconf_model.specs.Keyfiles.{LineKind, group_in, is_key, line_kind, row_if, row_of, rows_of, without_blanks}
 use Rattle.dconf_model.specs.Keyfiles.LineKind.{empty, bracket, entry}
-use Rattle.dconf_model.specs.Lines.{LineFault, put_first, without_empty_end}
+use Rattle.dconf_model.specs.Lines.{lines_of, put_first, settings_text_fault, without_empty_end}
 use Rattle.keyfile_core.specs.Feeds.{is_feed}
 use Rattle.keyfile_core.specs.Readings.{group_after, line_meant, read_below}
 use Rattle.keyfile_core.proofs.ReadingLaws.{rows_are}
 use Rattle.keyfile_lines.specs.Answers.{Place, line_in, place_after, reading_in, readings_in}
 use Rattle.keyfile_lines.specs.Answers.Place.{before, inside}
-use Rattle.keyfile_lines.specs.Laws.{ReadsAsAWhole, numbered, together}
+use Rattle.keyfile_lines.specs.Laws.{numbered, together}
 use Rattle.keyfile_lines.specs.Lines.{has_key}
 use Rattle.keyfile_lines.proofs.LineAnswers.{comes_in, reads, says_nothing, stays_by}
 
@@ -54,7 +54,7 @@ meant_numbered group n s entry kind = entry_numbered group n s kind (has_key s) 
 
 -- ---- all lines
 
-abbrev AreTexts : List (List ℕ) → Type 0
+abbrev pub AreTexts : List (List ℕ) → Type 0
 AreTexts ls = AllByRecursion (λ l. is_utf8 l ≡ true) ls
 
 module _ (group : Option (List ℕ)) (n : ℕ) (l : List ℕ) (more : List (List ℕ)) (text : is_utf8 l ≡ true) where
@@ -117,20 +117,14 @@ first_text text is later false at p e =
     let whole = slice_split_none is_feed text (All-from_get_or (λ c. is_feed c ≡ false) text 0 (λ k l. fails_before_first is_feed text k 0 (omega (arith, l, none)))) in
     subst AreTexts (sym whole) (is_utf8-from_IsUtf8 text is, tt)
 
-texts_in : (fuel : ℕ) (text : List ℕ) → length text < fuel → IsUtf8 text → AreTexts (slice_split is_feed text)
+pub texts_in : (fuel : ℕ) (text : List ℕ) → length text < fuel → IsUtf8 text → AreTexts (slice_split is_feed text)
 texts_in zero text less is = absurd (omega arith)
 texts_in (suc fuel) text less is =
     first_text text is (λ rest shorter. texts_in fuel rest (omega (arith, less, shorter)))
     (nat_lt (position_or_len is_feed text) (length text)) (position_or_len is_feed text) refl refl
 
--- ---- the whole file
+-- ---- a whole text
 
-faultless : (b c : Bool) (x y : LineFault) → (if b then Some x else (if not c then Some y else None)) ≡ None → c ≡ true
-faultless true c x y e = absurd (let bad : Some x ≡ None = e in cc)
-faultless false true x y e = refl
-faultless false false x y e = absurd (let bad : Some y ≡ None = e in cc)
-
-pub reads_as_a_whole : ReadsAsAWhole
-reads_as_a_whole bytes none =
-    let utf8 : IsUtf8 bytes = IsUtf8-from_is_utf8 bytes (faultless _ (is_utf8 bytes) _ _ none) in
+pub reads_text : (bytes : List ℕ) → settings_text_fault bytes ≡ None → IsUtf8 bytes → together 0 (readings_in before (lines_of bytes)) ≡ rows_of bytes
+reads_text bytes none utf8 =
     ends_alike before 0 (slice_split is_feed bytes) ∙ (read_on None 0 (slice_split is_feed bytes) (texts_in (length bytes + 1) bytes (omega arith) utf8) ∙ sym (rows_are bytes none))
