@@ -1033,6 +1033,47 @@ uint32_t dconfdb_path_kind(const uint8_t *text, size_t len, bool *is_short);
 /* The same of what follows the slash of a directory. */
 uint32_t dconfdb_relative_kind(const uint8_t *text, size_t len);
 
+/* ---- keyfiles and lock files, line by line, and what a text is */
+
+/* Where the reading of a text has come: {TEXT, DCONFDB_NOTHING, 0, 0} at first. Nobody else writes its fields. */
+typedef struct {
+    DconfdbBytes rest, group;
+    size_t line; /* the number of the line that was read last, from 1 on */
+    uint32_t place;
+} DconfdbCursor;
+
+/* What a line says. The texts are lent from it, or the library's own. */
+typedef struct {
+    uint32_t kind;
+    DconfdbPath path;
+    DconfdbBytes text;
+} DconfdbLine;
+
+enum {
+    DCONFDB_LINE_SILENT, /* nothing: it is empty, a comment, or a group's, or has a key whose group nobody knows */
+    DCONFDB_LINE_SETS,   /* the key `path` is set to the value of `text`, of which nothing is known */
+    DCONFDB_LINE_LOCKS,  /* `path` is locked: a key's, or a directory's */
+    DCONFDB_LINE_WRONG   /* `text` says why: the cause for which `compile` refuses the line, and what that means; or that a line of a lock
+                          * file locks nothing, though it is no comment */
+};
+
+/* What the next line of a keyfile, or of a lock file, says, whatever is wrong with those before it. Behind a line that should name a
+ * group and names none, keys are left out up to the next one. False: there is none, and nothing is written. */
+bool dconfdb_keyfile_line(DconfdbCursor *cursor, DconfdbLine *line);
+bool dconfdb_lock_line(DconfdbCursor *cursor, DconfdbLine *line);
+
+/* What a text is, by the first line that begins with `[`, starts with `/`, or has a zero byte; or, where all before it are comments, that
+ * names a database. */
+enum {
+    DCONFDB_TEXT_KEYFILE,
+    DCONFDB_TEXT_LOCKS,
+    DCONFDB_TEXT_PROFILE,
+    DCONFDB_TEXT_EMPTY, /* it has nothing but comments */
+    DCONFDB_TEXT_NEITHER
+};
+
+uint32_t dconfdb_text_kind(const uint8_t *text, size_t len);
+
 #ifdef __cplusplus
 }
 #endif

@@ -55,6 +55,7 @@ uint32_t dconfdb_note_seen(const void *notes, size_t n, const void *seen, size_t
 size_t dconfdb_with_left(const uint8_t *left, size_t left_len, const uint8_t *name, size_t name_len, const void *file, bool is_synced, size_t most,
                          uint8_t *room, size_t room_len);
 void dconfdb_ending(uint32_t outcome, uint32_t fault, bool before, void *ending);
+bool dconfdb_keyfile_line(void *cursor, void *line);
 
 /* How many bytes a field takes: a bool, a uint32_t, a size_t or pointer, and bytes that are lent. */
 enum { FLAG = 1, NUMBER = 4, WORD = 8, LENT = 16 };
@@ -927,6 +928,32 @@ static void finds_owner(void)
     printf("TAKES(DconfdbOldFile, %d);\n", OLD_SIZE);
 }
 
+/* ---- a text that is read line by line: of two lines, the first names the group of the second's key */
+
+enum { CURSOR_GROUP = 16, CURSOR_LINE = 32, CURSOR_PLACE = 40, CURSOR = 48, GROUP_AT = 1, VALUE_AT = 6 };
+
+static void finds_line(void)
+{
+    static const char text[] = "[g]\nk=vv\nrest";
+    _Alignas(16) uint8_t cursor[CURSOR] = {0}, group[LENT];
+    Written line = room_of("DconfdbLine");
+    lends(cursor, text, sizeof text - 1);
+    lends(cursor + CURSOR_GROUP, text, 0);
+    is_so(dconfdb_keyfile_line(cursor, line.bytes) && dconfdb_keyfile_line(cursor, line.bytes), "DconfdbCursor");
+    is_so(is_lent(cursor, "rest", 4) && is_lent(cursor + CURSOR_GROUP, "g", 1), "DconfdbCursor");
+    is_so(cursor[CURSOR_LINE] == 2 && cursor[CURSOR_PLACE] == 1, "DconfdbCursor");
+    lies("DconfdbCursor", "rest", 0, LENT);
+    lies("DconfdbCursor", "group", CURSOR_GROUP, LENT);
+    lies("DconfdbCursor", "line", CURSOR_LINE, WORD);
+    lies("DconfdbCursor", "place", CURSOR_PLACE, NUMBER);
+    printf("TAKES(DconfdbCursor, %d);\n", CURSOR);
+    finds_lent(&line, "text", text + VALUE_AT, 2);
+    lends(group, text + GROUP_AT, 1);
+    takes(&line, "path", place_of(&line, 0, ROOM, group, LENT) - LENT, PART_OF_PATH * LENT);
+    finds_number(&line, "kind", 1);
+    ends(&line);
+}
+
 int main(void)
 {
     puts("#include \"dconfdb_calls.h\"\n\n"
@@ -961,5 +988,6 @@ int main(void)
     tries_stamp();
     tries_left();
     finds_owner();
+    finds_line();
     return 0;
 }

@@ -2,6 +2,7 @@
 #define _DEFAULT_SOURCE
 #define _POSIX_C_SOURCE 200809L
 #define _FILE_OFFSET_BITS 64
+#include "causes.h"
 #include "dconfdb.h"
 #include "dconfdb_calls.h"
 #include "errors.h"
@@ -112,10 +113,6 @@ bool dconfdb_value_lookup(const DconfdbValue *value, const char *key, DconfdbVal
 
 /* ---- the value of a text */
 
-/* What the command calls that which is wrong with a text. */
-static const char *const causes[] = {"BadToken",  "Unclosed",   "BadEscape",     "Unexpected",  "NoCommonType",
-                                     "Ambiguous", "OutOfRange", "BadObjectPath", "BadSignature"};
-
 /* Why a text has no value, and where, if it is in one place. */
 static bool refuse_text(DconfdbError *error, uint32_t number, size_t start, size_t end)
 {
@@ -126,10 +123,9 @@ static bool refuse_text(DconfdbError *error, uint32_t number, size_t start, size
     case DCONFDB_DOUBLE_TEXT: return refuse(error, DCONFDB_ERROR_DOUBLE_TEXT, 0, nowhere, "the text holds a double, which is not read");
     default: break;
     }
-    const char *cause = number - DCONFDB_BAD_TOKEN < sizeof causes / sizeof *causes ? causes[number - DCONFDB_BAD_TOKEN] : "BadToken";
-    if (number > DCONFDB_UNEXPECTED)
-        return refuse(error, DCONFDB_ERROR_BAD_TEXT, 0, nowhere, "the text is not one of a value: %s", cause);
-    return refuse(error, DCONFDB_ERROR_BAD_TEXT, 0, nowhere, "the text is not one of a value: %s at %zu..%zu", cause, start, end);
+    if (!has_place(number))
+        return refuse(error, DCONFDB_ERROR_BAD_TEXT, 0, nowhere, "the text is not one of a value: %s", text_cause(number));
+    return refuse(error, DCONFDB_ERROR_BAD_TEXT, 0, nowhere, "the text is not one of a value: %s at %zu..%zu", text_cause(number), start, end);
 }
 
 /* Calls with a room that mostly is enough, and else with one that is. */

@@ -47,17 +47,7 @@ static GVariant *value_of(const DconfdbLayer *layer, const char *path)
     DconfdbFound found = {DCONFDB_NOTHING, DCONFDB_NOTHING, 0};
     if (!dconfdb_read_alone(layer, (const uint8_t *)path, strlen(path), &found))
         return NULL;
-    char *type = g_strndup((const char *)found.type_text.at, found.type_text.len);
-    GVariant *value = NULL;
-    if (g_variant_type_string_is_valid(type)) {
-        GBytes *bytes = g_bytes_new(found.value.at, found.value.len);
-        GVariant *read = g_variant_ref_sink(g_variant_new_from_bytes((const GVariantType *)type, bytes, FALSE));
-        value = g_variant_get_normal_form(read);
-        g_variant_unref(read);
-        g_bytes_unref(bytes);
-    }
-    g_free(type);
-    return value;
+    return value_of_bytes(&found.value, &found.type_text);
 }
 
 /* layers[1] is the database; the first is empty, since a first database's locks don't count. */

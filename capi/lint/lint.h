@@ -2,6 +2,7 @@
 #ifndef LINT_H
 #define LINT_H
 
+#include "dconfdb_calls.h"
 #include "files.h"
 
 #include <gio/gio.h>
@@ -60,7 +61,10 @@ Kind schemas_directory(const Schemas *schemas, const char *path);
 /* The key, or the directory, that is nearest to what is missing: to be freed; or NULL. */
 char *schemas_nearest(const Schemas *schemas, const char *path);
 
-/* ---- values.c: whether a key takes a value */
+/* ---- values.c: a value, and whether a key takes it */
+
+/* The value of these bytes, in normal form, or NULL if GLib has none of the type that this text spells. */
+GVariant *value_of_bytes(const DconfdbBytes *bytes, const DconfdbBytes *type_text);
 
 /* Finds what is wrong with the value of a key, unless one of those that it is takes it. */
 void check_value(Place at, const char *path, const GPtrArray *known, GVariant *value);
@@ -114,11 +118,5 @@ void check_keyfile(const Lint *lint, const char *file, const char *text, size_t 
 void check_locks(const Lint *lint, const char *file, const char *text, size_t len);
 void check_database(const Lint *lint, const char *file, FileBytes *bytes);
 void check_profile(const Asked *asked, const char *text, size_t len);
-
-/* What a text is, by the first line that begins with `[`, or with `/`; or, if its first line names a database, a profile. One of comments
- * alone is empty, and a keyfile without keys. */
-typedef enum { KEYFILE, LOCKS, PROFILE, EMPTY, NEITHER } TextKind;
-
-TextKind kind_of_text(const char *text, size_t len);
 
 #endif

@@ -54,13 +54,13 @@ static void find_neither(const char *file)
 static void check_text(const Lint *lint, const Asked *asked, const FileBytes *bytes)
 {
     const char *text = bytes->at ? (const char *)bytes->at : "";
-    TextKind kind = kind_of_text(text, bytes->len);
+    uint32_t kind = dconfdb_text_kind((const uint8_t *)text, bytes->len);
     bool is_binary = bytes->len > 0 && memchr(text, 0, bytes->len);
-    if (kind == NEITHER && (is_binary || asked->role == BY_ITS_TEXT))
+    if (kind == DCONFDB_TEXT_NEITHER && (is_binary || asked->role == BY_ITS_TEXT))
         find_neither(asked->file);
-    else if (asked->role == BY_ITS_TEXT && kind == PROFILE)
+    else if (asked->role == BY_ITS_TEXT && kind == DCONFDB_TEXT_PROFILE)
         check_profile(asked, text, bytes->len);
-    else if (asked->role == LOCK_SOURCE || (asked->role != SOURCE && kind == LOCKS))
+    else if (asked->role == LOCK_SOURCE || (asked->role != SOURCE && kind == DCONFDB_TEXT_LOCKS))
         check_locks(lint, asked->file, text, bytes->len);
     else
         check_keyfile(lint, asked->file, text, bytes->len);

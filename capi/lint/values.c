@@ -1,8 +1,23 @@
-/* Whether a key takes a value: its type, and its range, enumeration or flags. */
+/* A value, and whether a key takes it: its type, and its range, enumeration or flags. */
 #define G_SETTINGS_ENABLE_BACKEND
 #include "lint.h"
 
 #include <gio/gsettingsbackend.h>
+
+GVariant *value_of_bytes(const DconfdbBytes *bytes, const DconfdbBytes *type_text)
+{
+    char *type = g_strndup((const char *)type_text->at, type_text->len);
+    GVariant *value = NULL;
+    if (g_variant_type_string_is_valid(type)) {
+        GBytes *copy = g_bytes_new(bytes->at, bytes->len);
+        GVariant *read = g_variant_ref_sink(g_variant_new_from_bytes((const GVariantType *)type, copy, FALSE));
+        value = g_variant_get_normal_form(read);
+        g_variant_unref(read);
+        g_bytes_unref(copy);
+    }
+    g_free(type);
+    return value;
+}
 
 /* ---- what GSettings itself makes of a value: an enumeration may have other names, which no public call lists */
 

@@ -35,8 +35,9 @@ CASES = {
     'flags': desk("sides=['left', 'top']\n", (2, "/org/example/desk/sides: ['left', 'top'] is not made of the flags ['left', 'right']")),
     'a range': desk('volume=11\nvolume=-1\n', (2, '/org/example/desk/volume: 11 is not in the range (0, 10)'),
                     (3, '/org/example/desk/volume: -1 is not in the range (0, 10)'), (3, '/org/example/desk/volume is set already, at k:2')),
-    'a text that is no value': desk('name=x y\norder=[]\n', (2, '/org/example/desk/name: the text is no value: 0:expected value'),
-                                    (3, '/org/example/desk/order: the text is no value: 0-2:unable to infer type')),
+    'a text that is no value': desk('name=x y\norder=[]\n', (2, '/org/example/desk/name: the text is no value: BadToken at 0..1'),
+                                    (3, '/org/example/desk/order: the text is no value: Ambiguous')),
+    'a text with a double': desk('scale=-1e3\nname=1.5\n', (3, '/org/example/desk/name: the value is of type d, and the key of type s')),
     'what only a relocatable schema has': ({'k': "[org/example/lamps/1]\nlabel='x'\nwatts='x'\n"}, []),
     'a relocatable one has no such key': ({'k': '[org/example/lamps/1]\nwats=1\n'}, [('k:2', f'{NO_KEY}/org/example/lamps/1/wats')]),
     'a slip, though a relocatable one has the key': (
@@ -69,6 +70,10 @@ CASES = {
         ('k:5', "BadLine: the line is no 'key=value'"), ('k:6', 'BadKeyName: the key is empty, or has a slash, a bracket or a control character'),
         ('k:7', 'BadKeyName: the key is empty, or has a slash, a bracket or a control character'),
         ('k:8', 'BadGroup: the line names no group; its keys are left out here')]),
+    'what else is wrong below a line that names no group': ({'k': '[org//x]\nk=1\nk\n=1\n[a]\nb/=1\n' + DESK + 'on=true\n'}, [
+        ('k:1', 'BadGroup: the line names no group; its keys are left out here'), ('k:3', "BadLine: the line is no 'key=value'"),
+        ('k:4', 'BadKeyName: the key is empty, or has a slash, a bracket or a control character'),
+        ('k:6', 'BadKeyName: the key is empty, or has a slash, a bracket or a control character')]),
     'bytes that are no text': ({'k': b'# \xff\n' + DESK.encode() + b"name='\xe9'\non=true\n"},
                                [('k:1', 'NotUtf8: the line is not UTF-8'), ('k:3', 'NotUtf8: the line is not UTF-8')]),
     'a zero byte in a line': ({'k': DESK.encode() + b"name='\0'\n"}, [('k:2', "BadLine: the line is no 'key=value'")]),

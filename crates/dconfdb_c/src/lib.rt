@@ -12,6 +12,7 @@ mod fates;
 mod fault;
 mod file;
 mod get;
+mod keyfile;
 mod left;
 mod list;
 mod look;

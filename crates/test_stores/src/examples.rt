@@ -14,6 +14,7 @@ use gv_view::View;
 use gvdb_alike::is_shaped_as;
 use gvdb_read::Table;
 use gvdb_write::{Map, write};
+use keyfile_lines::{Cursor, LineFault, Said};
 use std::alloc::Global;
 use std::test::Fail;
 
@@ -32,6 +33,14 @@ fn of_dconf_times(alloc: Global, noted: &[Time<'_>], set: &[Time<'_>]) -> Result
 fn of_keyfile_core(alloc: Global) -> Result<bool, Fail> {
     let rows = keyfile_core::read(alloc, b"[desk]\nsize=24\n")?;
     Ok(rows.iter().all(|row| row.line == 2 && row.group == "desk" && row.text == "24"))
+}
+
+fn of_keyfile_lines() -> bool {
+    let mut cursor = Cursor::new(b"[desk]\nsize\nname='x'\n");
+    let first = cursor.next_of_keyfile();
+    let second = cursor.next_of_keyfile();
+    let is_bad = matches!(second, Some(Said::Fault(LineFault::BadLine)));
+    is_bad && matches!(first, Some(Said::Nothing))
 }
 
 fn of_gvdb_write(alloc: Global) -> Result<Vec<u8>, Fail> {
@@ -154,6 +163,7 @@ fn each_example_is_so(rt: HostRuntime) -> Result<(), Fail> {
         && of_times(alloc)?
         && of_notes(alloc)?
         && of_keyfile_core(alloc)?
+        && of_keyfile_lines()
         && of_dconf_disk(alloc)?
         && of_dconf_turn();
     let (written, compiled) = (of_gvdb_write(alloc)?, of_dconf_compile(alloc)?);

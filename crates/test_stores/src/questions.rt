@@ -6,6 +6,7 @@ use crate::folders::failures::replaced;
 use crate::machines::{looked, noticed, queued, waited};
 use crate::places::{filed, placed, stepped};
 use crate::tables::{alike, item_shown, searched};
+use crate::texts::lines::{keyfile_shown, kind_shown, locks_shown};
 use crate::texts::paths::path_read;
 use crate::times::{kept, noted, overtaken};
 use crate::turns::steps_shown;
@@ -60,12 +61,15 @@ pub(crate) enum BytesOf {
     Alike,
     Fate,
     Item,
+    Keyfile,
     Keyless,
+    LockFile,
     Names,
     Opened,
     Saved,
     Searched,
     Stored,
+    TextKind,
     Value,
 }
 
@@ -75,12 +79,15 @@ impl BytesOf {
             BytesOf::Alike => alike(of, &bytes_of(alloc, rest)?, found),
             BytesOf::Fate => Ok(fate(alloc, of, found)?),
             BytesOf::Item => item_shown(of, rest, found),
+            BytesOf::Keyfile => Ok(keyfile_shown(alloc, of, found)?),
             BytesOf::Keyless => Ok(keyless(alloc, of, found)?),
+            BytesOf::LockFile => Ok(locks_shown(alloc, of, found)?),
             BytesOf::Names => names(alloc, of, found),
             BytesOf::Opened => opened(of, rest, found),
             BytesOf::Saved => Ok(saved(alloc, of, found)?),
             BytesOf::Searched => searched(of, rest, found),
             BytesOf::Stored => stored(alloc, of, rest, found),
+            BytesOf::TextKind => Ok(kind_shown(of, found)?),
             BytesOf::Value => Ok(value_shown(alloc, of, rest, found)?),
         }
     }

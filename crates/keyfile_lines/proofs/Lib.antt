@@ -1,0 +1,6 @@
+mod LineAnswers
+mod SignOf
+mod SplitLines
+mod ValidFronts
+mod WholeLaw
+mod WholeTexts

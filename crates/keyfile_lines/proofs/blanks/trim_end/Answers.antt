@@ -1,0 +1,7 @@
+use Rattle.std.proofs.Common.{[], ◌∷◌}
+use Rattle.dconf_model.specs.Lines.{is_space}
+use Rattle.dconf_path.proofs.Trims.{trimmed_end, spaces, small_space}
+use Rattle.keyfile_lines.proofs.blanks.trim_end.Goals as goal
+
+pub returns : goal.returns
+returns c = trimmed_end (32 ∷ 9 ∷ []) is_space spaces small_space c.args.text.now c.trim_end_matches.result.now c.trim_end_matches.ensures.matches
