@@ -3,7 +3,7 @@
 #define STEPS_H
 
 #include "dconfdb_calls.h"
-#include "files.h"
+#include "replacing.h"
 #include "order.h"
 #include "part.h"
 

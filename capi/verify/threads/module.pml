@@ -83,8 +83,8 @@ inline tell_untold() {
 /* ---- a look; `turn` is held */
 
 inline is_shown() { dconfdb_store_snapshot() }
-inline hand_out() { settled = settled + done; done = 0; dconfdb_store_snapshot() }
-inline renew() { TAKE(LOCK); hand_out(); GIVE(LOCK) }
+inline hand_newest() { settled = settled + done; done = 0; dconfdb_store_snapshot() }
+inline renew() { TAKE(LOCK); hand_newest(); GIVE(LOCK) }
 inline look() {
     dconfdb_store_refresh(); is_shown();
     if
