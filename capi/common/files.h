@@ -11,6 +11,8 @@
 
 enum { NO_FOLDER = -1 };
 
+enum { PERMISSION_BITS = 0777 };
+
 /* Which file a name refers to, when it was last written, and when anything of it changed: whose it is,
  * say. */
 typedef DconfdbFileStamp FileState;

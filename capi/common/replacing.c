@@ -17,8 +17,6 @@
 #define MOST_ASIDE 999
 #endif
 
-enum { PERMISSION_BITS = 0777 };
-
 /* Gives the file its owner and group, as far as this program may. Whoever can't give it its group gives it other bits. */
 static int give(int file, const struct stat *made, const Replacing *it, mode_t *mode)
 {

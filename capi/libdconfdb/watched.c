@@ -1,6 +1,7 @@
 /* The names of a store's files are watched by inotify, and the folders and links on the way to them. */
 #define _GNU_SOURCE
 #include "watched.h"
+#include "folders.h"
 
 #include <limits.h>
 #include <stdio.h>
@@ -9,8 +10,6 @@
 #include <sys/inotify.h>
 #include <sys/stat.h>
 #include <unistd.h>
-
-enum { MOST_LINKS = 40, PROFILES = 2 };
 
 static const char busy[] = "/etc";
 
