@@ -312,7 +312,7 @@ int batch_loop_one(void)
     return 0;
 }
 
-/* harness batch_loop: unwind 4, loops write_in_steps.0:14 queue_first_of.1:38, with waits.c */
+/* harness batch_loop: unwind 4, long, loops write_in_steps.0:14 queue_first_of.1:38, with waits.c */
 int batch_loop(void)
 {
     is_gone_through(2);
