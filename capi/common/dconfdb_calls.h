@@ -299,6 +299,11 @@ bool dconfdb_is_database_head(const uint8_t *head, size_t len);
  * then nothing is written. */
 uint32_t dconfdb_fate_text(size_t keys, size_t locks, bool is_first, bool is_aside, uint8_t *room, size_t room_len, size_t *len);
 
+/* A profile has at most so many. */
+#ifndef MOST_DATABASES
+#define MOST_DATABASES 64
+#endif
+
 /* The databases that a profile's text names, 64 at most. `names` is how many; where they are more
  * than the room, nothing is put into it. MEMORY, NOT_TEXT, or BAD_LINE to TOO_MANY with the line,
  * counted from 1; of the others it is 0. */

@@ -1,4 +1,4 @@
-/* What the environment says of a store. */
+/* What the environment says of a store, and the system of a user. */
 #ifndef ENVIRONMENT_H
 #define ENVIRONMENT_H
 
@@ -7,6 +7,9 @@
 #include <stdlib.h>
 #include <string.h>
 #include <sys/auxv.h>
+
+/* What the system's answer of a user takes, at most. */
+enum { ROOM_OF_PASSWD = 65536 };
 
 static inline DconfdbBytes environment_variable(const char *name)
 {

@@ -15,10 +15,7 @@
 #include <sys/stat.h>
 #include <unistd.h>
 
-/* How many links are followed, and how many names are tried. */
-#ifndef MOST_LINKS
-#define MOST_LINKS 40
-#endif
+/* How many names are tried. */
 #ifndef MOST_TRIES
 #define MOST_TRIES 100
 #endif

@@ -5,6 +5,7 @@
 #include "lock.h"
 #include "dconfdb_calls.h"
 #include "faults.h"
+#include "files.h"
 #include "folders.h"
 #include "held.h"
 #include "tries.h"
@@ -24,7 +25,7 @@
 /* How often others may fork while it is being opened, until that counts as a moment in which others have the lock. */
 enum { MOST_FORKS = 10 };
 
-enum { READ_AND_WRITE = 0600, PERMISSION_BITS = 0777 };
+enum { READ_AND_WRITE = 0600 };
 
 /* Opened to be written, since a network's file system can lock no other file. No link is followed, and no pipe waited
  * for. */

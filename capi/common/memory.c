@@ -5,18 +5,6 @@
 #include <stdlib.h>
 #include <string.h>
 
-enum { ALIGNED = 16 };
-
-/* As the toolchain hands it out: no memory is left where `is_had` is 0. */
-typedef struct {
-    uint64_t is_had;
-    void *at;
-} Block;
-
-Block rattle_alloc(size_t size, size_t align);
-Block rattle_realloc(void *at, size_t old_size, size_t size, size_t align);
-void rattle_dealloc(void *at);
-
 static _Thread_local LentRoom *lent __attribute__((tls_model("initial-exec")));
 
 void lend_room(LentRoom *room, void *bytes, size_t size)

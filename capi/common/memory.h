@@ -4,6 +4,7 @@
 #define MEMORY_H
 
 #include <stddef.h>
+#include <stdint.h>
 
 /* On a stack, for calls about a few keys. */
 enum { SMALL_ROOM = 8192 };
@@ -17,5 +18,20 @@ typedef struct LentRoom {
 /* Lends so many bytes, aligned for each type, until they are taken back. */
 void lend_room(LentRoom *room, void *bytes, size_t size);
 void take_back_room(const LentRoom *room);
+
+/* ---- what the proved calls take memory by, under their toolchain's names */
+
+/* For each type. */
+enum { ALIGNED = 16 };
+
+/* As the toolchain hands it out: no memory is left where `is_had` is 0. */
+typedef struct {
+    uint64_t is_had;
+    void *at;
+} Block;
+
+Block rattle_alloc(size_t size, size_t align);
+Block rattle_realloc(void *at, size_t old_size, size_t size, size_t align);
+void rattle_dealloc(void *at);
 
 #endif

@@ -17,7 +17,10 @@
 #include <sys/stat.h>
 #include <unistd.h>
 
-/* ---- changes that wait (changes.c) */
+/* ---- changes that wait (changes.c, waiting.c) */
+
+/* Of an edit whose key no other edit has that waits. */
+static const size_t NO_KEY = SIZE_MAX;
 
 /* An edit of a key; without a value it removes the user's. The reset of a locked key is left out, and the others
  * of the change are made. */
@@ -171,7 +174,7 @@ typedef struct {
 /* Takes a mutex, if that is possible until then. Nothing is waited for but the time. */
 bool mutex_lock_until(GMutex *mutex, gint64 end);
 
-/* ---- the store (store.c) */
+/* ---- the store (store.c, writes.c) */
 
 /* Finds its place, from the environment. */
 void store_begin(DconfdbBackend *self);

@@ -3,14 +3,14 @@
  * program without shared libraries. */
 #define _DEFAULT_SOURCE
 #define _POSIX_C_SOURCE 200809L
+#include "environment.h"
+
 #include <errno.h>
 #include <pwd.h>
 #include <stdbool.h>
 #include <stdio.h>
 #include <stdlib.h>
 #include <unistd.h>
-
-enum { ROOM_OF_PASSWD = 65536 };
 
 /* False: no memory is left. A user whose home isn't known has none. */
 static bool set_home(void)

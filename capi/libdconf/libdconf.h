@@ -78,7 +78,7 @@ GVariant *engine_read(Engine *self, const gchar *key, DConfReadFlags flags, cons
 /* Whether the path, a key's or a directory's, is locked by nobody, and there is a user's database. */
 gboolean engine_is_writable(Engine *self, const DconfdbSnapshot *now, const gchar *path);
 
-/* ---- changes (writes.c) */
+/* ---- changes (writes.c, fast.c) */
 
 gboolean engine_change_fast(Engine *self, DConfChangeset *changes, GError **error);
 gboolean engine_change_sync(Engine *self, DConfChangeset *changes, gchar **tag, GError **error);

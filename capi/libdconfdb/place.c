@@ -13,8 +13,6 @@
 #include <string.h>
 #include <unistd.h>
 
-enum { ROOM_OF_PASSWD = 65536 };
-
 /* Who asks where a store is. */
 typedef struct {
     DconfdbEnvironment environment;

@@ -4,6 +4,7 @@
 #define _FILE_OFFSET_BITS 64
 #include "errors.h"
 #include "locked.h"
+#include "replacing.h"
 #include "store.h"
 #include "texts.h"
 

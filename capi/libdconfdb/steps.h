@@ -3,9 +3,9 @@
 #define STEPS_H
 
 #include "dconfdb_calls.h"
-#include "files.h"
 #include "order.h"
 #include "part.h"
+#include "replacing.h"
 
 /* A change, while it is made. */
 typedef struct {

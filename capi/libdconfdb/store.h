@@ -12,11 +12,6 @@
 #include <stdbool.h>
 #include <string.h>
 
-/* A profile has at most so many. */
-#ifndef MOST_DATABASES
-#define MOST_DATABASES 64
-#endif
-
 struct DconfdbStore {
     DconfdbOptions options;     /* `is_lenient`: a bad file is empty, or what is saved of it */
     DconfdbError profile_fault; /* its number is 0 where there is none */

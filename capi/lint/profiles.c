@@ -5,7 +5,7 @@
 
 #include <string.h>
 
-enum { MOST_DATABASES = 64, SYSTEMS = 1 };
+enum { SYSTEMS = 1 };
 
 static size_t line_of(const char *text, const uint8_t *at)
 {

@@ -3,20 +3,9 @@
  * and then with each of its bytes changed, and cut at each length. It prints how many were asked, and how many of them
  * were sound. */
 #include "dconfdb_calls.h"
-
-#include <stdio.h>
-#include <stdlib.h>
-#include <string.h>
+#include "try.h"
 
 enum { ROOM = 1 << 20, LONGEST_NAME = 4096 };
-
-#define TRY(it)                                                                                                                \
-    do {                                                                                                                       \
-        if (!(it)) {                                                                                                           \
-            fprintf(stderr, "%s:%d: %s\n", __FILE__, __LINE__, #it);                                                           \
-            exit(1);                                                                                                           \
-        }                                                                                                                      \
-    } while (0)
 
 typedef struct {
     uint8_t *at; /* exactly so many bytes, so that a look past them is seen */

@@ -108,13 +108,6 @@ static void tries_lenient(void)
     dconfdb_store_close(store);
 }
 
-static double seconds(void)
-{
-    struct timespec now;
-    TRY(clock_gettime(CLOCK_MONOTONIC, &now) == 0);
-    return (double)now.tv_sec + (double)now.tv_nsec / 1e9;
-}
-
 static void *gives_back(void *file)
 {
     usleep(300000);
@@ -134,19 +127,19 @@ static void tries_waits(void)
         options.longest_wait = wait;
         DconfdbStore *store = dconfdb_store_open_with(".", &options, &error);
         TRY(flock(lock, LOCK_EX) == 0);
-        double began = seconds();
+        double began = seconds(CLOCK_MONOTONIC);
         TRY(store && !changes(store, "refused") && error.code == DCONFDB_ERROR_BUSY && error.outcome == DCONFDB_OUTCOME_KEPT);
         snprintf(words, sizeof words, "/me.user: others have been changing it for %d ms", wait);
-        TRY(strstr(error.text, words) && seconds() - began >= wait / 1000.0 && seconds() - began < 60);
+        TRY(strstr(error.text, words) && seconds(CLOCK_MONOTONIC) - began >= wait / 1000.0 && seconds(CLOCK_MONOTONIC) - began < 60);
         TRY(flock(lock, LOCK_UN) == 0 && changes(store, "not refused"));
         dconfdb_store_close(store);
     }
     options.longest_wait = -7;
     DconfdbStore *store = dconfdb_store_open_with(".", &options, &error);
     TRY(store && flock(lock, LOCK_EX) == 0);
-    double began = seconds();
+    double began = seconds(CLOCK_MONOTONIC);
     TRY(pthread_create(&other, NULL, gives_back, &lock) == 0);
-    TRY(changes(store, "at last") && seconds() - began >= 0.2 && pthread_join(other, NULL) == 0);
+    TRY(changes(store, "at last") && seconds(CLOCK_MONOTONIC) - began >= 0.2 && pthread_join(other, NULL) == 0);
     dconfdb_store_close(store);
     TRY(close(lock) == 0);
 }

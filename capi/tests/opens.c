@@ -13,13 +13,6 @@
 
 static DconfdbError error = DCONFDB_ERROR_INIT;
 
-static double seconds(void)
-{
-    struct timespec now;
-    TRY(clock_gettime(CLOCK_MONOTONIC, &now) == 0);
-    return (double)now.tv_sec + (double)now.tv_nsec / 1e9;
-}
-
 /* What has the file open for a moment, as a program that looks at all processes has, is waited for: for ten seconds. */
 static bool has_lease(int file)
 {
@@ -100,9 +93,9 @@ static bool tries_leases(void)
 static void tries_kept_lease(void)
 {
     pid_t other = leases("me.user", 600000);
-    double began = seconds();
+    double began = seconds(CLOCK_MONOTONIC);
     TRY(other > 0 && !opens() && error.code == DCONFDB_ERROR_FILE && error.errnum == EWOULDBLOCK && strstr(error.text, "/me.user: "));
-    TRY(seconds() - began > 0.8 && seconds() - began < 60 && kill(other, SIGKILL) == 0);
+    TRY(seconds(CLOCK_MONOTONIC) - began > 0.8 && seconds(CLOCK_MONOTONIC) - began < 60 && kill(other, SIGKILL) == 0);
     ends(other);
     is_done(opens());
 }

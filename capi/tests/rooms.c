@@ -1,24 +1,11 @@
 /* The memory of the proved calls, as memory.c has it: blocks are taken, grown and given back at random, with a room and without, and keep
  * what was written into them. Linked with that file alone. */
 #include "memory.h"
+#include "try.h"
 
 #include <stdint.h>
-#include <stdio.h>
-#include <stdlib.h>
-#include <string.h>
 
-typedef struct {
-    uint64_t is_had;
-    void *at;
-} Block;
-
-Block rattle_alloc(size_t size, size_t align);
-Block rattle_realloc(void *at, size_t old_size, size_t size, size_t align);
-void rattle_dealloc(void *at);
-
-enum { BLOCKS = 64, LARGEST = 512, ROUNDS = 20000, ALIGNED = 16 };
-
-#define TRY(what) ((what) ? (void)0 : (fprintf(stderr, "%s:%d: not %s\n", __FILE__, __LINE__, #what), exit(1)))
+enum { BLOCKS = 64, LARGEST = 512, ROUNDS = 20000 };
 
 static struct {
     unsigned char *at, mark;

@@ -8,6 +8,7 @@
 #include <stdio.h>
 #include <stdlib.h>
 #include <string.h>
+#include <time.h>
 #include <unistd.h>
 
 /* Ends the test where something is not as it should be. */
@@ -25,6 +26,14 @@ static inline int next_descriptor(void)
     int next = dup(0);
     TRY(next >= 0 && close(next) == 0);
     return next;
+}
+
+/* Of a clock. */
+static inline double seconds(clockid_t clock)
+{
+    struct timespec now;
+    TRY(clock_gettime(clock, &now) == 0);
+    return (double)now.tv_sec + (double)now.tv_nsec / 1e9;
 }
 
 /* An edit that sets a string. */

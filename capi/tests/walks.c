@@ -8,13 +8,6 @@ enum { LEAST = 8000, MOST = 4 * LEAST, ROUNDS = 5, GROWTH = 10 };
 
 static DconfdbError error = DCONFDB_ERROR_INIT;
 
-static double seconds(void)
-{
-    struct timespec now;
-    TRY(clock_gettime(CLOCK_THREAD_CPUTIME_ID, &now) == 0);
-    return (double)now.tv_sec + (double)now.tv_nsec / 1e9;
-}
-
 /* So many texts `x` of an `as`, and the end of each after them: over 65,535 bytes, so that an end takes four. */
 static uint8_t *texts(size_t count, DconfdbValue *list)
 {
@@ -80,9 +73,9 @@ static double least(void (*walk)(size_t), size_t count)
 {
     double best = 1e9;
     for (int i = 0; i < ROUNDS; i++) {
-        double begun = seconds();
+        double begun = seconds(CLOCK_THREAD_CPUTIME_ID);
         walk(count);
-        double took = seconds() - begun;
+        double took = seconds(CLOCK_THREAD_CPUTIME_ID) - begun;
         best = took < best ? took : best;
     }
     return best;

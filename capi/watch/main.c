@@ -15,7 +15,6 @@
 #include <string.h>
 #include <time.h>
 
-enum { PROFILES = 2 };
 enum { SECOND = 1000000, NANOSECONDS = 1000 };
 
 /* Of share/help/commands, by capi/command. */

@@ -1,5 +1,5 @@
-/* common/batch.c: up to two edits that wait, written together by the proved queue: each step is carried out once, with what it says, and answered by what
- * became of it. What writes is the library's, and answers in any way. */
+/* common/batch.c: edits that wait, up to two, written together. The block that a batch has; each step by itself; and the loop of the steps, by the proved
+ * queue. What writes is the library's, and answers in any way. */
 #include "common/batch.c"
 #include "machines.h"
 #include "world.h"
@@ -7,6 +7,7 @@
 #include <stdlib.h>
 
 /* narrows libdconfdb/dconfdb.h: char text[512]; => char text[8]; */
+/* stubs common/batch.c: take write_taken ask */
 
 static char lent[2]; /* stand for a store and its snapshot */
 static DconfdbStore *const store = (DconfdbStore *)&lent[0];
@@ -15,12 +16,9 @@ static const FolderLock lock = {3, 4, NULL};
 static DconfdbEdit edits[QUEUE_EDITS];
 static Batch batch;
 static Turn turn;
-static DconfdbNext step;
-static bool is_amid, is_timed, is_closed;
-static unsigned had, writes, asks, refused, taken;
-static size_t taken_edits[QUEUE_EDITS];
+static unsigned had, writes, asks;
 static DconfdbError written;
-static bool is_written;
+static bool is_written, is_closed;
 
 /* ---- GLib's memory ends the program where there is none */
 
@@ -37,6 +35,58 @@ void *g_malloc_n(size_t count, size_t size)
 void g_free(void *memory)
 {
     free(memory);
+}
+
+/* ---- the block: of so many edits, a number that is known, so that it has one size */
+
+static void fill(size_t count)
+{
+    static char keys[QUEUE_EDITS][3] = {"/a", "/b"};
+    for (size_t i = 0; i < count; i++) {
+        if (any_bool())
+            keys[i][1] = '/';
+        edits[i] = (DconfdbEdit){.path = keys[i], .type = any_bool() ? "s" : NULL};
+        batch_add(&batch, &edits[i], 7 + i, 0, any_bool());
+        CHECK(batch.count == i + 1 && batch.edits[i] == &edits[i] && batch.moments[i] == 7 + i, "answer: what waits is what was set");
+    }
+}
+
+static void has_room(size_t count)
+{
+    CHECK(__CPROVER_w_ok(batch.queued, count * sizeof *batch.queued) && __CPROVER_w_ok(batch.edits, count * sizeof *batch.edits), "memory: each edit has room");
+    CHECK(__CPROVER_w_ok(batch.moments, count * sizeof *batch.moments) && __CPROVER_w_ok(batch.asked, count * sizeof *batch.asked), "memory: each edit has room");
+    CHECK(__CPROVER_w_ok(batch.numbers, count * sizeof *batch.numbers) && __CPROVER_w_ok(batch.made, count * sizeof *batch.made), "memory: each edit has room");
+}
+
+/* All are taken but the first, or that, too; what they wait by stays. */
+static void are_taken(size_t count)
+{
+    size_t first = any_bool() ? 1 : 0;
+    batch = batch_new(count);
+    CHECK(batch.count == 0 && batch.taken == 0 && batch.is_timed && !batch.is_closed, "answer: it begins with nothing");
+    has_room(count);
+    fill(count);
+    for (size_t i = 0; i < count; i++) {
+        if (i >= first)
+            real_take(&batch, i);
+    }
+    CHECK(batch.taken == count - first, "step: each is taken once");
+    for (size_t i = 0; i < count; i++) {
+        CHECK(batch.edits[i] == &edits[i] && batch.moments[i] == 7 + i && batch.queued[i].change == 0 && !batch.queued[i].is_refused, "answer: what waits is what was set");
+        CHECK(batch.queued[i].sets == (edits[i].type != NULL), "answer: what waits is what was set");
+        if (i >= first)
+            CHECK(batch.asked[i - first].path == edits[i].path && batch.numbers[i - first] == i && batch.made[i - first].moment == 7 + i && batch.made[i - first].change == 0, "answer: it is taken with its number, its moment and its change");
+    }
+    batch_end(&batch);
+    if (first == 1)
+        REACHED("the first one is passed over");
+}
+
+/* harness batch_block: unwind 4, quick */
+int batch_block(void)
+{
+    are_taken(QUEUE_EDITS);
+    return 0;
 }
 
 /* ---- the library */
@@ -57,7 +107,7 @@ void dconfdb_snapshot_unref(DconfdbSnapshot *snapshot)
 bool dconfdb_snapshot_is_writable(const DconfdbSnapshot *snapshot, const char *path)
 {
     CHECK(snapshot == now && had > 0, "memory: the snapshot is had");
-    CHECK(is_amid && step.kind == DCONFDB_QUEUE_ASK && path == edits[step.number].path, "step: what is asked is whether the step's key may be written");
+    CHECK(path == edits[0].path, "step: what is asked is whether the edit's key may be written");
     asks++;
     return any_bool();
 }
@@ -72,10 +122,12 @@ static bool fails(DconfdbError *fault)
     return false;
 }
 
+static size_t was_taken;
+
 bool refuse_lock(const DconfdbStore *at, int fault, DconfdbError *error)
 {
     CHECK(at == store && turn.fault != 0 && fault == turn.fault, "answer: the fault of the lock");
-    CHECK(is_amid && step.kind == DCONFDB_QUEUE_WRITE && taken > 0, "step: it is a write's");
+    CHECK(was_taken > 0, "step: it is a write's");
     writes++;
     return fails(error);
 }
@@ -83,12 +135,8 @@ bool refuse_lock(const DconfdbStore *at, int fault, DconfdbError *error)
 bool locked_change(DconfdbStore *at, const FolderLock *by, const DconfdbEdit *asked, const Made *made, size_t count, DconfdbError *error)
 {
     CHECK(at == store && by == turn.lock && turn.fault == 0, "order: nothing is written without the lock");
-    CHECK(is_amid && step.kind == DCONFDB_QUEUE_WRITE && count == taken && count > 0, "step: those are written that were taken since the last write");
-    CHECK((made != NULL) == is_timed, "step: with their moments, but where all count as set now");
-    for (size_t i = 0; i < count; i++) {
-        CHECK(asked[i].path == edits[taken_edits[i]].path && asked[i].type == edits[taken_edits[i]].type, "step: each as it was set, the oldest first");
-        CHECK(!made || (made[i].moment == 7 + taken_edits[i] && made[i].change == batch.queued[taken_edits[i]].change), "step: of its moment and its change");
-    }
+    CHECK(asked == batch.asked && count == was_taken && count > 0, "step: those are written that were taken since the last write");
+    CHECK(made == (batch.is_timed ? batch.made : NULL), "step: with their moments, but where all count as set now");
     writes++;
     is_written = any_bool();
     return is_written || fails(error);
@@ -113,90 +161,160 @@ uint32_t dconfdb_verdict(uint32_t fault, uint32_t kind)
     return verdict_given;
 }
 
-bool dconfdb_is_momentary(uint32_t fault, uint32_t kind)
+/* ---- each step by itself, of a batch that came so far */
+
+static DconfdbQueued queued[QUEUE_EDITS];
+static const DconfdbEdit *edits_at[QUEUE_EDITS] = {&edits[0], &edits[1]};
+static DconfdbEdit asked_room[QUEUE_EDITS];
+static size_t numbers[QUEUE_EDITS];
+static Made made_room[QUEUE_EDITS];
+
+static void set_up(void)
 {
-    (void)fault, (void)kind;
-    return any_bool();
+    batch = (Batch){.count = any_size(), .taken = any_size(), .is_timed = any_bool(), .is_closed = any_bool(), .queued = queued, .edits = edits_at,
+                    .asked = asked_room, .numbers = numbers, .made = made_room};
+    GIVEN(batch.count <= QUEUE_EDITS && batch.taken <= batch.count);
+    for (size_t i = 0; i < QUEUE_EDITS; i++) {
+        queued[i] = (DconfdbQueued){0, any_bool(), any_bool(), any_bool()};
+        numbers[i] = any_size();
+        GIVEN(numbers[i] < batch.count || i >= batch.taken);
+    }
+    was_taken = batch.taken;
+    turn = (Turn){&lock, any_bool() ? 0 : any_fault()};
 }
 
-/* ---- a watch over the steps */
+static bool any_refused(void)
+{
+    return (batch.count > 0 && queued[0].is_refused) || (batch.count > 1 && queued[1].is_refused);
+}
+
+/* harness batch_write_taken: unwind 4, quick */
+int batch_write_taken(void)
+{
+    DconfdbError refusal, fault;
+    set_up();
+    refusal.code = DCONFDB_ERROR_NONE;
+    refusal.edit = 77;
+    size_t at = 0;
+    bool was_closed = batch.is_closed;
+    is_written = true;
+    uint32_t answer = real_write_taken(&batch, store, &turn, &at, &refusal, &fault);
+    CHECK(writes == (was_taken > 0), "step: what was taken is written once; of nothing there is no write");
+    CHECK(batch.taken == 0, "step: it is not written again");
+    CHECK(answer == (is_written ? DCONFDB_QUEUE_YES : verdict_given), "answer: what became of the write");
+    CHECK(is_written || at == (written.edit < was_taken ? numbers[written.edit] : batch.count), "answer: the edit that is at fault");
+    bool is_first = !is_written && !any_refused();
+    CHECK(is_first ? refusal.code == written.code && refusal.edit == written.edit : refusal.code == DCONFDB_ERROR_NONE && refusal.edit == 77, "answer: the first fault by which one is refused is kept");
+    CHECK(batch.is_closed == (is_written ? was_closed : written.code == DCONFDB_ERROR_FILE && is_closed), "answer: whether nobody may write there");
+    if (!is_written && was_taken == 1 && written.edit == 0 && numbers[0] == 1)
+        REACHED("the second edit is at fault");
+    return 0;
+}
+
+/* harness batch_ask: unwind 4, quick */
+int batch_ask(void)
+{
+    static char key[3] = "/a";
+    set_up();
+    if (any_bool())
+        key[1] = '/';
+    edits[0].path = key;
+    bool is_folder = key[1] == '/';
+    uint32_t answer = real_ask(&batch, store, 0);
+    CHECK(had == 0, "memory: the snapshot is given back");
+    CHECK(asks == (unsigned)(!batch.is_closed && !is_folder), "step: a key is asked of; no lock keeps a directory from being reset");
+    CHECK(answer == DCONFDB_QUEUE_YES || answer == DCONFDB_QUEUE_LOCKED, "answer: it may be written, or not");
+    CHECK(!batch.is_closed || answer == DCONFDB_QUEUE_LOCKED, "answer: where nobody may write no key may be written");
+    CHECK(batch.is_closed || !is_folder || answer == DCONFDB_QUEUE_YES, "answer: a directory may be reset");
+    if (answer == DCONFDB_QUEUE_LOCKED && !batch.is_closed)
+        REACHED("a locked key");
+    return 0;
+}
+
+/* ---- the loop, with steps as those above have it */
+
+static DconfdbNext step;
+static bool is_amid;
+static unsigned done, refused;
+static uint32_t given;
+static size_t given_at;
 
 static void begins(const DconfdbNext *next)
 {
     CHECK(!is_amid, "order: each step is answered before the next one");
     step = *next;
     is_amid = next->kind < DCONFDB_QUEUE_WRITTEN;
-    writes = asks = 0;
-    is_written = true;
+    done = 0;
+    given = DCONFDB_QUEUE_YES;
 }
 
 static void ends(uint32_t answer, size_t at)
 {
     CHECK(is_amid, "order: an answer is one to a step");
     is_amid = false;
-    CHECK(writes <= (step.kind == DCONFDB_QUEUE_WRITE) && asks <= (step.kind == DCONFDB_QUEUE_ASK), "step: nothing else is done");
-    if (step.kind == DCONFDB_QUEUE_TAKE) {
-        CHECK(taken < QUEUE_EDITS && answer == DCONFDB_QUEUE_YES, "step: it is taken");
-        taken_edits[taken++] = step.number;
-    } else if (step.kind == DCONFDB_QUEUE_WRITE) {
-        CHECK(writes == (taken > 0), "step: what was taken is written once; of nothing there is no write");
-        CHECK(answer == (is_written ? DCONFDB_QUEUE_YES : verdict_given), "answer: what became of the write");
-        CHECK(answer != DCONFDB_QUEUE_FAULT || at == (written.edit < taken ? taken_edits[written.edit] : batch.count), "answer: the edit that is at fault");
-        taken = 0;
-        refused += answer != DCONFDB_QUEUE_YES;
-    } else if (step.kind == DCONFDB_QUEUE_ASK) {
-        bool is_folder = edits[step.number].path[1] == '/';
-        CHECK(asks == (unsigned)(!batch.is_closed && !is_folder), "step: a key is asked of; no lock keeps a directory from being reset");
-        CHECK(!batch.is_closed || answer == DCONFDB_QUEUE_LOCKED, "answer: where nobody may write no key may be written");
-        CHECK(batch.is_closed || !is_folder || answer == DCONFDB_QUEUE_YES, "answer: a directory may be reset");
-    }
+    CHECK(done == (step.kind != DCONFDB_QUEUE_PASS), "step: each is carried out once, and nothing else");
+    CHECK(answer == given && (answer != DCONFDB_QUEUE_FAULT || at == given_at), "answer: what became of it");
 }
 
-static void fill(size_t count)
+static void take(Batch *of, size_t number)
 {
-    static char keys[QUEUE_EDITS][3] = {"/a", "/b"};
-    for (size_t i = 0; i < count; i++) {
-        if (any_bool())
-            keys[i][1] = '/';
-        edits[i] = (DconfdbEdit){.path = keys[i], .type = any_bool() ? "s" : NULL};
-        batch_add(&batch, &edits[i], 7 + i, i == 1 && any_bool(), any_bool());
-        CHECK(batch.count == i + 1 && batch.queued[i].sets == (edits[i].type != NULL) && !batch.queued[i].is_refused, "answer: what waits is what was set");
-    }
+    CHECK(of == &batch && is_amid && step.kind == DCONFDB_QUEUE_TAKE && number == step.number, "step: the edit is taken that is to be");
+    done++;
 }
 
-/* So many edits: a number that is known, so that their rooms have one size. */
-static void are_written(size_t count)
+static uint32_t write_taken(Batch *of, DconfdbStore *at, const Turn *by, size_t *fault_at, DconfdbError *refusal, DconfdbError *fault)
+{
+    CHECK(of == &batch && at == store && by == &turn && is_amid && step.kind == DCONFDB_QUEUE_WRITE, "step: a write, where one is to be");
+    done++;
+    given = any_u32();
+    given_at = any_size();
+    GIVEN(given <= DCONFDB_QUEUE_LATER && given_at <= batch.count);
+    if (given != DCONFDB_QUEUE_YES) {
+        *fault_at = given_at;
+        fault->code = DCONFDB_ERROR_FILE;
+        refusal->code = DCONFDB_ERROR_FILE;
+        refused++;
+    }
+    return given;
+}
+
+static uint32_t ask(const Batch *of, DconfdbStore *at, size_t number)
+{
+    CHECK(of == &batch && at == store && is_amid && step.kind == DCONFDB_QUEUE_ASK && number == step.number, "step: the key is asked of that is to be");
+    done++;
+    return given = any_bool() ? DCONFDB_QUEUE_YES : DCONFDB_QUEUE_LOCKED;
+}
+
+/* So many edits, of one change or of two. */
+static void is_gone_through(size_t count)
 {
     DconfdbError refusal, fault;
-    turn = (Turn){&lock, any_bool() ? 0 : any_fault()};
     at_next = begins;
     at_next_answer = ends;
-    batch = batch_new(count);
-    batch.is_timed = is_timed = any_bool();
+    batch = (Batch){.count = count, .is_closed = false, .queued = queued, .edits = edits_at};
+    for (size_t i = 0; i < count; i++)
+        queued[i] = (DconfdbQueued){i == 1 && any_bool() ? 1 : 0, any_bool(), any_bool(), false};
     refusal.code = any_bool() ? DCONFDB_ERROR_MEMORY : DCONFDB_ERROR_NONE;
-    fill(count);
-    bool done = batch_write(&batch, store, &turn, &refusal, &fault);
-    CHECK(!is_amid && step.kind == (done ? DCONFDB_QUEUE_WRITTEN : DCONFDB_QUEUE_WAITING), "answer: written, if the steps end so");
-    CHECK(had == 0, "memory: each snapshot is given back");
-    CHECK(done || refused > 0, "answer: what waits again has failed");
-    CHECK(batch.is_closed || refusal.code == DCONFDB_ERROR_NONE || refused > 0, "answer: what is told was refused");
+    bool is = batch_write(&batch, store, &turn, &refusal, &fault);
+    CHECK(!is_amid && step.kind == (is ? DCONFDB_QUEUE_WRITTEN : DCONFDB_QUEUE_WAITING), "answer: written, if the steps end so");
+    CHECK(is || refused > 0, "answer: what waits again has failed");
+    CHECK(refusal.code == DCONFDB_ERROR_NONE || refused > 0, "answer: what is told was refused");
     for (size_t i = 0; i < count; i++)
         CHECK(!batch_is_refused(&batch, i) || refused > 0, "answer: what is refused has failed");
-    if (done && refused > 0)
+    if (is && refused > 0)
         REACHED("one is refused, and the others are written");
-    batch_end(&batch);
 }
 
-/* harness batch: unwind 4, long, loops write_in_steps.0:14 queue_first_of.1:38, with waits.c */
-int batch_(void)
+/* harness batch_loop_one: unwind 4, loops write_in_steps.0:9 queue_first_of.1:38, with waits.c */
+int batch_loop_one(void)
 {
-    are_written(2);
+    is_gone_through(1);
     return 0;
 }
 
-/* harness batch_one: unwind 4, long, loops write_in_steps.0:9 queue_first_of.1:38, with waits.c */
-int batch_one(void)
+/* harness batch_loop: unwind 4, long, loops write_in_steps.0:14 queue_first_of.1:38, with waits.c */
+int batch_loop(void)
 {
-    are_written(1);
+    is_gone_through(2);
     return 0;
 }

@@ -238,13 +238,11 @@ int look_compare(void)
 }
 
 /* The loop, with steps as those above have it. */
-/* harness look_loop: unwind 4, long, loops real_files_look.0:12, with machines.c, sliced */
-int look_loop(void)
+static void is_looked(int turn)
 {
     DconfdbSnapshot *newer = NULL;
-    set_up_store();
     unsigned before = old_parts[0].references + old_parts[1].references;
-    uint32_t end = real_files_look(&store, store.user_file && store.now && any_bool() ? TURN : NO_FOLDER, &newer, NULL);
+    uint32_t end = real_files_look(&store, turn, &newer, NULL);
     CHECK(!has_bytes_read, "memory: what was read is a part's, or released");
     CHECK(end == DCONFDB_LOOK_FAILED || end == DCONFDB_LOOK_SAME || end == DCONFDB_LOOK_NEWER, "answer: how a look ends");
     CHECK((newer != NULL) == (end == DCONFDB_LOOK_NEWER), "answer: a newer snapshot is there exactly if that is said");
@@ -255,15 +253,36 @@ int look_loop(void)
         CHECK(old_parts[0].references + old_parts[1].references == before, "memory: no old part is had once more");
         for (unsigned i = 0; i < FILES; i++)
             CHECK(i >= made || new_parts[i].references == 0, "memory: each new part is given back");
-        return 0;
+        return;
     }
     CHECK(newer->count == store.count, "answer: it has each file");
     for (size_t i = 0; i < FILES; i++) {
         if (i < store.count)
             CHECK(newer_list[i] && (newer_list[i] == &old_parts[i] || newer_list[i] == &new_parts[0] || newer_list[i] == &new_parts[1]), "answer: each file's part, old or new");
     }
-    if (store.now && store.count == 2 && newer_list[0] == &old_parts[0] && newer_list[1] != &old_parts[1])
+}
+
+/* harness look_loop: unwind 4, long, loops real_files_look.0:12, with machines.c, sliced */
+int look_loop(void)
+{
+    set_up_store();
+    is_looked(store.user_file && store.now && any_bool() ? TURN : NO_FOLDER);
+    if (has_newer && store.now && store.count == 2 && newer_list[0] == &old_parts[0] && newer_list[1] != &old_parts[1])
         REACHED("one file is another");
+    return 0;
+}
+
+/* The first look at two files. */
+/* harness look_first: unwind 4, loops real_files_look.0:6, with machines.c */
+int look_first(void)
+{
+    set_up_store();
+    store.count = 2;
+    store.now = NULL;
+    is_looked(NO_FOLDER);
+    CHECK(!has_newer || (newer_list[0] == &new_parts[0] && newer_list[1] == &new_parts[1]), "answer: each file's part is new");
+    if (has_newer)
+        REACHED("both are read");
     return 0;
 }
 

@@ -1,5 +1,5 @@
 /* libdconfdb/steps.c: the whole loop of a change by the proved machine, with any answer of the system to each step. The calls of the steps are
- * checked by themselves (harness/files.c); here, that each step is carried out once, with what it says, and answered by what became of it. */
+ * checked by themselves (harness/replacing.c); here, that each step is carried out once, with what it says, and answered by what became of it. */
 #include "libdconfdb/steps.c"
 #include "machines.h"
 #include "world.h"
@@ -106,7 +106,7 @@ bool order_is_synced(const Order *at, const char *name, const FileState *file)
     return any_bool();
 }
 
-/* ---- the calls of files.c, as harness/files.c has them */
+/* ---- the calls of replacing.c, as harness/replacing.c has them */
 
 int replacing_create(Replacing *at, size_t bits)
 {

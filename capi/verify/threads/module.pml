@@ -35,6 +35,9 @@ byte tries, failed;          /* tries to write, and the last that failed for goo
 byte faults;
 byte untold;                 /* notices for the worker */
 bool is_asked, waked, has_ended, is_over, gave_up, has_synced, has_exited;
+bool is_let_go;
+bool waits_in_line;          /* the worker has a Wait */
+bool has_thread, has_come;   /* a thread of its own waits for the turn; and has it */
 
 /* ---- locks. `mine` is what a process has, a bit for each */
 
@@ -83,8 +86,8 @@ inline tell_untold() {
 /* ---- a look; `turn` is held */
 
 inline is_shown() { dconfdb_store_snapshot() }
-inline hand_out() { settled = settled + done; done = 0; dconfdb_store_snapshot() }
-inline renew() { TAKE(LOCK); hand_out(); GIVE(LOCK) }
+inline hand_newest() { settled = settled + done; done = 0; dconfdb_store_snapshot() }
+inline renew() { TAKE(LOCK); hand_newest(); GIVE(LOCK) }
 inline look() {
     dconfdb_store_refresh(); is_shown();
     if
@@ -104,15 +107,53 @@ inline store_peek() {
 
 /* ---- a write, by the worker */
 
+/* What is in the file already needs no turn: others have made it so. */
+inline waiting_settle() {
+    atomic {
+        if
+        :: settled = settled + waiting; written = written + waiting; waiting = 0
+        :: waiting > 1 -> settled++; written++; waiting--
+        :: skip
+        fi
+    }
+}
 inline settle_what_is_there() {
     TAKE(LOCK); GIVE(LOCK);
     if
-    :: TAKE(TURN); look(); TAKE(LOCK); GIVE(LOCK); GIVE(TURN)
+    :: TAKE(TURN); look(); TAKE(LOCK); waiting_settle(); GIVE(LOCK); GIVE(TURN)
     :: skip
     fi
 }
-inline turn_take() { TAKE(FOLDER); TAKE(LISTING); GIVE(LISTING) }
-inline turn_give() { TAKE(LISTING); GIVE(LISTING); GIVE(FOLDER) }
+
+/* The turn is had at once, or waited for in line by a thread of its own, or, if none can be had, asked for again. */
+inline folder_lock() { TAKE(FOLDER); TAKE(LISTING); GIVE(LISTING) }
+inline is_thread_over() {
+    TAKE(LOCK); ok = has_come; GIVE(LOCK);
+    if
+    :: ok -> atomic { has_thread = false; has_come = false; owner[FOLDER] = _pid; mine = mine | (1 << FOLDER) }
+    :: else
+    fi
+}
+inline turn_take() {
+    waits_in_line = true;
+    if
+    :: !has_thread && owner[FOLDER] == FREE ->
+        if
+        :: atomic { owner[FOLDER] == FREE -> owner[FOLDER] = _pid; mine = mine | (1 << FOLDER) }; TAKE(LISTING); GIVE(LISTING); ok = true
+        :: owner[FOLDER] != FREE -> ok = false
+        fi
+    :: !has_thread && owner[FOLDER] != FREE -> if :: has_thread = true; is_thread_over() :: ok = false fi
+    :: has_thread -> is_thread_over()
+    fi
+}
+inline turn_give() { TAKE(LISTING); GIVE(LISTING); GIVE(FOLDER); waits_in_line = false }
+inline turn_leave() {
+    if
+    :: !has_thread -> waits_in_line = false
+    :: has_thread -> is_thread_over(); if :: ok -> turn_give() :: else fi
+    fi
+}
+inline leave_line() { turn_leave() }
 
 /* What could not be written waits again. At the program's end it counts at once; else only if it lasts. */
 inline wait_again() {
@@ -140,30 +181,43 @@ inline write_in() {
     fi;
     GIVE(TURN)
 }
-inline store_write() { settle_what_is_there(); notice_tell(); turn_take(); write_in(); turn_give(); notice_tell() }
+inline store_has_waiting() { TAKE(LOCK); now = waiting; GIVE(LOCK) }
+inline store_write() {
+    settle_what_is_there(); notice_tell();
+    store_has_waiting();
+    if
+    :: now > 0 -> turn_take(); if :: ok -> write_in(); turn_give(); notice_tell() :: else fi
+    :: else
+    fi
+}
 
-/* False: `goes` is; the program ends, and nothing waits, or a write has failed since. */
-inline takes_turn() {
-    TAKE(LOCK); is_asked = false; GIVE(LOCK);
-    tell_untold();
-    if :: store_look() :: skip fi;
-    TAKE(LOCK); now = waiting; GIVE(LOCK);
-    if :: now > 0 -> store_write() :: else fi;
+/* False: `goes` is; the program ends, and nothing waits, or a write has failed since. A backend that is let go is kept until the thread in line has come
+ * to its turn. */
+inline goes_on() {
     TAKE(LOCK);
     atomic {
-        goes = !has_ended || (waiting > 0 && failed <= last_try);
-        gave_up = gave_up || (!goes && waiting > 0)
+        goes = !ends || ((now > 0 || (waits_in_line && is_let_go)) && failed <= last_try);
+        gave_up = gave_up || (!goes && now > 0)
     };
     GIVE(LOCK)
+}
+inline takes_turn() {
+    TAKE(LOCK); atomic { ends = has_ended; is_asked = false }; GIVE(LOCK);
+    tell_untold();
+    if :: store_look() :: skip fi;
+    store_has_waiting();
+    if :: now > 0 -> store_write(); store_has_waiting() :: else fi;
+    if :: now == 0 && waits_in_line -> leave_line() :: else fi;
+    goes_on()
 }
 
 byte last_try = 255;
 
-/* The worker's thread. Where something waits again it is woken by the time. */
+/* The worker's thread. Where something waits again, or no thread can be had that waits in line, it is woken by the time. */
 proctype work()
 {
     byte mine = 0, done = 0, now = 0;
-    bool ok = false, goes = true;
+    bool ok = false, goes = true, ends = false;
     do
     :: takes_turn();
         if
@@ -173,10 +227,26 @@ proctype work()
 end_rest:
         if
         :: atomic { waked -> waked = false }
-        :: waiting > 0
+        :: waiting > 0 && !has_thread
         fi
     od;
-    TAKE(LOCK); is_over = true; GIVE(LOCK)
+    TAKE(LOCK); is_over = true; GIVE(LOCK);
+    assert(!is_let_go || !has_thread) /* which has the backend */
+}
+
+/* The thread that waits in line: in the kernel, where others have the turn. Its lock is the worker's, once it is over. */
+inline wait_in_kernel() {
+    folder_lock();
+    TAKE(LOCK); atomic { has_come = true; mine = mine & ~(1 << FOLDER) }; worker_wake(); GIVE(LOCK)
+}
+
+proctype line()
+{
+    byte mine = 0;
+end_idle:
+    do
+    :: has_thread && !has_come -> wait_in_kernel()
+    od
 }
 
 /* ---- the program's threads */
@@ -274,15 +344,37 @@ proctype exits()
     has_exited = true
 }
 
-/* Another program has its turn. */
+/* Another program has its turn, and one more. */
 proctype others()
 {
     byte mine = 0;
     TAKE(FOLDER);
+    GIVE(FOLDER);
+    TAKE(FOLDER);
     GIVE(FOLDER)
 }
 
-init { atomic { run work(); run program(); run PART() } }
+/* ---- nobody holds the backend any longer: its worker is waited for, for a while, or left to itself */
+
+inline worker_let_go() {
+    TAKE(LOCK);
+    atomic { has_ended = true; is_asked = true; is_let_go = true };
+    worker_wake();
+    GIVE(LOCK);
+    if
+    :: is_over
+    :: true
+    fi
+}
+
+proctype lets_go()
+{
+    byte mine = 0;
+    run others();
+    has_synced -> worker_let_go()
+}
+
+init { atomic { run work(); run line(); run program(); run PART() } }
 
 ltl sync_ends { <> has_synced }
 ltl told { [] (untold > 0 -> <> (untold == 0 || has_ended || is_over)) }

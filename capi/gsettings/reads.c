@@ -1,0 +1,161 @@
+/* What is read of the backend, and what may be written: values are read in place, and changes that wait are read here. */
+#include "backend.h"
+
+#include "dconfdb_calls.h"
+#include "lent_value.h"
+#include "seen.h"
+
+/* ---- reads */
+
+/* Where nothing is watched, since no main loop has turned, each read may look at the files. */
+void look_if_unwatched(DconfdbBackend *self)
+{
+    if (!g_atomic_int_get(&self->is_watching))
+        store_peek(self);
+}
+
+/* Takes `lock`, as soon as the first opening is over. Where that failed it is tried again, by who watches or by who asks. */
+void lock_opened(DconfdbBackend *self)
+{
+    g_mutex_lock(&self->lock);
+    if (G_LIKELY(self->now != NULL))
+        return;
+    bool has_opened = self->has_opened;
+    g_mutex_unlock(&self->lock);
+    if (has_opened)
+        look_if_unwatched(self);
+    else
+        store_open(self);
+    g_mutex_lock(&self->lock);
+}
+
+/* What a key is read in: the newest snapshot, if there is one, and the newest edit that waits of it. Each is a reference. */
+typedef struct {
+    bool is_edited;
+    GVariant *value; /* that the edit sets; NULL: it sets none */
+    DconfdbSnapshot *now;
+    bool has_user;
+} Source;
+
+static Source source_of(DconfdbBackend *self, const char *key)
+{
+    Source source = {false, NULL, NULL, false};
+    look_if_unwatched(self);
+    lock_opened(self);
+    if (self->now) {
+        const Edit *edit = waiting_find(&self->waiting, key);
+        source.is_edited = edit != NULL;
+        if (edit && edit->value)
+            source.value = g_variant_ref(edit->value);
+        source.now = dconfdb_snapshot_ref(self->now);
+        source.has_user = self->has_user;
+    }
+    g_mutex_unlock(&self->lock);
+    return source;
+}
+
+static void source_clear(Source *source)
+{
+    g_clear_pointer(&source->value, g_variant_unref);
+    dconfdb_snapshot_unref(source->now);
+    source->now = NULL;
+}
+
+/* What is read of it, which takes the reference to the snapshot. */
+static GVariant *take_lent(Source *source, Reads *reads, const char *key)
+{
+    return lent_value(g_steal_pointer(&source->now), reads, key);
+}
+
+static DconfdbSnapshot *snapshot_of(DconfdbBackend *self)
+{
+    look_if_unwatched(self);
+    lock_opened(self);
+    DconfdbSnapshot *now = self->now ? dconfdb_snapshot_ref(self->now) : NULL;
+    g_mutex_unlock(&self->lock);
+    return now;
+}
+
+static GVariant *read_default(DconfdbBackend *self, const char *key)
+{
+    return lent_value(snapshot_of(self), dconfdb_snapshot_read_default, key);
+}
+
+/* Since only who reads knows the type that is asked for, it is kept of which keys a value of another type was passed over: where
+ * their default changes, it is told. */
+static void remember_odd(DconfdbBackend *self, const char *key, const GVariantType *expected)
+{
+    g_mutex_lock(&self->lock);
+    if (!self->has_ended)
+        g_hash_table_insert(self->odd, g_strdup(key), g_variant_type_dup_string(expected));
+    g_mutex_unlock(&self->lock);
+}
+
+static bool fits(GVariant *value, const GVariantType *expected)
+{
+    return !value || g_variant_is_of_type(value, expected);
+}
+
+/* What is seen beside an edit that waits, or of another type than the one that is stored: as the proved call has it. */
+static GVariant *read_beside(DconfdbBackend *self, Source *source, const char *key, const GVariantType *expected)
+{
+    GVariant *stored = lent_value(source->now ? dconfdb_snapshot_ref(source->now) : NULL, dconfdb_snapshot_read, key);
+    bool may = source->now && dconfdb_snapshot_is_writable(source->now, key);
+    bool edit_fits = fits(source->value, expected), stored_fits = fits(stored, expected);
+    uint32_t shown = dconfdb_shown(source->is_edited, source->value != NULL, may, edit_fits, stored_fits);
+    if (!edit_fits || !stored_fits)
+        remember_odd(self, key, expected);
+    GVariant *value = shown == DCONFDB_SHOWN_STORED ? g_steal_pointer(&stored)
+        : shown == DCONFDB_SHOWN_EDIT               ? g_steal_pointer(&source->value)
+                                                    : take_lent(source, dconfdb_snapshot_read_default, key);
+    g_clear_pointer(&stored, g_variant_unref);
+    source_clear(source);
+    return value;
+}
+
+GVariant *dconfdb_backend_read(GSettingsBackend *backend, const char *key, const GVariantType *expected,
+                                      gboolean default_value)
+{
+    DconfdbBackend *self = backend_of(backend);
+    if (default_value)
+        return read_default(self, key);
+    Source source = source_of(self, key);
+    if (G_UNLIKELY(source.is_edited))
+        return read_beside(self, &source, key, expected);
+    /* Nearly all reads end here: what is stored is seen, if it is of that type. */
+    GVariant *value = take_lent(&source, dconfdb_snapshot_read, key);
+    if (G_LIKELY(fits(value, expected)))
+        return value;
+    g_variant_unref(value);
+    source = source_of(self, key);
+    return read_beside(self, &source, key, expected);
+}
+
+GVariant *dconfdb_backend_read_user_value(GSettingsBackend *backend, const char *key, const GVariantType *expected)
+{
+    (void)expected;
+    Source source = source_of(backend_of(backend), key);
+    uint32_t own = dconfdb_own(source.is_edited, source.value != NULL, source.has_user);
+    GVariant *value = own == DCONFDB_OWN_FIRST ? take_lent(&source, dconfdb_snapshot_read_user, key)
+        : own == DCONFDB_OWN_EDIT              ? g_steal_pointer(&source.value)
+                                               : NULL;
+    source_clear(&source);
+    return value;
+}
+
+/* ---- what may be written */
+
+gboolean dconfdb_backend_get_writable(GSettingsBackend *backend, const char *name)
+{
+    DconfdbBackend *self = backend_of(backend);
+    look_if_unwatched(self);
+    lock_opened(self);
+    bool is = self->now && !is_forked(self) && seen_is_writable(self->now, name);
+    g_mutex_unlock(&self->lock);
+    return is;
+}
+
+GPermission *dconfdb_backend_get_permission(GSettingsBackend *backend, const char *path)
+{
+    return g_simple_permission_new(dconfdb_backend_get_writable(backend, path));
+}

@@ -1,0 +1,102 @@
+/* What is set by the backend waits for the thread that writes it, and is told. */
+#include "backend.h"
+
+#include "dconfdb_calls.h"
+
+#include <string.h>
+
+/* In microseconds: how long a set waits for others where no worker can be had. */
+enum { LONGEST_WRITE = 10000000 };
+
+/* `lock` is held. */
+static uint32_t entry_of(const DconfdbBackend *self, Change *change)
+{
+    if (!is_at_work(self))
+        return DCONFDB_ENTRY_REFUSED;
+    return change_entry(change, &self->waiting, self->now);
+}
+
+/* `lock` is held. True: there is no worker, and it is to be written here. */
+static bool add(DconfdbBackend *self, Change *change)
+{
+    bool is_first = waiting_add(&self->waiting, change);
+    self->added++;
+    worker_begin(self);
+    /* For those before it, it is awake, or is to try again. */
+    if (self->has_worker && is_first)
+        worker_wake(self);
+    return !self->has_worker;
+}
+
+/* Lets the change wait, or frees it. No file is looked at: by the newest snapshot it is known what is seen, and the worker finds
+ * out whether it is the newest file's. `told`, if it isn't NULL, is what is seen otherwise. */
+static uint32_t make(DconfdbBackend *self, Change *change, GTree **told)
+{
+    bool is_here = false, is_kept = false;
+    lock_opened(self);
+    uint32_t entry = entry_of(self, change);
+    if (entry == DCONFDB_ENTRY_WAITS && told)
+        *told = change_tree(change);
+    if (entry == DCONFDB_ENTRY_RENEWS)
+        waiting_renew(&self->waiting, change);
+    is_kept = entry == DCONFDB_ENTRY_WAITS || entry == DCONFDB_ENTRY_ASKS;
+    change->asks = entry == DCONFDB_ENTRY_ASKS;
+    if (is_kept)
+        is_here = add(self, change);
+    g_mutex_unlock(&self->lock);
+    if (!is_kept)
+        change_free(change);
+    if (is_here)
+        store_write(self, g_get_monotonic_time() + LONGEST_WRITE, false);
+    return entry;
+}
+
+gboolean dconfdb_backend_write(GSettingsBackend *backend, const char *key, GVariant *value, gpointer origin_tag)
+{
+    Change *change = change_new(1, strlen(key) + 1);
+    change_add(change, key, value);
+    uint32_t entry = make(backend_of(backend), change, NULL);
+    if (entry == DCONFDB_ENTRY_WAITS)
+        g_settings_backend_changed(backend, key, origin_tag);
+    return entry != DCONFDB_ENTRY_REFUSED;
+}
+
+void dconfdb_backend_reset(GSettingsBackend *backend, const char *key, gpointer origin_tag)
+{
+    dconfdb_backend_write(backend, key, NULL, origin_tag);
+}
+
+static gboolean add_length(gpointer key, gpointer value, gpointer length)
+{
+    (void)value;
+    *(size_t *)length += strlen(key) + 1;
+    return FALSE;
+}
+
+static gboolean add_row(gpointer key, gpointer value, gpointer change)
+{
+    change_add(change, key, value);
+    return FALSE;
+}
+
+gboolean dconfdb_backend_write_tree(GSettingsBackend *backend, GTree *tree, gpointer origin_tag)
+{
+    GTree *told = NULL;
+    size_t paths = 0;
+    g_tree_foreach(tree, add_length, &paths);
+    Change *change = change_new((size_t)g_tree_nnodes(tree), paths);
+    g_tree_foreach(tree, add_row, change);
+    uint32_t entry = make(backend_of(backend), change, &told);
+    if (told) {
+        g_settings_backend_changed_tree(backend, told, origin_tag);
+        g_tree_unref(told);
+    }
+    return entry != DCONFDB_ENTRY_REFUSED;
+}
+
+void dconfdb_backend_sync(GSettingsBackend *backend)
+{
+    DconfdbBackend *self = backend_of(backend);
+    if (!is_forked(self) && !store_sync(self))
+        g_warning("%s: what was set is not on the disk yet; it goes on waiting", self->place.folder);
+}

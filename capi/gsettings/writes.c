@@ -1,0 +1,229 @@
+/* What waits is written: by the worker, or by who set it; and until when somebody waits for that. */
+#define _GNU_SOURCE
+#include "faults.h"
+#include "looks.h"
+
+#include <errno.h>
+
+/* In microseconds: how long g_settings_sync() waits; and how often who waits looks for turns of others. */
+enum { LONGEST_SYNC = 10000000 };
+enum { BETWEEN_TURNS = 500000, MILLISECOND = 1000 };
+
+/* Of what goes on, once. */
+static void warn_of_waiting(DconfdbBackend *self, Notice *notice, const DconfdbError *fault)
+{
+    if (self->has_warned)
+        return;
+    self->has_warned = true;
+    char *text = g_strdup_printf("%s; what was set is not on the disk yet", fault->text);
+    warn_of(notice, text);
+    g_free(text);
+}
+
+/* `turn` is held. What could not be written waits again. Gives when it is to be tried. */
+static gint64 wait_again(DconfdbBackend *self, Notice *notice, const DconfdbError *fault, bool tries_again)
+{
+    gint64 now = g_get_monotonic_time();
+    if (self->failing == 0)
+        self->failing = now;
+    self->pause = (gint64)dconfdb_pause_after((uint64_t)self->pause);
+    bool lasts = dconfdb_fault_is_lasting(is_momentary(fault), tries_again, (uint64_t)self->failing, (uint64_t)now);
+    if (lasts)
+        warn_of_waiting(self, notice, fault);
+    notice->waits_again = true;
+    g_mutex_lock(&self->lock);
+    if (lasts)
+        self->failed = self->tries;
+    hand_newest(self, notice);
+    g_mutex_unlock(&self->lock);
+    return now + self->pause;
+}
+
+/* `turn` is held. Nothing fails any longer. */
+static void end_failing(DconfdbBackend *self)
+{
+    self->failing = self->pause = 0;
+    self->has_warned = false;
+    g_mutex_lock(&self->lock);
+    self->settled += self->overtaken;
+    self->overtaken = self->failed = 0;
+    g_mutex_unlock(&self->lock);
+}
+
+/* `turn` is held. */
+static gint64 write_it(DconfdbBackend *self, const Turn *turn, Notice *notice, bool tries_again)
+{
+    DconfdbError refusal, fault;
+    begin_error(&refusal);
+    begin_error(&fault);
+    bool done = changes_write(self->store, turn, &notice->written, &notice->refused, &refusal, &fault);
+    if (refusal.code != DCONFDB_ERROR_NONE)
+        warn_of(notice, refusal.text);
+    if (!done)
+        return wait_again(self, notice, &fault, tries_again);
+    if (self->failing != 0)
+        end_failing(self);
+    if (refusal.code == DCONFDB_ERROR_NONE)
+        warn_once(self, notice, NULL);
+    renew(self, notice);
+    return 0;
+}
+
+/* `turn` isn't held: the turn between programs is had before. */
+static gint64 write_in(DconfdbBackend *self, const Turn *turn, Notice *notice, bool tries_again)
+{
+    gint64 again = 0;
+    g_mutex_lock(&self->turn);
+    g_mutex_lock(&self->lock);
+    notice->written = waiting_take(&self->waiting);
+    self->tries++;
+    g_mutex_unlock(&self->lock);
+    if (notice->written.length > 0)
+        again = write_it(self, turn, notice, tries_again);
+    g_mutex_unlock(&self->turn);
+    return again;
+}
+
+/* Where no worker can be had. What can't be written goes on waiting, and is written with what is set next. */
+static void write_here(DconfdbBackend *self, Notice *notice, gint64 end)
+{
+    FolderLock lock;
+    DconfdbError error = DCONFDB_ERROR_INIT;
+    gint64 left = MAX(end - g_get_monotonic_time(), 0);
+    Turn turn = {&lock, folder_lock(self->place.folder, (int)(left / MILLISECOND), &lock)};
+    if (turn.fault != EWOULDBLOCK) {
+        write_in(self, &turn, notice, false);
+        if (turn.fault == 0)
+            folder_unlock(&lock);
+        return;
+    }
+    g_mutex_lock(&self->turn);
+    refuse_lock(self->store, turn.fault, &error);
+    warn_once(self, notice, &error);
+    g_mutex_unlock(&self->turn);
+}
+
+/* Looks at the files, where nobody told of them since a set was made: what is older than the set is seen before its turn. What is
+ * there already by the newest files is settled without a turn. */
+static void settle_what_is_there(DconfdbBackend *self, Notice *notice)
+{
+    g_mutex_lock(&self->lock);
+    bool asks = waiting_asks(&self->waiting), waits = self->waiting.changes.length > 0;
+    g_mutex_unlock(&self->lock);
+    if (!asks && (!waits || g_atomic_int_get(&self->is_watching)))
+        return;
+    g_mutex_lock(&self->turn);
+    bool done = look(self, notice);
+    g_mutex_lock(&self->lock);
+    guint settled = done ? waiting_settle(&self->waiting, self->now) : 0;
+    self->settled += settled;
+    self->is_to_settle = self->is_to_settle || settled > 0;
+    if (settled > 0)
+        g_cond_broadcast(&self->settles);
+    g_mutex_unlock(&self->lock);
+    g_mutex_unlock(&self->turn);
+}
+
+bool store_has_waiting(DconfdbBackend *self)
+{
+    g_mutex_lock(&self->lock);
+    bool has = self->waiting.changes.length > 0;
+    g_mutex_unlock(&self->lock);
+    return has;
+}
+
+gint64 store_write(DconfdbBackend *self, gint64 end, bool tries_again)
+{
+    Notice seen = {.faults = NULL}, notice = {.faults = NULL};
+    gint64 again = 0;
+    settle_what_is_there(self, &seen);
+    notice_tell(self, &seen);
+    if (!store_has_waiting(self))
+        return 0;
+    if (worker_is_this(self)) {
+        Turn turn = turn_take(self, end);
+        if (turn.fault == EWOULDBLOCK)
+            return turn_next(self);
+        again = write_in(self, &turn, &notice, tries_again);
+        turn_give(self);
+    } else {
+        write_here(self, &notice, end);
+    }
+    notice_tell(self, &notice);
+    return again;
+}
+
+/* Asks for a write now, where one that failed is to be tried again later. Gives how many were tried so far. */
+static guint64 ask_for_a_try(DconfdbBackend *self)
+{
+    g_mutex_lock(&self->lock);
+    guint64 tries = self->tries;
+    if (self->failed != 0 && self->has_worker) {
+        self->is_asked = true;
+        worker_wake(self);
+    }
+    g_mutex_unlock(&self->lock);
+    return tries;
+}
+
+/* `lock` is held, and let go of meanwhile. For so long, or until changes are settled, or a write has failed. */
+static void await_news(DconfdbBackend *self, Patience *patience)
+{
+    gint64 end = MIN((gint64)patience->time.end, g_get_monotonic_time() + BETWEEN_TURNS);
+    if (g_cond_wait_until(&self->settles, &self->lock, end))
+        return;
+    g_mutex_unlock(&self->lock);
+    patience_renew(patience, self);
+    g_mutex_lock(&self->lock);
+}
+
+/* Until all that waits now is settled, or a later write than these has failed after others had for long. */
+static bool await_settled(DconfdbBackend *self, Patience *patience, guint64 tries)
+{
+    g_mutex_lock(&self->lock);
+    guint64 added = self->added;
+    while (dconfdb_patience_goes_on(&patience->time, self->settled, added, self->failed, tries, (uint64_t)g_get_monotonic_time()))
+        await_news(self, patience);
+    bool is_settled = self->settled >= added;
+    g_mutex_unlock(&self->lock);
+    return is_settled;
+}
+
+/* `turn` is held. Another program may have written what was set once more, and not brought it to the disk. */
+static bool settle(DconfdbBackend *self)
+{
+    g_mutex_lock(&self->lock);
+    bool is = self->is_to_settle;
+    self->is_to_settle = false;
+    g_mutex_unlock(&self->lock);
+    if (!is || !self->store || settle_store(self->store, NULL))
+        return true;
+    g_mutex_lock(&self->lock);
+    self->is_to_settle = true;
+    g_mutex_unlock(&self->lock);
+    return false;
+}
+
+/* `turn` is held. Whether the files were looked at since so many looks had begun: the worker does after each write. */
+static bool has_looked_since(const DconfdbBackend *self, guint begun)
+{
+    return (gint)(self->last_look - begun) > 0;
+}
+
+bool store_sync(DconfdbBackend *self)
+{
+    Notice notice = {.faults = NULL};
+    guint begun = (guint)g_atomic_int_get(&self->looks_begun);
+    Patience patience = patience_of(self, LONGEST_SYNC);
+    guint64 tries = ask_for_a_try(self);
+    if (!worker_is_another(self))
+        store_write(self, (gint64)patience.time.end, false);
+    if (!await_settled(self, &patience, tries) || !mutex_lock_until(&self->turn, (gint64)patience.time.end))
+        return false;
+    if (self->place.folder && !has_looked_since(self, begun))
+        look(self, &notice);
+    bool is_settled = settle(self);
+    g_mutex_unlock(&self->turn);
+    notice_tell(self, &notice);
+    return is_settled;
+}

@@ -1,0 +1,188 @@
+/* What others have set, how a change ended, and what is told. */
+#include "layouts.h"
+
+#include <stdio.h>
+#include <string.h>
+
+uint32_t dconfdb_notes_written(const void *notes, size_t n, size_t most, size_t most_bytes, uint8_t *room, size_t room_len, size_t *len);
+uint32_t dconfdb_told(const void *before, size_t before_n, const void *after, size_t after_n, bool was_writable, bool is_writable, bool same_others,
+                      const void *asked, size_t count, uint8_t *room, size_t room_len, size_t *len);
+uint32_t dconfdb_leave_out(const void *notes, size_t n, const void *seen, size_t seen_n, const void *edits, size_t count, uint64_t now, bool *room,
+                           size_t room_len, size_t *len);
+uint32_t dconfdb_note_seen(const void *notes, size_t n, const void *seen, size_t seen_n, uint64_t now, void *room, size_t room_len, size_t *len);
+void dconfdb_ending(uint32_t outcome, uint32_t fault, bool before, void *ending);
+
+/* ---- two times, of which the second is asked for */
+
+enum { WHEN = 16, SET_VALUE = 24, TIME = 32, TITLE_AND_WHEN = 24 };
+
+static void makes_time(uint8_t *time, const char *path, uint64_t when)
+{
+    lends(time + PATH, path, strlen(path));
+    memcpy(time + WHEN, &when, WORD);
+    memset(time + SET_VALUE, 0, WORD);
+}
+
+static void tries_times(void)
+{
+    _Alignas(16) uint8_t times[2 * TIME];
+    makes_time(times, "/a", 2);
+    makes_time(times + TIME, "/k", 5);
+    lies("DconfdbTime", "path", PATH, LENT);
+    uint64_t value = 0x0102030405060708;
+    uint8_t written[128];
+    size_t len = 0;
+    memcpy(times + SET_VALUE, &value, WORD);
+    is_so(dconfdb_notes_written(times, 1, 2, sizeof written, written, sizeof written, &len) == 0 && len <= sizeof written, "DconfdbTime");
+    is_so(memcmp(written + TITLE_AND_WHEN, &value, WORD) == 0, "DconfdbTime");
+    lies("DconfdbTime", "when", WHEN, WORD);
+    lies("DconfdbTime", "value", SET_VALUE, WORD);
+    printf("TAKES(DconfdbTime, %d);\n", TIME);
+}
+
+/* ---- edits that are asked for, beside the guess that the second path was set at 5, and what was seen */
+
+enum { ASKED_WHEN = 16, ASKED_CHANGE = 24, IS_OWN = 32, IS_AS_BEFORE = 33, ASKED = 40, IS_NOTED = 32, SEEN = 40 };
+
+static void makes_asked(uint8_t *asked, const char *path, uint64_t when, size_t change)
+{
+    memset(asked, 0, ASKED);
+    lends(asked + PATH, path, strlen(path));
+    memcpy(asked + ASKED_WHEN, &when, WORD);
+    memcpy(asked + ASKED_CHANGE, &change, WORD);
+}
+
+/* Which of the edits are left out: a bit of each. */
+static unsigned left_of(const uint8_t *edits, size_t count, const uint8_t *seen, size_t seen_count)
+{
+    _Alignas(16) uint8_t times[2 * TIME];
+    bool left[3] = {false, false, false};
+    size_t len = 0;
+    makes_time(times, "/a", 2);
+    makes_time(times + TIME, "/k", 5);
+    is_so(dconfdb_leave_out(times, 2, seen, seen_count, edits, count, 9, left, 3, &len) == 0 && len == count, "DconfdbAsked");
+    return left[0] | (unsigned)left[1] << 1 | (unsigned)left[2] << 2;
+}
+
+static void tries_asked(void)
+{
+    _Alignas(16) uint8_t edits[3 * ASKED], seen[SEEN] = {0};
+    makes_asked(edits, "/j", 4, 7);
+    makes_asked(edits + ASKED, "/k", 4, 8);
+    makes_asked(edits + 2 * ASKED, "/j", 4, 8);
+    is_so(left_of(edits, 3, seen, 0) == 6, "DconfdbAsked");
+    edits[ASKED + IS_OWN] = 1;
+    is_so(left_of(edits, 3, seen, 0) == 0, "DconfdbAsked");
+    edits[ASKED + IS_OWN] = 0;
+    edits[ASKED + IS_AS_BEFORE] = 1;
+    is_so(left_of(edits, 3, seen, 0) == 0, "DconfdbAsked");
+    makes_time(seen, "/k", 5);
+    is_so(left_of(edits, 3, seen, 1) == 6, "DconfdbSeen");
+    makes_asked(edits + ASKED, "/k", 5, 8);
+    is_so(left_of(edits, 3, seen, 1) == 0, "DconfdbAsked");
+    lies("DconfdbAsked", "path", PATH, LENT);
+    lies("DconfdbAsked", "when", ASKED_WHEN, WORD);
+    lies("DconfdbAsked", "change", ASKED_CHANGE, WORD);
+    lies("DconfdbAsked", "is_own", IS_OWN, FLAG);
+    lies("DconfdbAsked", "is_as_before", IS_AS_BEFORE, FLAG);
+    printf("TAKES(DconfdbAsked, %d);\n", ASKED);
+}
+
+static void tries_seen(void)
+{
+    _Alignas(16) uint8_t seen[2 * SEEN] = {0}, room[2 * TIME];
+    size_t len = 0;
+    makes_time(room, "", 0);
+    makes_time(room + TIME, "", 0);
+    makes_time(seen, "/a", 3);
+    makes_time(seen + SEEN, "/k", 5);
+    is_so(dconfdb_note_seen(room, 0, seen, 2, 9, room, 2, &len) == 0 && len == 2, "DconfdbSeen");
+    seen[SEEN + IS_NOTED] = 1;
+    is_so(dconfdb_note_seen(room, 0, seen, 2, 9, room, 2, &len) == 0 && len == 1, "DconfdbSeen");
+    lies("DconfdbSeen", "time", 0, TIME);
+    lies("DconfdbSeen", "is_noted", IS_NOTED, FLAG);
+    printf("TAKES(DconfdbSeen, %d);\n", SEEN);
+}
+
+/* ---- the ending of a change that may be made, or was not, and of one that was */
+
+enum { WAS_KEPT = 1, WAS_EITHER = 2, WAS_UNSETTLED = 3 };
+
+static void finds_ending(void)
+{
+    Written either = room_of("DconfdbEnding"), kept = either, unsettled = either;
+    dconfdb_ending(WAS_EITHER, FAULT, false, either.bytes);
+    dconfdb_ending(WAS_KEPT, FAULT, false, kept.bytes);
+    dconfdb_ending(WAS_UNSETTLED, FAULT, false, unsettled.bytes);
+    finds_number(&either, "newest", 2);
+    finds_number(&either, "told", 3);
+    takes(&either, "is_there", bit_of(&either, &unsettled, 2 * NUMBER, 2 * NUMBER + 2, 0, 1), FLAG);
+    takes(&either, "is_unsettled", bit_of(&kept, &either, 2 * NUMBER, 2 * NUMBER + 2, 0, 1), FLAG);
+    ends(&either);
+}
+
+/* ---- a key that is asked for by itself, and the edits of it: it is told where these differ, for who asks for their type */
+
+enum { EDIT_TYPE = 16, EDIT_WAITS = 32, WAIT_SETS = 33, WAITS = 40, KEY_TYPE = 16, KEY_BEFORE = 32, KEY_AFTER = 72, KEY = 112 };
+
+static void makes_waits(uint8_t *edit, const char *value)
+{
+    lends(edit, value, 1);
+    lends(edit + EDIT_TYPE, "y", 1);
+    edit[EDIT_WAITS] = edit[WAIT_SETS] = 1;
+}
+
+static void makes_key(uint8_t *key, const char *path, const char *before, const char *after)
+{
+    memset(key, 0, KEY);
+    lends(key, path, 2);
+    lends(key + KEY_TYPE, "y", 0);
+    makes_waits(key + KEY_BEFORE, before);
+    makes_waits(key + KEY_AFTER, after);
+}
+
+/* How many bytes the paths take that are told. */
+static size_t told_of(const uint8_t *keys, size_t count)
+{
+    size_t len = ROOM;
+    uint8_t room[ROOM];
+    is_so(dconfdb_told(file, 0, file, 0, true, true, false, keys, count, room, ROOM, &len) == 0, "DconfdbKeyAsked");
+    return len;
+}
+
+static void tries_key(void)
+{
+    static const size_t flags[] = {KEY_BEFORE + EDIT_WAITS, KEY_BEFORE + WAIT_SETS, KEY_AFTER + EDIT_WAITS, KEY_AFTER + WAIT_SETS};
+    _Alignas(16) uint8_t keys[2 * KEY];
+    makes_key(keys, "/k", "1", "1");
+    is_so(told_of(keys, 1) == 0, "DconfdbKeyAsked");
+    makes_key(keys + KEY, "/j", "1", "2");
+    is_so(told_of(keys, 2) == 3, "DconfdbKeyAsked");
+    for (size_t i = 0; i < sizeof flags / sizeof *flags; i++) {
+        makes_key(keys, "/k", "1", "1");
+        keys[flags[i]] = 0;
+        is_so(told_of(keys, 2) == 6, "DconfdbWaits");
+    }
+    makes_key(keys, "/k", "1", "2");
+    lends(keys + KEY_TYPE, "n", 1);
+    is_so(told_of(keys, 1) == 0, "DconfdbKeyAsked");
+    lies("DconfdbWaits", "value", 0, LENT);
+    lies("DconfdbWaits", "type_text", EDIT_TYPE, LENT);
+    lies("DconfdbWaits", "waits", EDIT_WAITS, FLAG);
+    lies("DconfdbWaits", "sets", WAIT_SETS, FLAG);
+    printf("TAKES(DconfdbWaits, %d);\n", WAITS);
+    lies("DconfdbKeyAsked", "path", 0, LENT);
+    lies("DconfdbKeyAsked", "type_text", KEY_TYPE, LENT);
+    lies("DconfdbKeyAsked", "before", KEY_BEFORE, WAITS);
+    lies("DconfdbKeyAsked", "after", KEY_AFTER, WAITS);
+    printf("TAKES(DconfdbKeyAsked, %d);\n", KEY);
+}
+
+void finds_others(void)
+{
+    tries_times();
+    tries_asked();
+    tries_seen();
+    finds_ending();
+    tries_key();
+}

@@ -1,0 +1,185 @@
+/* A turn to change a file, a look at the files, and what is known of a file. */
+#include "layouts.h"
+
+#include <stdio.h>
+#include <string.h>
+
+void dconfdb_turn_begin(void *turn, void *step);
+void dconfdb_turn_answered(void *turn, uint32_t fault, size_t n, void *step);
+void dconfdb_refresh_begin(void *refresh, size_t count, bool has_old, bool in_turn, bool is_lenient, void *step);
+uint32_t dconfdb_same_file(const void *old, const void *now, uint64_t opened, bool is_held);
+uint32_t dconfdb_owner_and_bits(const void *old, const void *above, bool is_root, bool keeps, void *given);
+void dconfdb_refresh_answered(void *refresh, bool yes, void *step);
+size_t dconfdb_with_left(const uint8_t *left, size_t left_len, const uint8_t *name, size_t name_len, const void *file, bool is_synced, size_t most,
+                         uint8_t *room, size_t room_len);
+
+/* ---- a turn, and its steps: of a new file of 7,777 bytes, of which 1,234 are written */
+
+enum { BITS = 63, SET_ASIDE = 512, NO_BITS = 1024, WHOLE = 7777, PART = 1234 };
+enum { REMOVING = 10, KEPT = 1, APPEND = 4, DONE = 14 };
+
+/* A turn that came so far, whose read was answered so; and its step. */
+static Written turn_at(size_t read, Written *step)
+{
+    Written turn = room_of("DconfdbTurn");
+    const size_t answers[] = {0, read, WHOLE, 0, PART};
+    dconfdb_turn_begin(turn.bytes, step->bytes);
+    for (size_t i = 0; i < sizeof answers / sizeof answers[0]; i++)
+        dconfdb_turn_answered(turn.bytes, 0, answers[i], step->bytes);
+    return turn;
+}
+
+static Written turn_of(size_t read)
+{
+    Written step = room_of("DconfdbStep");
+    return turn_at(read, &step);
+}
+
+static void fails(Written *turn)
+{
+    Written step = room_of("DconfdbStep");
+    dconfdb_turn_answered(turn->bytes, FAULT, 0, step.bytes);
+}
+
+static void finds_turn(void)
+{
+    Written one = turn_of(BITS), chosen = turn_of(NO_BITS), keeps = turn_of(SET_ASIDE + BITS);
+    fails(&one);
+    fails(&keeps);
+    fails(&chosen);
+    /* First: a flag before bytes that nobody uses may look like a number. */
+    takes(&one, "has_bits", flag_of(&one, &chosen), FLAG);
+    takes(&one, "keeps", flag_of(&keeps, &one), FLAG);
+    finds_number(&one, "state", REMOVING);
+    finds_number(&one, "outcome", KEPT);
+    finds_number(&one, "fault", FAULT);
+    finds_number(&one, "bits", BITS);
+    finds_word(&one, "len", WHOLE);
+    finds_word(&one, "at", PART);
+    Written left = one;
+    fails(&left);
+    takes(&one, "leaves_new", flag_of(&left, &one), FLAG);
+    ends(&one);
+}
+
+static void finds_step(void)
+{
+    Written append = room_of("DconfdbStep"), sync = append, done = append, turn = turn_at(BITS, &append);
+    dconfdb_turn_answered(turn.bytes, 0, WHOLE - PART, sync.bytes);
+    for (size_t i = 0; i < 3; i++)
+        dconfdb_turn_answered(turn.bytes, FAULT, 0, done.bytes);
+    finds_number(&append, "kind", APPEND);
+    finds_word(&append, "number", PART);
+    uint32_t fault = FAULT;
+    takes(&append, "fault", place_of(&done, 0, ROOM, &fault, NUMBER), NUMBER);
+    takes(&append, "has_number", flag_of(&sync, &append), FLAG);
+    ends(&append);
+}
+
+/* A look at nine files without an old snapshot, at the one after the sixth; and two of which nothing is done. */
+static void finds_refresh(void)
+{
+    Written look = room_of("DconfdbRefresh"), step = room_of("DconfdbNext"), in_turn = look, plain = look, lenient = look;
+    dconfdb_refresh_begin(in_turn.bytes, 9, true, true, false, step.bytes);
+    dconfdb_refresh_begin(plain.bytes, 9, true, false, false, step.bytes);
+    dconfdb_refresh_begin(lenient.bytes, 9, true, false, true, step.bytes);
+    dconfdb_refresh_begin(look.bytes, 9, false, false, false, step.bytes);
+    for (int i = 0; i < 12; i++)
+        dconfdb_refresh_answered(look.bytes, true, step.bytes);
+    finds_first(&look, "stage", 1);
+    finds_word(&look, "at", 6);
+    finds_word(&look, "count", 9);
+    size_t from = look.end, to = from + 4;
+    takes(&look, "has_old", bit_of(&look, &plain, from, to, 0, 1), FLAG);
+    takes(&look, "in_turn", bit_of(&in_turn, &plain, from, to, 1, 0), FLAG);
+    takes(&look, "is_lenient", bit_of(&lenient, &plain, from, to, 1, 0), FLAG);
+    takes(&look, "is_newer", bit_of(&look, &plain, from, to, 1, 0), FLAG);
+    ends(&look);
+    finds_first(&step, "kind", 1);
+    finds_word(&step, "number", 6);
+    ends(&step);
+}
+
+/* ---- files: a stamp is read alone, and each field but the last makes another file */
+
+enum { STAMP_SIZE = 64, IS_THERE = 56 };
+
+static void tries_stamp(void)
+{
+    static const char *const words[] = {"device", "inode", "size"};
+    _Alignas(16) uint8_t old[STAMP_SIZE] = {0}, now[STAMP_SIZE];
+    old[IS_THERE] = 1;
+    for (size_t at = 0; at < IS_THERE; at += WORD) {
+        memcpy(now, old, STAMP_SIZE);
+        is_so(dconfdb_same_file(old, now, UINT64_MAX, false) == 0, "DconfdbFileStamp");
+        now[at] = 1;
+        is_so(dconfdb_same_file(old, now, UINT64_MAX, false) == 1, "DconfdbFileStamp");
+    }
+    for (size_t i = 0; i < sizeof words / sizeof words[0]; i++)
+        lies("DconfdbFileStamp", words[i], i * WORD, WORD);
+    uint64_t second = 1, nanosecond = 7;
+    memcpy(old + 40, &second, WORD);
+    memcpy(old + 48, &nanosecond, WORD);
+    is_so(dconfdb_same_file(old, old, 1010000006, false) == 2 && dconfdb_same_file(old, old, 1010000007, false) == 0, "DconfdbFileStamp");
+    lies("DconfdbFileStamp", "written", 24, 2 * WORD);
+    lies("DconfdbFileStamp", "touched", 40, 2 * WORD);
+    lies("DconfdbFileStamp", "is_there", IS_THERE, FLAG);
+    printf("TAKES(DconfdbFileStamp, %d);\n", STAMP_SIZE);
+    lies("DconfdbFileTime", "seconds", 0, WORD);
+    lies("DconfdbFileTime", "nanoseconds", WORD, WORD);
+}
+
+/* Which word of it is which: the record of a file that is left has its words in this order, behind a number for the name. */
+static void tries_left(void)
+{
+    _Alignas(16) uint8_t stamp[STAMP_SIZE] = {0};
+    uint64_t words[] = {1, 2, 3, 4, 5}, entry[7];
+    memcpy(stamp, words, sizeof words);
+    stamp[IS_THERE] = 1;
+    is_so(dconfdb_with_left(stamp, 0, stamp, 0, stamp, true, 1, (uint8_t *)entry, sizeof entry) == sizeof entry, "DconfdbFileStamp");
+    is_so(memcmp(entry + 1, words, sizeof words) == 0 && entry[6] == 1, "DconfdbFileStamp");
+}
+
+/* A link that is root's own, and one that is not; what was read, and what was not. */
+enum { OLD_USER = 0, OLD_GROUP = 4, OLD_BITS = 8, OLD_IS_THERE = 12, OLD_IS_REGULAR = 13, OLD_IS_LINK = 14, OLD_IS_READ = 15, OLD_SIZE = 16 };
+
+static void finds_owner(void)
+{
+    const uint32_t above[] = {11, 12}, numbers[] = {21, 22, 0751};
+    _Alignas(16) uint8_t old[OLD_SIZE] = {0};
+    Written first = room_of("DconfdbNewFile"), given = first;
+    is_so(dconfdb_owner_and_bits(old, above, true, false, first.bytes) == 0, "DconfdbFileOwner");
+    finds_number(&first, "user", 11);
+    finds_number(&first, "group", 12);
+    finds_number(&first, "bits", 0600);
+    ends(&first);
+    lies("DconfdbFileOwner", "user", 0, NUMBER);
+    lies("DconfdbFileOwner", "group", NUMBER, NUMBER);
+    printf("TAKES(DconfdbFileOwner, %d);\n", 2 * NUMBER);
+    memcpy(old, numbers, sizeof numbers);
+    old[OLD_IS_THERE] = old[OLD_IS_REGULAR] = 1;
+    is_so(dconfdb_owner_and_bits(old, above, true, false, given.bytes) == 2, "DconfdbOldFile");
+    old[OLD_IS_READ] = 1;
+    is_so(dconfdb_owner_and_bits(old, above, true, false, given.bytes) == 0, "DconfdbOldFile");
+    is_so(memcmp(given.bytes, numbers, sizeof numbers) == 0, "DconfdbOldFile");
+    old[OLD_IS_LINK] = 1;
+    is_so(dconfdb_owner_and_bits(old, above, true, true, given.bytes) == 1, "DconfdbOldFile");
+    lies("DconfdbOldFile", "user", OLD_USER, NUMBER);
+    lies("DconfdbOldFile", "group", OLD_GROUP, NUMBER);
+    lies("DconfdbOldFile", "bits", OLD_BITS, NUMBER);
+    lies("DconfdbOldFile", "is_there", OLD_IS_THERE, FLAG);
+    lies("DconfdbOldFile", "is_regular", OLD_IS_REGULAR, FLAG);
+    lies("DconfdbOldFile", "is_link", OLD_IS_LINK, FLAG);
+    lies("DconfdbOldFile", "is_read", OLD_IS_READ, FLAG);
+    printf("TAKES(DconfdbOldFile, %d);\n", OLD_SIZE);
+}
+
+void finds_turns(void)
+{
+    finds_turn();
+    finds_step();
+    finds_refresh();
+    tries_stamp();
+    tries_left();
+    finds_owner();
+}

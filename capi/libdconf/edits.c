@@ -1,0 +1,79 @@
+/* The edits of a set of changes, and what is known of each. */
+#include "writes.h"
+
+static DconfdbEdit edit_of(const gchar *path, GVariant *value)
+{
+    if (!value)
+        return (DconfdbEdit){path, NULL, NULL, 0};
+    return (DconfdbEdit){path, g_variant_get_type_string(value), g_variant_get_data(value), g_variant_get_size(value)};
+}
+
+/* Seals the set. */
+Edits edits_of(DConfChangeset *changes)
+{
+    const gchar *prefix, *const *paths;
+    GVariant *const *values;
+    guint count = dconf_changeset_describe(changes, &prefix, &paths, &values);
+    Edits self = {g_array_new(FALSE, FALSE, sizeof(DconfdbEdit)), g_ptr_array_new_with_free_func(g_free),
+                  g_ptr_array_new_with_free_func((GDestroyNotify)g_variant_unref)};
+    for (guint i = 0; i < count; i++) {
+        gchar *path = g_strconcat(prefix, paths[i], NULL);
+        /* The library takes normal forms alone; dconf writes these. */
+        GVariant *normal = values[i] ? g_variant_get_normal_form(values[i]) : NULL;
+        DconfdbEdit edit = edit_of(path, normal);
+        if (normal)
+            g_ptr_array_add(self.values, normal);
+        g_ptr_array_add(self.texts, path);
+        g_array_append_val(self.edits, edit);
+    }
+    return self;
+}
+
+void edits_clear(Edits *self)
+{
+    g_array_unref(self->edits);
+    g_ptr_array_unref(self->texts);
+    g_ptr_array_unref(self->values);
+}
+
+static bool is_reset_of_locked(const DconfdbSnapshot *now, const DconfdbEdit *edit)
+{
+    return !edit->type && dconf_is_key(edit->path, NULL) && !dconfdb_snapshot_is_writable(now, edit->path);
+}
+
+/* What is known of each edit, to be freed: the reset of a locked key does nothing, and the user has what it says or not. */
+DconfdbNewEdit *known_of(const Edits *self, const DconfdbSnapshot *now)
+{
+    DconfdbNewEdit *known = g_new0(DconfdbNewEdit, self->edits->len);
+    for (guint at = 0; at < self->edits->len; at++) {
+        const DconfdbEdit *edit = edit_at(self, at);
+        known[at].sets = edit->type != NULL;
+        known[at].may = !is_reset_of_locked(now, edit);
+        known[at].is_same = dconfdb_snapshot_has_edit(now, edit);
+    }
+    return known;
+}
+
+/* The changes of which the user has something else. */
+DConfChangeset *effective(const Edits *self, const DconfdbNewEdit *known, DConfChangeset *changes)
+{
+    DConfChangeset *found = dconf_changeset_new();
+    for (guint at = 0; at < self->edits->len; at++) {
+        const gchar *path = edit_at(self, at)->path;
+        GVariant *value = NULL;
+        if (!dconfdb_is_news(&known[at]) || !dconf_changeset_get(changes, path, &value))
+            continue;
+        dconf_changeset_set(found, path, value);
+        g_clear_pointer(&value, g_variant_unref);
+    }
+    return found;
+}
+
+/* Keeps those that may be made. */
+void leave_out(Edits *self, const DconfdbNewEdit *known)
+{
+    for (guint at = self->edits->len; at > 0; at--) {
+        if (!known[at - 1].may)
+            g_array_remove_index(self->edits, at - 1);
+    }
+}

@@ -1,0 +1,216 @@
+/* The names of a store's files are watched by inotify, and the folders and links on the way to them. */
+#define _GNU_SOURCE
+#include "watched.h"
+#include "folders.h"
+
+#include <limits.h>
+#include <stdio.h>
+#include <stdlib.h>
+#include <string.h>
+#include <sys/inotify.h>
+#include <sys/stat.h>
+#include <unistd.h>
+
+static const char busy[] = "/etc";
+
+/* What inotify is asked for, by what is watched. What is written beside a file, as NAME.new, wakes nobody before it is whole. */
+#define OF_FILES (IN_CLOSE_WRITE | IN_ATTRIB | IN_MOVED_FROM | IN_MOVED_TO | IN_DELETE)
+#define OF_NAMES (IN_CREATE | IN_MOVED_FROM | IN_MOVED_TO | IN_DELETE)
+static const uint32_t asked[] = {
+    [DCONFDB_WATCH_ITSELF] = IN_MOVE_SELF | IN_DELETE_SELF,
+    [DCONFDB_WATCH_PASSAGE] = OF_NAMES,
+    [DCONFDB_WATCH_OWN] = OF_FILES,
+    [DCONFDB_WATCH_AWAITED] = OF_FILES | IN_CREATE,
+};
+
+void forget_watched(Watch *watch)
+{
+    for (size_t i = 0; i < watch->count; i++) {
+        inotify_rm_watch(watch->inotify, watch->all[i].number);
+        free(watch->all[i].path);
+    }
+    watch->count = 0;
+}
+
+/* Room for one more. */
+static bool grow(Watch *watch)
+{
+    if (watch->count < watch->room)
+        return true;
+    size_t room = 2 * watch->room + 16;
+    Watched *all = realloc(watch->all, room * sizeof *all);
+    if (!all)
+        return false;
+    watch->all = all;
+    watch->room = room;
+    return true;
+}
+
+/* Whether the name is watched so already: all are gone through twice. */
+static bool is_watched(const Watch *watch, const Watched *wanted)
+{
+    for (size_t i = 0; i < watch->count; i++) {
+        const Watched *one = &watch->all[i];
+        bool is_same = one->path && wanted->path ? strcmp(one->path, wanted->path) == 0 : one->path == wanted->path;
+        if (is_same && one->number == wanted->number && one->name.watch == wanted->name.watch && one->name.comes == wanted->name.comes)
+            return true;
+    }
+    return false;
+}
+
+/* A folder above the files may be closed to us: then it isn't known when it is moved. */
+static void watch_one(Watch *watch, const char *folder, char *path, const DconfdbWatchedName *name)
+{
+    int number = inotify_add_watch(watch->inotify, folder, asked[name->watch] | IN_MASK_ADD | IN_ONLYDIR);
+    if (is_watched(watch, &(Watched){number, *name, path}))
+        return;
+    char *kept = path && number >= 0 ? strdup(path) : NULL;
+    bool is_had = number >= 0 && (kept || !path) && grow(watch);
+    if (is_had)
+        watch->all[watch->count++] = (Watched){number, *name, kept};
+    else
+        free(kept);
+    if (!is_had && path)
+        watch->is_whole = false;
+}
+
+/* What stands at a path. */
+uint32_t found_at(const char *path)
+{
+    struct stat found;
+    if (lstat(path, &found) != 0)
+        return DCONFDB_FOUND_NOTHING;
+    if (S_ISLNK(found.st_mode))
+        return DCONFDB_FOUND_LINK;
+    if (S_ISDIR(found.st_mode))
+        return DCONFDB_FOUND_FOLDER;
+    return S_ISREG(found.st_mode) && found.st_nlink == 1 ? DCONFDB_FOUND_FILE : DCONFDB_FOUND_OTHER;
+}
+
+/* A path on the way to a file. */
+typedef struct {
+    char folder[PATH_MAX];   /* so far; there is no link in it, and it is empty for `/` */
+    char rest[2 * PATH_MAX]; /* behind that */
+    uint32_t role;           /* what is heard if the file changes */
+    int links;
+} Way;
+
+/* Goes on where a link leads, and then to what is behind it. False: it leads nowhere. */
+static bool follow(Way *way, const char *link, const char *behind)
+{
+    char target[PATH_MAX], rest[sizeof way->rest];
+    ssize_t len = readlink(link, target, sizeof target - 1);
+    if (len <= 0 || way->links++ >= MOST_LINKS)
+        return false;
+    target[len] = 0;
+    int size = snprintf(rest, sizeof rest, "%s/%s", target, behind);
+    if (size < 0 || (size_t)size >= sizeof rest)
+        return false;
+    if (target[0] == '/')
+        way->folder[0] = 0;
+    memcpy(way->rest, rest, (size_t)size + 1);
+    return true;
+}
+
+/* Much happens in /etc. */
+static bool is_busy(const Watch *watch, const char *folder)
+{
+    return !watch->minds_etc && strcmp(folder, busy) == 0;
+}
+
+static void enter(Way *way, const char *path, const char *behind)
+{
+    snprintf(way->folder, sizeof way->folder, "%s", path);
+    memmove(way->rest, behind, strlen(behind) + 1);
+}
+
+/* One name of a path, and those behind it. True: the path goes on. */
+static bool watch_name(Watch *watch, Way *way, const char *name, size_t len, const char *behind)
+{
+    DconfdbWatchedName watched;
+    char path[PATH_MAX];
+    const char *folder = *way->folder ? way->folder : "/";
+    int size = snprintf(path, sizeof path, "%s/%.*s", way->folder, (int)len, name);
+    if (size < 0 || (size_t)size >= sizeof path) {
+        watch->is_whole = false;
+        return false;
+    }
+    dconfdb_watched_name(found_at(path), *behind == 0, is_busy(watch, folder), is_busy(watch, path), way->role, &watched);
+    if (watched.watch == DCONFDB_WATCH_ITSELF)
+        watch_one(watch, path, NULL, &watched);
+    else if (watched.watch != DCONFDB_WATCH_NOTHING)
+        watch_one(watch, folder, path, &watched);
+    if (watched.way == DCONFDB_WAY_FOLLOWS)
+        return follow(way, path, behind);
+    if (watched.way == DCONFDB_WAY_ENTERS)
+        enter(way, path, behind);
+    return watched.way == DCONFDB_WAY_ENTERS;
+}
+
+static void go_up(Way *way, const char *behind)
+{
+    char *last = strrchr(way->folder, '/');
+    if (last)
+        *last = 0;
+    memmove(way->rest, behind, strlen(behind) + 1);
+}
+
+/* The folders on the way to a file, each link of it, and the file's own name. */
+static void watch_path(Watch *watch, const char *path, uint32_t role)
+{
+    Way way = {.folder = "", .role = role};
+    int size = snprintf(way.rest, sizeof way.rest, "%s", path);
+    bool goes_on = size >= 0 && (size_t)size < sizeof way.rest;
+    if (!goes_on)
+        watch->is_whole = false;
+    while (goes_on) {
+        const char *name = way.rest + strspn(way.rest, "/");
+        size_t len = strcspn(name, "/");
+        const char *behind = name + len + strspn(name + len, "/");
+        if (len == 0)
+            return;
+        if (len == 2 && memcmp(name, "..", 2) == 0)
+            go_up(&way, behind);
+        else if (len == 1 && *name == '.')
+            memmove(way.rest, behind, strlen(behind) + 1);
+        else
+            goes_on = watch_name(watch, &way, name, len, behind);
+    }
+}
+
+/* Twice, since a folder may come between the look at it and its watch. */
+static void watch_all(Watch *watch, const char *files, int profiles)
+{
+    for (int round = 0; round < 2; round++) {
+        int count = 0;
+        watch->is_whole = true;
+        for (const char *at = files; *at; at += strlen(at) + 1)
+            watch_path(watch, at, count++ < profiles ? DCONFDB_NOTICE_FOLDER : DCONFDB_NOTICE_FILE);
+    }
+}
+
+static bool has_inotify(Watch *watch)
+{
+    if (watch->inotify < 0)
+        watch->inotify = inotify_init1(IN_NONBLOCK | IN_CLOEXEC);
+    return watch->inotify >= 0;
+}
+
+bool watch_files(Watch *watch, const char *files, int profiles)
+{
+    watch->is_whole = false;
+    if (files && has_inotify(watch)) {
+        forget_watched(watch);
+        watch_all(watch, files, profiles);
+    }
+    return watch->is_whole;
+}
+
+bool watch_begin(Watch *watch, const StorePlace *place)
+{
+    bool are_all = false;
+    char *files = has_inotify(watch) ? place_files(place, &are_all, NULL) : NULL;
+    watch->is_whole = watch_files(watch, files, PROFILES) && are_all;
+    free(files);
+    return watch->is_whole;
+}

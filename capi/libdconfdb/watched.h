@@ -1,0 +1,32 @@
+/* What a Watch has: the names that are watched, and when the files are looked at. */
+#ifndef WATCHED_H
+#define WATCHED_H
+
+#include "dconfdb_calls.h"
+#include "watch.h"
+
+#include <stdbool.h>
+#include <stddef.h>
+#include <stdint.h>
+
+typedef struct {
+    int number; /* inotify's, of a folder */
+    DconfdbWatchedName name;
+    char *path; /* a name in the folder; NULL: the folder itself */
+} Watched;
+
+struct Watch {
+    int inotify; /* -1: there is none */
+    bool minds_etc, is_whole;
+    size_t count, room;
+    Watched *all;
+    DconfdbNotice notice;
+};
+
+/* Watches nothing any longer. */
+void forget_watched(Watch *watch);
+
+/* What stands at a path. */
+uint32_t found_at(const char *path);
+
+#endif
