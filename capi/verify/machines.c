@@ -17,17 +17,18 @@ size_t some_number(uint32_t kind)
     return n;
 }
 
-void dconfdb_turn_begin(DconfdbTurn *turn)
-{
-    uint32_t seen = turn_states[turn_first[0]].seen;
-    *turn = (DconfdbTurn){.state = turn_first[0], .outcome = seen / 3, .fault = turn_fault(seen)};
-}
-
-void dconfdb_turn_next(const DconfdbTurn *turn, DconfdbStep *step)
+static void turn_tells(const DconfdbTurn *turn, DconfdbStep *step)
 {
     *step = turn_states[turn->state].step;
     if (at_step)
         at_step(step);
+}
+
+void dconfdb_turn_begin(DconfdbTurn *turn, DconfdbStep *step)
+{
+    uint32_t seen = turn_states[turn_first[0]].seen;
+    *turn = (DconfdbTurn){.state = turn_first[0], .outcome = seen / 3, .fault = turn_fault(seen)};
+    turn_tells(turn, step);
 }
 
 /* The place of an answer. The system gives no other number, so who answers with another one made it up. */
@@ -46,13 +47,14 @@ static unsigned answer_of(uint32_t kind, uint32_t fault, size_t n)
     return TURN_FAULT;
 }
 
-void dconfdb_turn_answered(DconfdbTurn *turn, uint32_t fault, size_t n)
+void dconfdb_turn_answered(DconfdbTurn *turn, uint32_t fault, size_t n, DconfdbStep *step)
 {
     if (at_answer)
         at_answer(fault, n);
     turn->state = within(turn_states[turn->state].after[answer_of(turn_states[turn->state].step.kind, fault, n)]);
     turn->outcome = turn_states[turn->state].seen / 3;
     turn->fault = turn_fault(turn_states[turn->state].seen);
+    turn_tells(turn, step);
 }
 
 /* ---- what is asked before a change, and what a program has of it */
@@ -90,20 +92,22 @@ uint32_t dconfdb_lock_bits(uint32_t folder, bool has_group)
 
 /* ---- a look */
 
-void dconfdb_refresh_begin(DconfdbRefresh *refresh, size_t count, bool has_old, bool in_turn, bool is_lenient)
-{
-    GIVEN(count <= 2);
-    *refresh = (DconfdbRefresh){.stage = refresh_first[8 * count + 4 * has_old + 2 * in_turn + is_lenient]};
-}
-
-void dconfdb_refresh_next(const DconfdbRefresh *refresh, DconfdbNext *step)
+static void refresh_tells(const DconfdbRefresh *refresh, DconfdbNext *step)
 {
     *step = (DconfdbNext){refresh_states[refresh->stage].step.kind, refresh_states[refresh->stage].step.number};
 }
 
-void dconfdb_refresh_answered(DconfdbRefresh *refresh, bool yes)
+void dconfdb_refresh_begin(DconfdbRefresh *refresh, size_t count, bool has_old, bool in_turn, bool is_lenient, DconfdbNext *step)
+{
+    GIVEN(count <= 2);
+    *refresh = (DconfdbRefresh){.stage = refresh_first[8 * count + 4 * has_old + 2 * in_turn + is_lenient]};
+    refresh_tells(refresh, step);
+}
+
+void dconfdb_refresh_answered(DconfdbRefresh *refresh, bool yes, DconfdbNext *step)
 {
     refresh->stage = within(refresh_states[refresh->stage].after[yes]);
+    refresh_tells(refresh, step);
 }
 
 /* States that nobody can tell apart are one, so it is had if what comes then comes of a yes. */

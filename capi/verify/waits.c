@@ -10,13 +10,6 @@ void (*at_next_answer)(uint32_t answer, size_t at);
 /* ---- changes that wait. The edits are of the machine's memory, and are there from the first step on */
 
 static uint16_t queue_state;
-static bool is_queue_known;
-
-void dconfdb_queue_begin(DconfdbQueue *queue)
-{
-    *queue = (DconfdbQueue){.stage = BEYOND};
-    is_queue_known = false;
-}
 
 static uint16_t queue_first_of(const DconfdbQueued *edits, size_t count)
 {
@@ -32,46 +25,53 @@ static uint16_t queue_first_of(const DconfdbQueued *edits, size_t count)
     return queue_first[0];
 }
 
-void dconfdb_queue_next(const DconfdbQueue *queue, const DconfdbQueued *edits, size_t count, DconfdbNext *step)
+static void queue_tells(DconfdbNext *step)
 {
-    GIVEN(count <= QUEUE_EDITS);
-    CHECK(count == 0 || __CPROVER_r_ok(edits, count * sizeof *edits), "memory: edits that are there");
-    CHECK(__CPROVER_r_ok(queue, sizeof *queue), "memory: a queue");
-    if (!is_queue_known)
-        queue_state = queue_first_of(edits, count);
-    is_queue_known = true;
     *step = (DconfdbNext){queue_states[queue_state].step.kind, queue_states[queue_state].step.number};
     if (at_next)
         at_next(step);
 }
 
-void dconfdb_queue_answered(DconfdbQueue *queue, DconfdbQueued *edits, size_t count, uint32_t answer, size_t at)
+void dconfdb_queue_begin(DconfdbQueue *queue, const DconfdbQueued *edits, size_t count, DconfdbNext *step)
 {
+    GIVEN(count <= QUEUE_EDITS);
+    CHECK(count == 0 || __CPROVER_r_ok(edits, count * sizeof *edits), "memory: edits that are there");
+    *queue = (DconfdbQueue){.stage = BEYOND};
+    queue_state = queue_first_of(edits, count);
+    queue_tells(step);
+}
+
+void dconfdb_queue_answered(DconfdbQueue *queue, DconfdbQueued *edits, size_t count, uint32_t answer, size_t at, DconfdbNext *step)
+{
+    CHECK(count == 0 || __CPROVER_r_ok(edits, count * sizeof *edits), "memory: edits that are there");
+    CHECK(__CPROVER_r_ok(queue, sizeof *queue), "memory: a queue");
     CHECK(answer <= DCONFDB_QUEUE_LATER && (answer != DCONFDB_QUEUE_FAULT || at <= count), "answer: one to a step");
     if (at_next_answer)
         at_next_answer(answer, at);
     queue->stage = queue_state = within(queue_states[queue_state].after[queue_answer(answer, at)]);
     queue_marked(queue_states[queue_state].seen, edits, count);
+    queue_tells(step);
 }
 
 /* ---- a wait */
 
-void dconfdb_wait_begin(DconfdbWait *wait, uint32_t longest)
+/* What it stopped with is the fault. */
+static void wait_tells(const DconfdbWait *wait, DconfdbNext *step)
+{
+    uint32_t kind = wait_states[wait->stage].step.kind;
+    *step = (DconfdbNext){kind, kind == DCONFDB_WAIT_STOPPED ? wait->fault : wait_states[wait->stage].step.number};
+    if (at_next)
+        at_next(step);
+}
+
+void dconfdb_wait_begin(DconfdbWait *wait, uint32_t longest, DconfdbNext *step)
 {
     uint32_t at = 0;
     while (at < WAIT_BEGINNINGS && wait_longest[at] != longest)
         at++;
     GIVEN(at < WAIT_BEGINNINGS);
     *wait = (DconfdbWait){.stage = wait_first[at]};
-}
-
-/* What it stopped with is the fault. */
-void dconfdb_wait_next(const DconfdbWait *wait, DconfdbNext *step)
-{
-    uint32_t kind = wait_states[wait->stage].step.kind;
-    *step = (DconfdbNext){kind, kind == DCONFDB_WAIT_STOPPED ? wait->fault : wait_states[wait->stage].step.number};
-    if (at_next)
-        at_next(step);
+    wait_tells(wait, step);
 }
 
 static unsigned wait_answer(uint32_t answer, uint64_t passed)
@@ -85,11 +85,12 @@ static unsigned wait_answer(uint32_t answer, uint64_t passed)
     return at + (answer == DCONFDB_WAIT_MOVED ? WAIT_MOVED : WAIT_TAKEN);
 }
 
-void dconfdb_wait_answered(DconfdbWait *wait, uint32_t answer, uint64_t passed, uint32_t fault)
+void dconfdb_wait_answered(DconfdbWait *wait, uint32_t answer, uint64_t passed, uint32_t fault, DconfdbNext *step)
 {
     CHECK(answer <= DCONFDB_WAIT_FAILED, "answer: one to a try");
     if (at_next_answer)
         at_next_answer(answer, fault);
     wait->stage = within(wait_states[wait->stage].after[wait_answer(answer, passed)]);
     wait->fault = fault;
+    wait_tells(wait, step);
 }

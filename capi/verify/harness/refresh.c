@@ -188,8 +188,7 @@ int look_step(void)
     set_up_store();
     GIVEN(store.count > 0);
     Look look = look_of(NO_FOLDER);
-    dconfdb_refresh_begin(&refresh, store.count, false, false, store.options.is_lenient);
-    dconfdb_refresh_next(&refresh, &step);
+    dconfdb_refresh_begin(&refresh, store.count, false, false, store.options.is_lenient, &step);
     store.now = NULL;
     CHECK(step.kind == DCONFDB_LOOK_READ && step.number == 0, "step: without an old part a file is read");
     take_step(&look, &refresh, &step, told);

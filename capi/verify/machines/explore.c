@@ -154,26 +154,52 @@ static void print(const Machine *machine)
 
 /* ---- a change */
 
+/* The machine, and the step that it is at. */
+typedef struct {
+    DconfdbTurn turn;
+    DconfdbStep step;
+} Turning;
+
+/* Bytes between fields are those of no field. */
+static void is_at_step(Turning *it, const DconfdbStep *step)
+{
+    memset(&it->step, 0, sizeof it->step);
+    it->step.kind = step->kind;
+    it->step.fault = step->fault;
+    it->step.number = step->number;
+    it->step.has_number = step->has_number;
+}
+
 static void turn_begins(void *it, int number)
 {
+    DconfdbStep step = {0};
+    Turning *turning = it;
     (void)number;
-    dconfdb_turn_begin(it);
+    dconfdb_turn_begin(&turning->turn, &step);
+    is_at_step(turning, &step);
+}
+
+static void turn_takes(Turning *it, uint32_t fault, size_t n)
+{
+    DconfdbStep step = {0};
+    dconfdb_turn_answered(&it->turn, fault, n, &step);
+    is_at_step(it, &step);
 }
 
 static Step turn_steps(const void *it)
 {
-    DconfdbStep step = {0};
-    dconfdb_turn_next(it, &step);
-    const DconfdbTurn *turn = it; /* what came of it so far is read there */
-    return (Step){step.kind, step.fault, step.number, step.has_number, turn_seen(turn->outcome, turn->fault)};
+    const Turning *turning = it;
+    const DconfdbStep *step = &turning->step;
+    const DconfdbTurn *turn = &turning->turn; /* what came of it so far is read there */
+    return (Step){step->kind, step->fault, step->number, step->has_number, turn_seen(turn->outcome, turn->fault)};
 }
 
 /* Of a fault no number counts: another one leads to the same. */
-static void turn_fails(void *it, uint32_t fault)
+static void turn_fails(Turning *it, uint32_t fault)
 {
-    DconfdbTurn other = *(DconfdbTurn *)it;
-    dconfdb_turn_answered(it, fault, 0);
-    dconfdb_turn_answered(&other, fault, 3);
+    Turning other = *it;
+    turn_takes(it, fault, 0);
+    turn_takes(&other, fault, 3);
     if (memcmp(it, &other, sizeof other) != 0)
         fail("turn", "a fault's number counts");
 }
@@ -189,30 +215,48 @@ static bool turn_answered(void *it, const Step *step, int number)
     }
     if (!turn_number(step->kind, (unsigned)number, &n))
         return false;
-    dconfdb_turn_answered(it, 0, n);
+    turn_takes(it, 0, n);
     return true;
 }
 
 /* ---- a look */
 
+/* A step that has a number. */
+static void is_at_next(DconfdbNext *it, const DconfdbNext *next)
+{
+    memset(it, 0, sizeof *it);
+    it->kind = next->kind;
+    it->number = next->number;
+}
+
+typedef struct {
+    DconfdbRefresh refresh;
+    DconfdbNext next;
+} Looking;
+
 static void refresh_begins(void *it, int number)
 {
-    dconfdb_refresh_begin(it, (size_t)number / 8, (number & 4) != 0, (number & 2) != 0, (number & 1) != 0);
+    DconfdbNext next = {0};
+    Looking *looking = it;
+    dconfdb_refresh_begin(&looking->refresh, (size_t)number / 8, (number & 4) != 0, (number & 2) != 0, (number & 1) != 0, &next);
+    is_at_next(&looking->next, &next);
 }
 
 static Step refresh_steps(const void *it)
 {
-    DconfdbNext next = {0};
-    dconfdb_refresh_next(it, &next);
-    return (Step){next.kind, 0, next.number, false, 0};
+    const Looking *looking = it;
+    return (Step){looking->next.kind, 0, looking->next.number, false, 0};
 }
 
 static bool refresh_answered(void *it, const Step *step, int number)
 {
     if (step->kind >= DCONFDB_LOOK_FAILED || (number >= REFRESH_REFUSED && step->kind != DCONFDB_LOOK_READ))
         return false;
-    bool is_had = number >= REFRESH_REFUSED ? dconfdb_refresh_is_had(it, (uint32_t)number - REFRESH_REFUSED) : number == 1;
-    dconfdb_refresh_answered(it, is_had);
+    DconfdbNext next = {0};
+    Looking *looking = it;
+    bool is_had = number >= REFRESH_REFUSED ? dconfdb_refresh_is_had(&looking->refresh, (uint32_t)number - REFRESH_REFUSED) : number == 1;
+    dconfdb_refresh_answered(&looking->refresh, is_had, &next);
+    is_at_next(&looking->next, &next);
     return true;
 }
 
@@ -220,28 +264,31 @@ static bool refresh_answered(void *it, const Step *step, int number)
 
 typedef struct {
     DconfdbQueue queue;
+    DconfdbNext next;
     size_t count;
     DconfdbQueued edits[QUEUE_EDITS];
 } Waiting;
 
 static void queue_begins(void *it, int number)
 {
+    DconfdbNext next = {0};
     Waiting *waiting = it;
     waiting->count = queue_edits((uint32_t)number, waiting->edits);
-    dconfdb_queue_begin(&waiting->queue);
+    dconfdb_queue_begin(&waiting->queue, waiting->edits, waiting->count, &next);
+    is_at_next(&waiting->next, &next);
 }
 
 static Step queue_steps(const void *it)
 {
     const Waiting *waiting = it;
-    DconfdbNext next = {0};
-    dconfdb_queue_next(&waiting->queue, waiting->edits, waiting->count, &next);
-    return (Step){next.kind, 0, next.number, false, queue_seen(waiting->edits, waiting->count)};
+    return (Step){waiting->next.kind, 0, waiting->next.number, false, queue_seen(waiting->edits, waiting->count)};
 }
 
 static void queue_takes(Waiting *it, uint32_t answer, size_t at)
 {
-    dconfdb_queue_answered(&it->queue, it->edits, it->count, answer, at);
+    DconfdbNext next = {0};
+    dconfdb_queue_answered(&it->queue, it->edits, it->count, answer, at, &next);
+    is_at_next(&it->next, &next);
 }
 
 /* Where the fault is of no edit, none counts: another one leads to the same. */
@@ -271,30 +318,42 @@ static bool queue_answered(void *it, const Step *step, int number)
 
 enum { MOST_WAITED_STEPS = 24, FAULT = 5 };
 
+typedef struct {
+    DconfdbWait wait;
+    DconfdbNext next;
+} Awaiting;
+
 static void wait_begins(void *it, int number)
 {
-    dconfdb_wait_begin(it, wait_longest[number]);
+    DconfdbNext next = {0};
+    Awaiting *awaiting = it;
+    dconfdb_wait_begin(&awaiting->wait, wait_longest[number], &next);
+    is_at_next(&awaiting->next, &next);
+}
+
+static void wait_takes(Awaiting *it, uint32_t answer, uint64_t passed, uint32_t fault)
+{
+    DconfdbNext next = {0};
+    dconfdb_wait_answered(&it->wait, answer, passed, fault, &next);
+    is_at_next(&it->next, &next);
 }
 
 /* What it stopped with is the fault, whichever that is. */
 static Step wait_steps(const void *it)
 {
-    DconfdbNext next = {0};
-    dconfdb_wait_next(it, &next);
-    return (Step){next.kind, 0, next.kind == DCONFDB_WAIT_STOPPED ? 0 : next.number, false, 0};
+    const DconfdbNext *next = &((const Awaiting *)it)->next;
+    return (Step){next->kind, 0, next->kind == DCONFDB_WAIT_STOPPED ? 0 : next->number, false, 0};
 }
 
-static void wait_fails(void *it)
+static void wait_fails(Awaiting *it)
 {
     for (uint32_t fault = 1; fault < 4096; fault++) {
-        DconfdbWait other = *(DconfdbWait *)it;
-        DconfdbNext next = {0};
-        dconfdb_wait_answered(&other, DCONFDB_WAIT_FAILED, 0, fault);
-        dconfdb_wait_next(&other, &next);
-        if (next.kind != DCONFDB_WAIT_STOPPED || next.number != fault)
+        Awaiting other = *it;
+        wait_takes(&other, DCONFDB_WAIT_FAILED, 0, fault);
+        if (other.next.kind != DCONFDB_WAIT_STOPPED || other.next.number != fault)
             fail("wait", "it stops with another fault");
     }
-    dconfdb_wait_answered(it, DCONFDB_WAIT_FAILED, 0, FAULT);
+    wait_takes(it, DCONFDB_WAIT_FAILED, 0, FAULT);
 }
 
 static bool wait_answered(void *it, const Step *step, int number)
@@ -304,17 +363,17 @@ static bool wait_answered(void *it, const Step *step, int number)
     if (number == WAIT_FAILED && step->kind == DCONFDB_WAIT_TRY)
         wait_fails(it);
     else if (number >= WAIT_GOT)
-        dconfdb_wait_answered(it, number == WAIT_GOT ? DCONFDB_WAIT_GOT : DCONFDB_WAIT_FAILED, 0, FAULT);
+        wait_takes(it, number == WAIT_GOT ? DCONFDB_WAIT_GOT : DCONFDB_WAIT_FAILED, 0, FAULT);
     else
-        dconfdb_wait_answered(it, number < WAIT_MOVED ? DCONFDB_WAIT_TAKEN : DCONFDB_WAIT_MOVED, wait_passed[number % WAIT_TIMES], 0);
+        wait_takes(it, number < WAIT_MOVED ? DCONFDB_WAIT_TAKEN : DCONFDB_WAIT_MOVED, wait_passed[number % WAIT_TIMES], 0);
     return true;
 }
 
 static const Machine machines[] = {
-    {"turn", sizeof(DconfdbTurn), 1, TURN_ANSWERS, MOST_STATES, turn_begins, turn_steps, turn_answered},
-    {"refresh", sizeof(DconfdbRefresh), REFRESH_BEGINNINGS, REFRESH_ANSWERS, MOST_STATES, refresh_begins, refresh_steps, refresh_answered},
+    {"turn", sizeof(Turning), 1, TURN_ANSWERS, MOST_STATES, turn_begins, turn_steps, turn_answered},
+    {"refresh", sizeof(Looking), REFRESH_BEGINNINGS, REFRESH_ANSWERS, MOST_STATES, refresh_begins, refresh_steps, refresh_answered},
     {"queue", sizeof(Waiting), QUEUE_BEGINNINGS, QUEUE_ANSWERS, MOST_STATES, queue_begins, queue_steps, queue_answered},
-    {"wait", sizeof(DconfdbWait), WAIT_BEGINNINGS, WAIT_ANSWERS, MOST_WAITED_STEPS, wait_begins, wait_steps, wait_answered},
+    {"wait", sizeof(Awaiting), WAIT_BEGINNINGS, WAIT_ANSWERS, MOST_WAITED_STEPS, wait_begins, wait_steps, wait_answered},
 };
 
 /* ---- calls that keep nothing: their answers to all that is asked */
