@@ -2,6 +2,7 @@
 #include "layouts.h"
 
 #include <stdio.h>
+#include <string.h>
 
 bool dconfdb_keyfile_line(void *cursor, void *line);
 
@@ -25,7 +26,9 @@ void finds_lines(void)
     printf("TAKES(DconfdbCursor, %d);\n", CURSOR);
     finds_lent(&line, "text", text + VALUE_AT, 2);
     lends(group, text + GROUP_AT, 1);
-    takes(&line, "path", place_of(&line, 0, ROOM, group, LENT) - LENT, PART_OF_PATH * LENT);
+    size_t path = place_of(&line, 0, ROOM, group, LENT) - LENT;
+    lies(line.type, "path", path, PART_OF_PATH * LENT);
+    memset(line.is_taken + path, true, PART_OF_PATH * LENT);
     finds_number(&line, "kind", 1);
     ends(&line);
 }
