@@ -233,13 +233,39 @@ static int walk_to(bool makes, const char *folder, int *end)
     return walk((Way){makes, 0}, AT_FDCWD, path, end);
 }
 
+/* The name that the system has for a descriptor. */
+static void name_descriptor(char *name, int descriptor)
+{
+    static const char folder[] = "/proc/self/fd/";
+    char digits[16], *digit = digits + sizeof digits;
+    *--digit = 0;
+    for (; descriptor >= 10; descriptor /= 10)
+        *--digit = (char)('0' + descriptor % 10);
+    *--digit = (char)('0' + descriptor);
+    memcpy(name, folder, sizeof folder - 1);
+    strcpy(name + sizeof folder - 1, digit);
+}
+
+/* Whether what is open has just this path, so that no link led there. False if that can't be told. */
+static bool is_itself(int opened, const char *path)
+{
+    char name[32], place[PATH_MAX];
+    name_descriptor(name, opened);
+    ssize_t len = readlinkat(AT_FDCWD, name, place, sizeof place);
+    return len > 0 && (size_t)len == strlen(path) && memcmp(place, path, (size_t)len) == 0;
+}
+
+/* Root goes through a path only if a link may be on the way. */
 int folder_open(const char *folder, int *opened)
 {
     int end;
-    if (!is_root()) {
-        *opened = open(folder, TO_READ);
+    *opened = open(folder, TO_READ);
+    if (!is_root())
         return *opened < 0 ? errno : 0;
-    }
+    if (*opened >= 0 && is_itself(*opened, folder))
+        return 0;
+    if (*opened >= 0)
+        close(*opened);
     int fault = walk_to(false, folder, &end);
     if (fault != 0)
         return fault;

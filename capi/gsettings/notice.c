@@ -11,6 +11,8 @@
 /* GSettings ends the program where one notice has more than 255 keys of a schema. */
 enum { MOST_KEYS = 255 };
 
+enum { FEW_KEYS = 4 };
+
 /* Whether somebody listens to the path, or to a directory above it. */
 static bool is_subscribed(DconfdbBackend *self, const char *path)
 {
@@ -46,10 +48,10 @@ static DconfdbEdit edit_of(const char *path, GVariant *value)
     return (DconfdbEdit){path, g_variant_get_type_string(value), g_variant_get_data(value), g_variant_get_size(value)};
 }
 
-/* Keys that are asked for by themselves, and what they lend of our edits. */
+/* Keys that are asked for by themselves, and what they lend of our edits: mostly few. */
 typedef struct {
-    SeenKey *keys;
-    DconfdbEdit *edits;
+    SeenKey *keys, few_keys[FEW_KEYS];
+    DconfdbEdit *edits, few_edits[2 * FEW_KEYS];
     guint count;
 } Asked;
 
@@ -65,27 +67,32 @@ static void add_asked(Asked *asked, const char *path, const char *type, const Ed
 
 /* What a program set was told when it set it; so only what is seen otherwise since. And keys of which a value of another type was passed
  * over: their default is seen. */
-static Asked asked_of(const Notice *notice)
+static void ask(Asked *asked, const Notice *notice)
 {
     guint edited = notice->edited ? notice->edited->len : 0, odd = notice->odd ? g_strv_length(notice->odd) / 2 : 0;
-    Asked asked = {g_new(SeenKey, edited + odd), g_new(DconfdbEdit, 2 * (edited + odd)), 0};
+    bool are_few = edited + odd <= FEW_KEYS;
+    asked->keys = are_few ? asked->few_keys : g_new(SeenKey, edited + odd);
+    asked->edits = are_few ? asked->few_edits : g_new(DconfdbEdit, 2 * (edited + odd));
+    asked->count = 0;
     for (guint i = 0; i < edited; i++) {
         const Edited *one = &g_array_index(notice->edited, Edited, i);
-        add_asked(&asked, one->path, NULL, one);
+        add_asked(asked, one->path, NULL, one);
     }
     for (guint i = 0; i < odd; i++)
-        add_asked(&asked, notice->odd[2 * i], notice->odd[2 * i + 1], edited_of(notice, notice->odd[2 * i]));
-    return asked;
+        add_asked(asked, notice->odd[2 * i], notice->odd[2 * i + 1], edited_of(notice, notice->odd[2 * i]));
 }
 
-/* The keys that are seen otherwise; NULL: no memory is left. */
-static char *told_of(const Notice *notice)
+/* The keys that are seen otherwise. False: no memory is left. */
+static bool is_told(Told *told, const Notice *notice)
 {
-    Asked asked = asked_of(notice);
-    char *paths = seen_otherwise(notice->before, notice->after, asked.keys, asked.count, NULL);
-    g_free(asked.keys);
-    g_free(asked.edits);
-    return paths;
+    Asked asked;
+    ask(&asked, notice);
+    bool is = seen_otherwise(told, notice->before, notice->after, asked.keys, asked.count, NULL);
+    if (asked.keys != asked.few_keys) {
+        g_free(asked.keys);
+        g_free(asked.edits);
+    }
+    return is;
 }
 
 /* ---- who is told */
@@ -120,14 +127,19 @@ static void send_writable(DconfdbBackend *self, const char *paths)
 /* Without memory all is told: once too often, and not too seldom. */
 static void send(DconfdbBackend *self, const Notice *notice)
 {
-    char *told = told_of(notice), *relocked = seen_relocked(notice->before, notice->after, NULL);
-    if (told)
-        send_changed(self, told);
-    else
+    Told told;
+    if (is_told(&told, notice)) {
+        send_changed(self, told.paths);
+        seen_free(&told);
+    } else {
         g_settings_backend_path_changed(&self->parent, "/", NULL);
-    send_writable(self, relocked ? relocked : "/\0");
-    free(told);
-    free(relocked);
+    }
+    if (seen_relocked(&told, notice->before, notice->after, NULL)) {
+        send_writable(self, told.paths);
+        seen_free(&told);
+    } else {
+        g_settings_backend_path_writable_changed(&self->parent, "/");
+    }
 }
 
 /* Whether something may be seen otherwise. */
@@ -155,8 +167,8 @@ static void warn(const char *fault, bool ends)
 
 void notice_tell(DconfdbBackend *self, Notice *notice)
 {
-    bool is_told = is_news(notice), ends = (is_told || notice->faults) && has_ended(self);
-    if (is_told && !ends)
+    bool is = is_news(notice), ends = (is || notice->faults) && has_ended(self);
+    if (is && !ends)
         send(self, notice);
     for (guint i = 0; notice->faults && i < notice->faults->len; i++)
         warn(notice->faults->pdata[i], ends);

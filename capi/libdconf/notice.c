@@ -115,8 +115,8 @@ static void add_own(const Own *own, DConfChangeset *changes, const DconfdbSnapsh
     }
 }
 
-/* The keys that are seen otherwise beside what this client changes; NULL: no memory is left. */
-static char *changed_by_others(const DconfdbSnapshot *before, const DconfdbSnapshot *now, DConfChangeset *changes)
+/* The keys that are seen otherwise beside what this client changes. False: no memory is left. */
+static bool changed_by_others(Told *told, const DconfdbSnapshot *before, const DconfdbSnapshot *now, DConfChangeset *changes)
 {
     Own own = {g_array_new(FALSE, FALSE, sizeof(DconfdbEdit)), g_ptr_array_new_with_free_func(free)};
     if (changes)
@@ -126,11 +126,11 @@ static char *changed_by_others(const DconfdbSnapshot *before, const DconfdbSnaps
         const DconfdbEdit *edit = &g_array_index(own.edits, DconfdbEdit, i);
         keys[i] = (SeenKey){edit->path, NULL, edit, edit};
     }
-    char *paths = seen_otherwise(before, now, keys, own.edits->len, NULL);
+    bool is = seen_otherwise(told, before, now, keys, own.edits->len, NULL);
     g_free(keys);
     g_array_unref(own.edits);
     g_ptr_array_unref(own.paths);
-    return paths;
+    return is;
 }
 
 /* ---- who is told of it */
@@ -161,12 +161,19 @@ static void send_writable(Engine *self, const char *paths)
 /* Without a snapshot before, all that is there is told, and that it may be written. Without memory all is. */
 static void tell_differences(Engine *self, const DconfdbSnapshot *before, const DconfdbSnapshot *now, DConfChangeset *own)
 {
-    char *relocked = seen_relocked(before, now, NULL), *changed = changed_by_others(before, now, own);
-    send_writable(self, relocked && changed ? relocked : "/\0");
-    if (changed)
-        send_changed(self, changed);
-    free(relocked);
-    free(changed);
+    Told told;
+    if (seen_relocked(&told, before, now, NULL)) {
+        send_writable(self, told.paths);
+        seen_free(&told);
+    } else {
+        send_writable(self, "/\0");
+    }
+    if (changed_by_others(&told, before, now, own)) {
+        send_changed(self, told.paths);
+        seen_free(&told);
+    } else {
+        send_writable(self, "/\0");
+    }
 }
 
 void notice_others(Engine *self)

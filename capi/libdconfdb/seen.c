@@ -10,7 +10,7 @@
 #include <stdlib.h>
 #include <string.h>
 
-enum { ROOM_OF_TOLD = 4096 };
+enum { ROOM_OF_TOLD = 4096, FEW_KEYS = 4 };
 
 static DconfdbBytes lent_text(const char *text)
 {
@@ -70,35 +70,48 @@ static const DconfdbSnapshot *or_nothing(const DconfdbSnapshot *snapshot)
     return snapshot ? snapshot : &nothing;
 }
 
-/* What is told mostly is little: then the proved calls have their memory on the stack. */
-static char *told_by(Lists *lists, const DconfdbSnapshot *after, const void *of, DconfdbError *error)
+/* What is told mostly is little: then the proved calls have their memory on the stack, too. */
+static bool is_told(Told *told, Lists *lists, const DconfdbSnapshot *after, const void *of, DconfdbError *error)
 {
     LentRoom room;
     _Alignas(16) char bytes[ROOM_OF_TOLD];
+    size_t len = 0;
     lend_room(&room, bytes, sizeof bytes);
-    char *paths = snapshot_listed(lists, or_nothing(after), of, "differences", NULL, error);
+    uint32_t number = lists(after, of, (uint8_t *)told->few, sizeof told->few - 1, &len);
     take_back_room(&room);
-    return paths;
+    told->paths = told->few;
+    if (number != DCONFDB_OK)
+        return refuse_call(error, number, "differences", nowhere);
+    if (len >= sizeof told->few)
+        told->paths = snapshot_listed_in(len, lists, after, of, "differences", NULL, error);
+    else
+        told->few[len] = 0;
+    return told->paths != NULL;
 }
 
-char *seen_otherwise(const DconfdbSnapshot *before, const DconfdbSnapshot *after, const SeenKey *keys, size_t count, DconfdbError *error)
+bool seen_otherwise(Told *told, const DconfdbSnapshot *before, const DconfdbSnapshot *after, const SeenKey *keys, size_t count, DconfdbError *error)
 {
-    DconfdbKeyAsked *asked = malloc((count + 1) * sizeof *asked);
-    if (!asked) {
-        refuse_memory(error);
-        return NULL;
-    }
+    DconfdbKeyAsked few[FEW_KEYS], *asked = count <= FEW_KEYS ? few : malloc(count * sizeof *asked);
+    if (!asked)
+        return refuse_memory(error);
     for (size_t i = 0; i < count; i++)
         asked[i] = asked_of(&keys[i]);
     Beside beside = {or_nothing(before), asked, count};
-    char *paths = told_by(lists_told, after, &beside, error);
-    free(asked);
-    return paths;
+    bool is = is_told(told, lists_told, or_nothing(after), &beside, error);
+    if (asked != few)
+        free(asked);
+    return is;
 }
 
-char *seen_relocked(const DconfdbSnapshot *before, const DconfdbSnapshot *after, DconfdbError *error)
+bool seen_relocked(Told *told, const DconfdbSnapshot *before, const DconfdbSnapshot *after, DconfdbError *error)
 {
-    return told_by(lists_relocked, after, or_nothing(before), error);
+    return is_told(told, lists_relocked, or_nothing(after), or_nothing(before), error);
+}
+
+void seen_free(Told *told)
+{
+    if (told->paths != told->few)
+        free(told->paths);
 }
 
 bool paths_meet(const char *one, const char *other)

@@ -14,14 +14,21 @@ typedef struct {
     const DconfdbEdit *before, *after;
 } SeenKey;
 
+/* Paths that are told: in the order of their bytes, once each, a zero byte after each and one at the end. They mostly are few. */
+typedef struct {
+    char *paths;
+    char few[512];
+} Told;
+
 /* The paths of the keys that are seen otherwise than before: of these keys, and of all others by what the snapshots show. `before` may be
- * NULL: nothing was seen. In the order of their bytes, once each, a zero byte after each and one at the end: the caller's. NULL: no memory
- * is left. */
-char *seen_otherwise(const DconfdbSnapshot *before, const DconfdbSnapshot *after, const SeenKey *keys, size_t count, DconfdbError *error);
+ * NULL: nothing was seen. False: no memory is left, and nothing is to be freed. */
+bool seen_otherwise(Told *told, const DconfdbSnapshot *before, const DconfdbSnapshot *after, const SeenKey *keys, size_t count, DconfdbError *error);
 
 /* The paths of which it is otherwise than before whether they may be written: keys, and directories as a whole; what is below another of them
- * isn't told by itself. `before` may be NULL, and nothing might be written. They come as those of seen_otherwise() do. */
-char *seen_relocked(const DconfdbSnapshot *before, const DconfdbSnapshot *after, DconfdbError *error);
+ * isn't told by itself. `before` may be NULL, and nothing might be written. False as of seen_otherwise(). */
+bool seen_relocked(Told *told, const DconfdbSnapshot *before, const DconfdbSnapshot *after, DconfdbError *error);
+
+void seen_free(Told *told);
 
 /* Whether a path may be written, by all locks. Without memory it may not. */
 bool seen_is_left(const DconfdbSnapshot *snapshot, const char *path);

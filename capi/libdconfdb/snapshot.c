@@ -192,8 +192,8 @@ static uint32_t lists_paths(const DconfdbSnapshot *snapshot, const void *of, uin
 }
 
 /* Calls with a room of so many bytes, and else with one that is enough. */
-static char *listed_in(size_t len, Lists *lists, const DconfdbSnapshot *snapshot, const void *of, const char *name, size_t *size,
-                       DconfdbError *error)
+char *snapshot_listed_in(size_t len, Lists *lists, const DconfdbSnapshot *snapshot, const void *of, const char *name, size_t *size,
+                         DconfdbError *error)
 {
     size_t room_len;
     uint32_t number = DCONFDB_MEMORY;
@@ -221,7 +221,7 @@ static char *listed_in(size_t len, Lists *lists, const DconfdbSnapshot *snapshot
 char *snapshot_listed(Lists *lists, const DconfdbSnapshot *snapshot, const void *of, const char *name, size_t *size,
                     DconfdbError *error)
 {
-    return listed_in(1024, lists, snapshot, of, name, size, error);
+    return snapshot_listed_in(1024, lists, snapshot, of, name, size, error);
 }
 
 char *dconfdb_snapshot_list(const DconfdbSnapshot *snapshot, const char *directory, size_t *size, DconfdbError *error)
@@ -247,7 +247,7 @@ char *snapshot_paths(const DconfdbSnapshot *snapshot, const char *directory, Dco
     void *bytes = malloc(TIMES * len);
     if (bytes)
         lend_room(&room, bytes, TIMES * len);
-    char *paths = listed_in(len, lists_paths, snapshot, directory, directory, NULL, error);
+    char *paths = snapshot_listed_in(len, lists_paths, snapshot, directory, directory, NULL, error);
     if (bytes)
         take_back_room(&room);
     free(bytes);

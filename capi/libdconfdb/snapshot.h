@@ -31,6 +31,10 @@ typedef uint32_t Lists(const DconfdbSnapshot *snapshot, const void *of, uint8_t 
 /* What a call lists, with a zero byte behind it: the caller's. `name` is said to be at fault if it fails, and then it is NULL. */
 char *snapshot_listed(Lists *lists, const DconfdbSnapshot *snapshot, const void *of, const char *name, size_t *size, DconfdbError *error);
 
+/* The same, of so many bytes at first. */
+char *snapshot_listed_in(size_t len, Lists *lists, const DconfdbSnapshot *snapshot, const void *of, const char *name, size_t *size,
+                         DconfdbError *error);
+
 /* ---- two of them */
 
 /* The paths of what the first databases have otherwise, whatever the others say; or NULL. */

@@ -104,16 +104,16 @@ static bool put_key(const DconfdbSnapshot *now, const char *path)
 static bool tell(const Watching *watch, const DconfdbSnapshot *now, DconfdbError *error)
 {
     bool any = false, is_told = true;
-    char *paths = seen_otherwise(watch->before, now, NULL, 0, error);
-    if (!paths)
+    Told told;
+    if (!seen_otherwise(&told, watch->before, now, NULL, 0, error))
         return false;
-    for (const char *at = paths; is_told && *at; at += strlen(at) + 1) {
+    for (const char *at = told.paths; is_told && *at; at += strlen(at) + 1) {
         if (paths_meet(watch->path, at)) {
             is_told = put_key(now, at);
             any = any || is_told;
         }
     }
-    free(paths);
+    seen_free(&told);
     if (any)
         puts("");
     if (!is_told)

@@ -36,8 +36,7 @@ const SIX: &[u8] = b"\x06\0\0\0";
 fn are_these(list: Result<Vec<String>, AllocError>, text: &str) -> bool {
     match list {
         Ok(list) => {
-            list.len() == usize::from(!text.is_empty())
-                && list.iter().all(|it| it.as_str() == text)
+            list.len() == usize::from(!text.is_empty()) && list.iter().all(|it| it.as_str() == text)
         }
         Err(_) => false,
     }
@@ -77,7 +76,10 @@ fn are_told(alloc: Global, own: &[Layer<'_>], both: &[Layer<'_>]) -> bool {
     let (none, first) = (LentLayers::new(true, &[]), LentLayers::new(true, own));
     are_these(told(alloc, none, first, false, &[]), "/k")
         && are_these(told(alloc, first, first, false, &[]), "")
-        && are_these(told(alloc, first, LentLayers::new(true, both), false, &[]), "")
+        && are_these(
+            told(alloc, first, LentLayers::new(true, both), false, &[]),
+            "",
+        )
         && are_bytes(told_texts(alloc, none, first, false, &[]), b"/k\0")
         && is_told(alloc, own, sets(SIX), NONE)
         && is_told(alloc, own, sets(SIX), sets(FIVE))
