@@ -251,7 +251,7 @@ static bool is_itself(int opened, const char *path)
 {
     char name[32], place[PATH_MAX];
     name_descriptor(name, opened);
-    ssize_t len = readlinkat(AT_FDCWD, name, place, sizeof place);
+    ssize_t len = readlink(name, place, sizeof place);
     return len > 0 && (size_t)len == strlen(path) && memcmp(place, path, (size_t)len) == 0;
 }
 

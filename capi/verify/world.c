@@ -280,10 +280,9 @@ int fstatat(int folder, const char *name, struct stat *found, int flags)
     return stated(FSTATAT, (Call){.file = folder, .name = name, .flags = flags}, found);
 }
 
-ssize_t readlinkat(int folder, const char *name, char *room, size_t len)
+static ssize_t target_of(int folder, const char *name, char *room, size_t len)
 {
-    CHECK(is_open(folder), "descriptor: readlinkat() of what is open");
-    CHECK(__CPROVER_w_ok(room, len), "memory: readlinkat() into room that is there");
+    CHECK(__CPROVER_w_ok(room, len), "memory: a link's target into room that is there");
     if (outcome(READLINKAT, (Call){.file = folder, .name = name, .len = len}) != 0)
         return -1;
     size_t count = any_size();
@@ -294,6 +293,17 @@ ssize_t readlinkat(int folder, const char *name, char *room, size_t len)
         GIVEN(i >= count || room[i] != 0);
     }
     return (ssize_t)count;
+}
+
+ssize_t readlinkat(int folder, const char *name, char *room, size_t len)
+{
+    CHECK(is_open(folder), "descriptor: readlinkat() of what is open");
+    return target_of(folder, name, room, len);
+}
+
+ssize_t readlink(const char *name, char *room, size_t len)
+{
+    return target_of(AT_FDCWD, name, room, len);
 }
 
 int mkdirat(int folder, const char *name, mode_t mode)

@@ -53,14 +53,18 @@ static int make_theirs(int above, const struct stat *found, const char *name)
 int folder_open_(void)
 {
     int opened = -1;
-    int fault = folder_open("/a/b", &opened);
+    int fault = folder_open("/a", &opened); /* as long as a link's target */
     CHECK(!walks_to_make && count_of[MKDIRAT] == 0, "step: nothing is made");
     if (fault != 0) {
         CHECK(only_open(-1, -1), "descriptor: a fault leaves nothing open");
         return 0;
     }
     CHECK(is_open(opened) && only_open(opened, -1), "descriptor: the folder alone is open");
-    CHECK((last[geteuid() == 0 ? OPENAT : OPEN].flags & O_DIRECTORY) != 0, "step: it is a folder");
+    bool is_walked = count_of[OPENAT] > 0;
+    CHECK((last[is_walked ? OPENAT : OPEN].flags & O_DIRECTORY) != 0, "step: it is a folder");
+    CHECK(geteuid() != 0 || is_walked || count_of[READLINKAT] == 1, "step: root goes through the path, or asks where it has come");
+    if (geteuid() == 0 && !is_walked)
+        REACHED("it is where it is said to be");
     REACHED("it is open");
     return 0;
 }
