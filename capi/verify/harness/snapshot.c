@@ -93,7 +93,7 @@ int snapshot_lists(void)
     size_t size = 7;
     size_t first = any_size();
     GIVEN(first < 4096);
-    char *room = listed_in(first, lists_some, &of, "/", "/", any_bool() ? &size : NULL, NULL);
+    char *room = snapshot_listed_in(first, lists_some, &of, "/", "/", any_bool() ? &size : NULL, NULL);
     CHECK((room != NULL) == (refused == 0), "answer: what failed is told, once");
     CHECK(refused <= 1 && asked <= 3, "step: it is asked once more for each time that the room is too small");
     if (!room)
