@@ -79,13 +79,19 @@ static void look_at_profiles(const DconfdbBackend *self, struct stat now[2])
     }
 }
 
+static bool is_at_once(const struct timespec *one, const struct timespec *other)
+{
+    return one->tv_sec == other->tv_sec && one->tv_nsec == other->tv_nsec;
+}
+
+/* One whose permissions changed may be read, or no longer. */
 static bool is_same(const struct stat *one, const struct stat *other)
 {
     bool is_there = one->st_nlink != 0;
     if (!is_there || other->st_nlink == 0)
         return is_there == (other->st_nlink != 0);
-    return one->st_dev == other->st_dev && one->st_ino == other->st_ino && one->st_size == other->st_size
-        && one->st_mtim.tv_sec == other->st_mtim.tv_sec && one->st_mtim.tv_nsec == other->st_mtim.tv_nsec;
+    return one->st_dev == other->st_dev && one->st_ino == other->st_ino && one->st_size == other->st_size && is_at_once(&one->st_mtim, &other->st_mtim)
+        && is_at_once(&one->st_ctim, &other->st_ctim);
 }
 
 /* Opens the store, also in the place of one that is open; where that fails, the old one stays. A bad file

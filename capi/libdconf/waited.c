@@ -74,7 +74,8 @@ static gboolean put_waiting(Engine *self, DConfChangeset *changes, DConfChangese
     DconfdbSnapshot *now = engine_look(self);
     Edits edits = edits_of(changes);
     g_autofree DconfdbNewEdit *known = now ? known_of(&edits, now) : NULL;
-    gboolean is_done = known && dconfdb_is_there(known, edits.edits->len);
+    /* What another program wrote may not be on the disk yet. */
+    gboolean is_done = known && dconfdb_is_there(known, edits.edits->len) && settle_store(engine_store(self), NULL);
     if (!is_done) {
         if (known)
             leave_out(&edits, known);

@@ -17,7 +17,8 @@ typedef struct {
 
 static void begin(FileSource *self)
 {
-    bool is_whole = watch_begin(self->watch, engine_place(self->engine));
+    const DconfdbStore *store = engine_store(self->engine);
+    bool is_whole = store ? watch_store(self->watch, store) : watch_begin(self->watch, engine_place(self->engine));
     int descriptor = watch_descriptor(self->watch);
     if (descriptor >= 0 && !self->descriptor)
         self->descriptor = g_source_add_unix_fd(&self->source, descriptor, G_IO_IN);

@@ -102,7 +102,9 @@ static gboolean put_news(Engine *self, DConfChangeset *changes, Edits *edits, co
                          DconfdbError *fault)
 {
     g_autofree DconfdbNewEdit *known = known_of(edits, now);
-    bool has_user = engine_has_user(self), are_there = has_user && dconfdb_is_there(known, edits->edits->len);
+    bool has_user = engine_has_user(self);
+    /* What another program wrote may not be on the disk yet. */
+    bool are_there = has_user && dconfdb_is_there(known, edits->edits->len) && settle_store(engine_store(self), NULL);
     *told = effective(edits, known, changes);
     if (has_user)
         leave_out(edits, known);

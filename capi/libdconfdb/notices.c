@@ -61,12 +61,18 @@ static bool set_clock_at(const Notices *it, int64_t due)
     return set_clock(it, TFD_TIMER_ABSTIME, (struct timespec){due / SECOND, due % SECOND * NANOSECONDS});
 }
 
+bool watch_store(Watch *watch, const DconfdbStore *store)
+{
+    char *files = files_of(store);
+    bool is_whole = watch_files(watch, files, 0);
+    free(files);
+    return is_whole;
+}
+
 /* Watches the store's files. Where there was no inotify there may be by now. */
 static void watch_anew(Notices *it, const DconfdbStore *store)
 {
-    char *files = files_of(store);
-    bool is_whole = watch_files(it->watch, files, 0);
-    free(files);
+    bool is_whole = watch_store(it->watch, store);
     if (it->inotify < 0 && watch_descriptor(it->watch) >= 0 && add(it, watch_descriptor(it->watch)))
         it->inotify = watch_descriptor(it->watch);
     watch_answer(it->watch, is_whole && it->inotify >= 0);

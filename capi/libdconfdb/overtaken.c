@@ -241,11 +241,14 @@ static bool know_all(Asking *asking, const DconfdbStore *store, Order *order, co
     return asking->count == 0 || room;
 }
 
+/* No pointer that is handed over is NULL. */
+static const DconfdbSeen no_seen = {{DCONFDB_NOTHING, 0, 0}, false};
+
 bool asking_leave_out(Asking *asking, const DconfdbStore *store, Order *order, const DconfdbSnapshot *before)
 {
     size_t count = 0;
     if (!know_all(asking, store, order, before)
-        || dconfdb_leave_out(order->times, order->count, asking->seen, asking->seen_count, asking->asked, asking->count, order->now,
+        || dconfdb_leave_out(order->times, order->count, asking->seen ? asking->seen : &no_seen, asking->seen_count, asking->asked, asking->count, order->now,
                              asking->is_left, asking->count, &count) != DCONFDB_OK)
         return false;
     keep(asking);

@@ -46,6 +46,9 @@ bool watch_files(Watch *watch, const char *files, int profiles);
 /* The same of the files that the store at that place has now. */
 bool watch_begin(Watch *watch, const StorePlace *place);
 
+/* Watches the files of a store that stays open, whatever its profile names by then. */
+bool watch_store(Watch *watch, const DconfdbStore *store);
+
 /* Whether inotify tells of all that happens to the files. */
 bool watch_is_whole(const Watch *watch);
 

@@ -123,6 +123,26 @@ def on_a_slow_disk(both, driver):
         it.end()
 
 
+def with_another_profile(both, driver):
+    """A store that is open stays so: what its files hold is seen by who watches, though another profile is in its place by now."""
+    profile, site = both.homes['ours'] / 'config' / 'dconfdb' / 'profile', both.folder / 'site'
+    named, keys = profile.read_text(encoding='utf-8'), (site / 'd' / 'keys').read_text(encoding='utf-8')
+    it = Watcher(both, 'ours', driver)
+    it.says('watch sync /')
+    it.says('settle 300')
+    profile.write_text('user-db:user\n', encoding='utf-8')
+    it.says('settle 1500')
+    (site / 'd' / 'keys').write_text(keys + '\n[later]\nk=7\n', encoding='utf-8')
+    subprocess.run(['dconf', 'compile', site / 'db', site / 'd'], check=True)
+    it.says('settle 1500')
+    if it.says('read 0 /later/k') != ['  7']:
+        raise Stop("beside another profile what changes in the site's database is not seen")
+    it.end()
+    profile.write_text(named, encoding='utf-8')
+    (site / 'd' / 'keys').write_text(keys, encoding='utf-8')
+    subprocess.run(['dconf', 'compile', site / 'db', site / 'd'], check=True)
+
+
 def main(both):
     needs('gsettings', 'libglib2.0-bin')
     rand, driver = random.Random(13), both.compiled('driver')
@@ -146,6 +166,7 @@ def main(both):
         it.end()
     refused_at_first(both, driver)
     on_a_slow_disk(both, driver)
+    with_another_profile(both, driver)
     shutil.rmtree(modules)
     told = f'the same {told} signals as of dconf\'s; without file descriptors; a store that opens late'
     return f'{COUNT} changes by dconf\'s command, by dconfdb\'s and by GSettings: {told}; who watches reads without a stat'
