@@ -1,6 +1,5 @@
 /* The lock by which programs take turns: waited for, handed over, and closed in a child of fork(). */
-#define _DEFAULT_SOURCE
-#define _POSIX_C_SOURCE 200809L
+#define _GNU_SOURCE
 #define _FILE_OFFSET_BITS 64
 #include "lock.h"
 #include "dconfdb_calls.h"
@@ -133,9 +132,32 @@ static int open_old(int folder, int *file)
     return fault;
 }
 
-/* Only what is made here is handed over: another file may have a second name elsewhere. */
+/* What root makes in another's folder has its name only once it is his: who is killed before keeps nobody from it. */
+static int make_theirs(int folder, int *file)
+{
+    *file = openat(folder, ".", HOW | O_TMPFILE, READ_AND_WRITE);
+    if (*file < 0)
+        return errno;
+    hand_over(folder, *file);
+    if (linkat(*file, "", folder, LOCK_NAME, AT_EMPTY_PATH) == 0)
+        return 0;
+    int fault = errno;
+    close(*file);
+    return fault;
+}
+
+static bool is_anothers(int folder)
+{
+    struct stat found;
+    return geteuid() == 0 && fstat(folder, &found) == 0 && found.st_uid != 0;
+}
+
+/* Only what is made here is handed over: another file may have a second name elsewhere. Some file systems know no file without a name. */
 static int make_new(int folder, int *file)
 {
+    int fault = is_anothers(folder) ? make_theirs(folder, file) : EOPNOTSUPP;
+    if (fault == 0 || fault == EEXIST)
+        return fault;
     *file = openat(folder, LOCK_NAME, HOW | O_CREAT | O_EXCL, READ_AND_WRITE);
     if (*file < 0)
         return errno;

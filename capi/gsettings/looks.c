@@ -101,6 +101,8 @@ static bool open_store(DconfdbBackend *self, const struct stat profiles[2], Dcon
     DconfdbStore *store = place_open(&self->place, error);
     if (!store)
         return false;
+    if (self->store)
+        store_take_over(store, self->store);
     g_mutex_lock(&self->lock);
     DconfdbStore *old = self->store;
     self->store = store;

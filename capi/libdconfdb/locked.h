@@ -32,6 +32,10 @@ DconfdbSnapshot *newest_unless_amid(DconfdbStore *store, bool *has_looked, Dconf
 /* While edits wait: what others changed between two snapshots, which the next locked_change heeds. */
 void heed_others(DconfdbStore *store, const DconfdbSnapshot *before, const DconfdbSnapshot *after);
 
+/* A store that was opened in the place of an old one, of the same user's file, knows what that knew: what others changed, and what came of
+ * its own last change. */
+void store_take_over(DconfdbStore *store, DconfdbStore *old);
+
 /* Brings to the disk what the user's file is, unless this store knows that it is there: a program that set what was there already wants
  * to know that it stays. */
 bool settle_store(DconfdbStore *store, DconfdbError *error);

@@ -111,6 +111,20 @@ void store_forget_seen(DconfdbStore *store)
     }
 }
 
+void store_take_over(DconfdbStore *store, DconfdbStore *old)
+{
+    if (!store->user_file || !old->user_file || strcmp(store->user_file, old->user_file) != 0)
+        return;
+    pthread_mutex_lock(&old->refreshing);
+    store->seen = old->seen;
+    store->tried = old->tried;
+    store->noted = old->noted;
+    store->is_unsettled = old->is_unsettled;
+    old->seen = NULL;
+    old->tried = NULL;
+    pthread_mutex_unlock(&old->refreshing);
+}
+
 /* A number for the user's value; 0: there is none. */
 static uint64_t value_in(const DconfdbSnapshot *snapshot, const DconfdbBytes *path)
 {

@@ -326,7 +326,8 @@ int renameat2(int folder, const char *name, int other_folder, const char *other,
 
 int linkat(int folder, const char *name, int other_folder, const char *other, int flags)
 {
-    CHECK(is_open(folder) && folder == other_folder, "descriptor: linkat() in one folder that is open");
+    CHECK(is_open(folder) && is_open(other_folder), "descriptor: linkat() of what is open");
+    CHECK(folder == other_folder || (flags & AT_EMPTY_PATH) != 0, "descriptor: linkat() in one folder, or of a file by itself");
     return outcome(LINKAT, (Call){.file = folder, .name = name, .other = other, .flags = flags});
 }
 

@@ -94,7 +94,7 @@ static int open_both(const char *folder, FolderLock *lock)
 static void is_made_here(Kind kind)
 {
     if (kind == FCHMOD || kind == FCHOWN)
-        CHECK((last[OPENAT].flags & O_CREAT) != 0 && last[OPENAT].count == last[kind].file, "step: only what was made here is handed over");
+        CHECK((last[OPENAT].flags & (O_CREAT | O_TMPFILE)) != 0 && last[OPENAT].count == last[kind].file, "step: only what was made here is handed over");
     CHECK(kind != FCHMOD || (last[FCHMOD].mode & ~0666U) == 0, "step: its own bits, to read and write");
 }
 
@@ -123,7 +123,7 @@ int lock_open(void)
     CHECK(open->fault == 0 && open->file == lock.folder && open->count == lock.file, "step: the file is opened in the folder");
     CHECK((open->flags & (O_NOFOLLOW | O_NONBLOCK | O_ACCMODE)) == (O_NOFOLLOW | O_NONBLOCK | O_RDWR), "step: no link is followed, no pipe waited for, and it can be locked everywhere");
     CHECK((open->flags & O_CREAT) == 0 || (open->flags & O_EXCL) != 0, "step: what is made is made in nobody's place");
-    CHECK((open->flags & O_CREAT) != 0 || was_done(FSTAT), "answer: an old one is looked at");
+    CHECK((open->flags & (O_CREAT | O_TMPFILE)) != 0 || was_done(FSTAT), "answer: an old one is looked at");
     REACHED("it is open");
     return 0;
 }
