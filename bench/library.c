@@ -108,7 +108,7 @@ static void our_walk_start(void) {
     for (size_t i = 0; i < TEXTS; i++)
         for (size_t j = 0; j < WIDTH; j++)
             bytes[TEXTS + WIDTH * i + j] = (unsigned char)((i + 1) >> 8 * j);
-    many_texts = (DconfdbValue){bytes, TEXTS * (1 + WIDTH), "as", 2, 0};
+    many_texts = (DconfdbValue){bytes, TEXTS * (1 + WIDTH), "as", 2, 0, 0};
 }
 
 /* Each child by its index in what one call put. */
@@ -116,6 +116,15 @@ static void our_walk(void) {
     answer = dconfdb_value_children(&many_texts, children, TEXTS) == TEXTS;
     for (size_t i = 0; i < TEXTS; i++)
         answer = answer && children[i].size == 1;
+}
+
+/* The same one by one, as if nothing had been asked before. */
+static void our_each(void) {
+    DconfdbValue child;
+    many_texts.passed = 0;
+    answer = true;
+    for (size_t i = 0; i < TEXTS; i++)
+        answer = dconfdb_value_child(&many_texts, i, &child) && child.size == 1 && answer;
 }
 
 static void our_lookup(void) {
@@ -385,6 +394,7 @@ static const Work works[] = {
     {"child", our_value_start, our_child, 1000, true},
     {"lookup", our_value_start, our_lookup, 1000, true},
     {"walk", our_walk_start, our_walk, TEXTS, true},
+    {"each", our_walk_start, our_each, TEXTS, true},
     {"print", our_value_start, our_print, 1000, false},
     {"parse", our_text_start, our_parse, 1000, false},
     {"iterate", our_start, our_iterate, 1, false},
@@ -413,7 +423,7 @@ static void measure(const Work *work) {
     work->call();
     bool first = answer;
     growths = 0;
-    int calls = work->call == our_walk ? 1 : work->times; /* which goes through all children */
+    int calls = work->call == our_walk || work->call == our_each ? 1 : work->times; /* which go through all children */
     CALLGRIND_TOGGLE_COLLECT;
     for (int i = 0; i < calls; i++)
         work->call();

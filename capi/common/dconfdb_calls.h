@@ -64,10 +64,10 @@ typedef struct {
     DconfdbBytes value, type_text;
 } DconfdbPart;
 
-/* The same, with the origin that is handed in. */
+/* The same, with the origin that is handed in, and how many of its own first children are known to be in order: none. */
 typedef struct {
     DconfdbBytes value, type_text;
-    size_t origin;
+    size_t origin, passed;
 } DconfdbChild;
 
 /* A database of a profile; the name is lent from the profile's text. */
@@ -202,21 +202,22 @@ uint32_t dconfdb_parse_value(const uint8_t *text, size_t text_len, uint8_t *room
  * said as follows; then `bits` or `found` stays as it was.
  *
  * The number, if the type is the one of this letter: of `b` 0 or 1, else the bits; `i` asks for an `h`
- * too. The text of an `s`, `o` or `g`, without a zero byte. The child at an index. The value of the first
- * entry with this key in an `a{sT}` or an `a{oT}`. */
+ * too. The text of an `s`, `o` or `g`, without a zero byte. The child at an index; `passed` is 0, or what an
+ * earlier call left there for the same type and bytes. The value of the first entry with this key in an
+ * `a{sT}` or an `a{oT}`. */
 bool dconfdb_number_in(const uint8_t *type_text, size_t type_text_len, const uint8_t *value, size_t value_len, uint8_t letter,
                        uint64_t *bits);
 bool dconfdb_text_in(const uint8_t *type_text, size_t type_text_len, const uint8_t *value, size_t value_len, DconfdbBytes *found);
 bool dconfdb_child_at(const uint8_t *type_text, size_t type_text_len, const uint8_t *value, size_t value_len, size_t index,
-                      DconfdbPart *found);
+                      size_t *passed, DconfdbPart *found);
 bool dconfdb_look_up(const uint8_t *type_text, size_t type_text_len, const uint8_t *value, size_t value_len, const uint8_t *key,
                      size_t key_len, DconfdbPart *found);
 
 /* How many children it has; 0 where the text spells no type. */
 size_t dconfdb_count_children(const uint8_t *type_text, size_t type_text_len, const uint8_t *value, size_t value_len);
 
-/* Puts the children into the room, in order, as many as it takes, each with that origin, and gives how many there are. What is
- * behind them stays. Each costs the same: those before a child are not gone through for it, as dconfdb_child_at does. */
+/* Puts the children into the room, in order, as many as it takes, each with that origin and none of its own passed, and gives how
+ * many there are. What is behind them stays. */
 size_t dconfdb_put_children(const uint8_t *type_text, size_t type_text_len, const uint8_t *value, size_t value_len, size_t origin,
                             DconfdbChild *room, size_t room_len);
 

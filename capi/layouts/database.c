@@ -7,7 +7,8 @@
 uint32_t dconfdb_open(const uint8_t *file, size_t len, bool is_there, void *layer, void *unsound);
 bool dconfdb_read(const void *layers, size_t n, const uint8_t *path, size_t path_len, void *found);
 bool dconfdb_fault_text(uint32_t number, void *text);
-bool dconfdb_child_at(const uint8_t *type_text, size_t type_text_len, const uint8_t *value, size_t value_len, size_t index, void *found);
+bool dconfdb_child_at(const uint8_t *type_text, size_t type_text_len, const uint8_t *value, size_t value_len, size_t index, size_t *passed,
+                      void *found);
 size_t dconfdb_put_children(const uint8_t *type_text, size_t type_text_len, const uint8_t *value, size_t value_len, size_t origin, void *room,
                             size_t room_len);
 uint32_t dconfdb_profile(const uint8_t *text, size_t len, void *room, size_t room_len, size_t *names, size_t *line);
@@ -157,7 +158,8 @@ static size_t finds_found(size_t layer_size)
 static void finds_part(void)
 {
     Written room = room_of("DconfdbPart");
-    is_so(dconfdb_child_at(file + TYPE, TYPE_LEN, file + VALUE, VALUE_LEN, 0, room.bytes), "dconfdb_child_at");
+    size_t passed = 0;
+    is_so(dconfdb_child_at(file + TYPE, TYPE_LEN, file + VALUE, VALUE_LEN, 0, &passed, room.bytes), "dconfdb_child_at");
     finds_lent(&room, "type_text", file + TYPE + 1, TYPE_LEN - 1);
     finds_lent(&room, "value", file + VALUE, VALUE_LEN - 1);
     ends(&room);
@@ -175,6 +177,7 @@ static void finds_child(void)
     lends(lent, texts + 4, 5);
     size_t value = finds_lent(&one, "value", texts, 4), size = place_of(&two, 0, ROOM, lent, LENT) - value;
     finds_word(&one, "origin", 77);
+    finds_word(&one, "passed", 0);
     is_so(ends(&one) == size, "DconfdbChild");
 }
 

@@ -48,9 +48,9 @@
  * store is closed, and after the files are replaced or removed.
  *
  * THREADS. Any thread may call anything at any time, on the same store, too. Nothing here starts a
- * thread. An iterator is for one thread at a time. A store must not be closed while another thread
- * uses it. After fork() a child may read and drop snapshots; it must open a store of its own before it
- * does anything else. fork() waits for no file. No call is a cancellation point: a thread that is
+ * thread. An iterator is for one thread at a time, and so is a value whose children are asked for by their
+ * index. A store must not be closed while another thread uses it. After fork() a child may read and drop
+ * snapshots; it must open a store of its own before it does anything else. fork() waits for no file. No call is a cancellation point: a thread that is
  * cancelled in a call ends after it, even if the call waits. No call may be made in a signal handler,
  * or be left by longjmp(): the thread's next call would write to a stack that is gone.
  *
@@ -83,8 +83,9 @@
  * amid an overwriting in place reads what is there by then, old bytes and new ones.
  *
  * A CALLER'S DUTIES. Nothing checks them. Pointers point to live objects, and are NULL only if
- * this header allows it. A struct that has a `size` is made by its initialiser. Texts end in a zero byte. No other thread changes memory that is passed to a
- * call while the call runs. Lent memory is not written, and not used after the snapshot's last
+ * this header allows it. A struct that has a `size` is made by its initialiser. A value's `passed` is 0, or
+ * what the library put there for the same bytes and type: else a child may have bytes where it is empty.
+ * Texts end in a zero byte. No other thread changes memory that is passed to a call while the call runs. Lent memory is not written, and not used after the snapshot's last
  * reference is dropped; the library stays loaded as long as it is used. Each reference is dropped
  * once. What the caller has to free is freed once, with free().
  *
@@ -297,13 +298,15 @@ DCONFDB_API bool dconfdb_snapshot_is_newest(const DconfdbSnapshot *snapshot) DCO
 
 /* ---- dconfdb_snapshot_read: values, and what is locked */
 
-/* A value, lent from a snapshot. */
+/* A value, lent from a snapshot. One that the program makes itself has 0 as its `passed`, and has 0 there again
+ * when its bytes or its type become others. */
 typedef struct DconfdbValue {
     const void *data; /* the bytes of a little-endian GVariant; never NULL */
     size_t size;      /* how many bytes they are */
     const char *type; /* GVariant's type text, without a zero byte after it */
     size_t type_size; /* how many bytes the type text has */
     size_t origin;    /* the index of the database that has it */
+    size_t passed;    /* how far dconfdb_value_child came: so many of its first children are known to be in order */
 } DconfdbValue;
 
 /* The effective value of a key: that of the first database that has one, unless a later one locks
@@ -364,11 +367,12 @@ DCONFDB_API bool dconfdb_value_get_variant(const DconfdbValue *value, DconfdbVal
 
 /* The elements of an array, the members of a tuple, the key and the value of an entry, what a variant
  * holds, and the value of a maybe that has one: how many there are, and the one at an index. Elements of a
- * fixed size, such as numbers, are found at once. For any other child those before it are gone through,
- * since one that is out of place makes all behind it empty: so a loop over all indices takes time with the
- * square of their number. dconfdb_value_children takes time with their number. */
+ * fixed size, such as numbers, are found at once. Of other elements one that is out of place makes all behind
+ * it empty, so those before a child are gone through, each of them once: the value keeps how far that came, in
+ * `passed`. A loop over all indices takes time with their number; the members of a tuple are found along the
+ * type's text. Two threads have a copy of the value each. */
 DCONFDB_API size_t dconfdb_value_n_children(const DconfdbValue *value) DCONFDB_NOEXCEPT DCONFDB_NONNULL((1));
-DCONFDB_API bool dconfdb_value_child(const DconfdbValue *value, size_t index, DconfdbValue *child)
+DCONFDB_API bool dconfdb_value_child(DconfdbValue *value, size_t index, DconfdbValue *child)
     DCONFDB_NOEXCEPT DCONFDB_NONNULL((1, 3));
 
 /* All children at once, in order: puts as many of them into `children` as there is room for, and gives how many

@@ -121,8 +121,8 @@ _Static_assert(offsetof(DconfdbValue, data) == offsetof(DconfdbFound, value.at)
                    && offsetof(DconfdbValue, type) == offsetof(DconfdbFound, type_text.at)
                    && offsetof(DconfdbValue, type_size) == offsetof(DconfdbFound, type_text.len)
                    && offsetof(DconfdbValue, origin) == offsetof(DconfdbFound, origin)
-                   && sizeof(DconfdbValue) == sizeof(DconfdbFound),
-               "a value is what the proved calls find, so that they fill it in place");
+                   && offsetof(DconfdbValue, passed) == sizeof(DconfdbFound),
+               "a value begins with what the proved calls find, so that they fill it in place");
 
 /* Where a call puts what it finds. It holds nothing before, so that it is valid. Two copies take fewer instructions than a store
  * for each field. */
@@ -131,7 +131,7 @@ static DconfdbFound *room_in(DconfdbValue *value)
     static const DconfdbBytes nothing = DCONFDB_NOTHING;
     memcpy(value, &nothing, sizeof nothing);
     memcpy((char *)value + offsetof(DconfdbValue, type), &nothing, sizeof nothing);
-    value->origin = 0;
+    value->origin = value->passed = 0;
     return (DconfdbFound *)value;
 }
 

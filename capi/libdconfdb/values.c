@@ -68,7 +68,7 @@ static bool part_of(const DconfdbValue *value, bool is_found, const DconfdbPart 
     if (!is_found)
         return false;
     size_t origin = value->origin; /* `out` may be `value` */
-    *out = (DconfdbValue){part->value.at, part->value.len, (const char *)part->type_text.at, part->type_text.len, origin};
+    *out = (DconfdbValue){part->value.at, part->value.len, (const char *)part->type_text.at, part->type_text.len, origin, 0};
     return true;
 }
 
@@ -77,10 +77,12 @@ size_t dconfdb_value_n_children(const DconfdbValue *value)
     return dconfdb_count_children((const uint8_t *)value->type, value->type_size, value->data, value->size);
 }
 
-bool dconfdb_value_child(const DconfdbValue *value, size_t index, DconfdbValue *child)
+bool dconfdb_value_child(DconfdbValue *value, size_t index, DconfdbValue *child)
 {
     DconfdbPart part;
-    bool is_found = dconfdb_child_at((const uint8_t *)value->type, value->type_size, value->data, value->size, index, &part);
+    size_t passed = value->passed;
+    bool is_found = dconfdb_child_at((const uint8_t *)value->type, value->type_size, value->data, value->size, index, &passed, &part);
+    value->passed = passed;
     return part_of(value, is_found, &part, child);
 }
 
@@ -89,6 +91,7 @@ _Static_assert(offsetof(DconfdbValue, data) == offsetof(DconfdbChild, value.at)
                    && offsetof(DconfdbValue, type) == offsetof(DconfdbChild, type_text.at)
                    && offsetof(DconfdbValue, type_size) == offsetof(DconfdbChild, type_text.len)
                    && offsetof(DconfdbValue, origin) == offsetof(DconfdbChild, origin)
+                   && offsetof(DconfdbValue, passed) == offsetof(DconfdbChild, passed)
                    && sizeof(DconfdbValue) == sizeof(DconfdbChild),
                "a value is what the proved call puts, so that it puts all in place");
 
@@ -100,7 +103,8 @@ size_t dconfdb_value_children(const DconfdbValue *value, DconfdbValue *children,
 
 bool dconfdb_value_get_variant(const DconfdbValue *value, DconfdbValue *child)
 {
-    return value->type_size == 1 && value->type[0] == 'v' && dconfdb_value_child(value, 0, child);
+    DconfdbValue whole = *value;
+    return value->type_size == 1 && value->type[0] == 'v' && dconfdb_value_child(&whole, 0, child);
 }
 
 bool dconfdb_value_lookup(const DconfdbValue *value, const char *key, DconfdbValue *child)
@@ -141,7 +145,7 @@ bool dconfdb_value_parse(const char *text, DconfdbValue *value, DconfdbError *er
         number = dconfdb_parse_value((const uint8_t *)text, text_len, room, room_len, &len, &size, &start, &end);
         if (number == DCONFDB_OK && len <= room_len) {
             room[len] = 0;
-            *value = (DconfdbValue){room, size, (const char *)room + size, len - size, 0};
+            *value = (DconfdbValue){room, size, (const char *)room + size, len - size, 0, 0};
             return true;
         }
         free(room);

@@ -279,6 +279,34 @@ static void cut_off(void)
     printf("%.4s\n", (const char *)value.data);
 }
 
+/* Three texts; of the others the first is out of order, so that each is empty. */
+static void walked_with_anothers_place(void)
+{
+    DconfdbValue list = {"one\0two\0six\0\4\10\14", 15, "as", 2, 0, 0}, others = {"one\0two\0six\0\15\10\14", 15, "as", 2, 0, 0}, child;
+    TRY(dconfdb_value_child(&list, 2, &child) && is_text(&child, "six"));
+    TRY(dconfdb_value_child(&others, 2, &child) && child.size == 0);
+    list.data = others.data;
+    TRY(dconfdb_value_child(&list, 2, &child) && is_text(&child, "six"));
+}
+
+static DconfdbValue shared_list = {"one\0two\0\4\10", 10, "as", 2, 0, 0};
+
+static void *walks_shared(void *unused)
+{
+    DconfdbValue child;
+    for (int i = 0; i < TIMES; i++, usleep(APART))
+        dconfdb_value_child(&shared_list, (size_t)(i % 2), &child);
+    return unused;
+}
+
+static void walked_by_two(void)
+{
+    pthread_t other;
+    TRY(pthread_create(&other, NULL, walks_shared, NULL) == 0);
+    walks_shared(NULL);
+    TRY(pthread_join(other, NULL) == 0);
+}
+
 static void written_over(void)
 {
     char zeros[4096] = {0};
@@ -313,6 +341,8 @@ static const struct {
     {"left_by_a_jump", "hang", left_by_a_jump},
     {"cut_off", "7", cut_off},
     {"written_over", "wrong", written_over},
+    {"walked_with_anothers_place", "wrong", walked_with_anothers_place},
+    {"walked_by_two", "race", walked_by_two},
 };
 
 int main(int argc, char **argv)

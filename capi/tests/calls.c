@@ -71,7 +71,7 @@ static bool has_keys(const DconfdbSnapshot *snapshot, const char *directory, con
 {
     char found[256] = "";
     const char *path = "none";
-    DconfdbValue value = {"", 7, "", 0, 0}, read;
+    DconfdbValue value = {"", 7, "", 0, 0, 0}, read;
     DconfdbIterator *iterator = dconfdb_snapshot_iterate(snapshot, directory, &error);
     TRY(iterator);
     while (dconfdb_iterator_next(iterator, &path, &value)) {

@@ -21,7 +21,7 @@ static bool is_value(const char *text, const char *type, const char *bytes, size
 /* Whether a text is refused for this, in these words, and the value stays as it was. */
 static bool is_refused(const char *text, DconfdbErrorCode code, const char *words)
 {
-    DconfdbValue value = {"x", 1, "y", 1, 77};
+    DconfdbValue value = {"x", 1, "y", 1, 77, 0};
     bool is = !dconfdb_value_parse(text, &value, NULL) && !dconfdb_value_parse(text, &value, &error) && error.code == code
         && strstr(error.text, words) && error.outcome == DCONFDB_OUTCOME_KEPT && error.edit == 0 && error.line == 0 && value.size == 1
         && value.origin == 77;
@@ -111,7 +111,7 @@ static void tries_deepest(DconfdbStore *store)
 static void tries_nothing(const char *folder)
 {
     DconfdbStore *store = dconfdb_store_open(folder, &error);
-    DconfdbValue none = {"", 0, "", 0, 0};
+    DconfdbValue none = {"", 0, "", 0, 0, 0};
     DconfdbEdit removes = {"no path", NULL, NULL, 0}, sets = {"no path", "s", "", 1};
     TRY(store && !dconfdb_value_print(&none, &error) && error.code == DCONFDB_ERROR_BAD_TYPE);
     DconfdbSnapshot *now = dconfdb_store_snapshot(store);

@@ -120,18 +120,33 @@ static bool are_same(const DconfdbValue *one, const DconfdbValue *other)
         && memcmp(one->data, other->data, one->size) == 0 && memcmp(one->type, other->type, one->type_size) == 0;
 }
 
+/* Whatever was asked for before of the same value, the child at an index is the one: here in an order that goes up and down. */
+static void takes_each(DconfdbValue value, const DconfdbValue *all, size_t count)
+{
+    DconfdbValue child;
+    uint32_t random = 1;
+    for (size_t i = 0; i < 3 * count; i++) {
+        random = random * 1103515245 + 12345;
+        size_t at = (random >> 8) % (count + 2);
+        if (dconfdb_value_child(&value, at, &child) != (at < count) || (at < count && !are_same(&child, &all[at])))
+            exit(1);
+    }
+}
+
 /* All children at once are those at the indices, and a short room has the first of them. */
 static void takes_children(const DconfdbValue *value)
 {
+    DconfdbValue whole = *value;
     size_t count = dconfdb_value_n_children(value), half = count / 2;
-    DconfdbValue *all = calloc(count + 1, sizeof *all), *some = calloc(count + 1, sizeof *some), child, untouched = {NULL, 0, NULL, 0, 0};
+    DconfdbValue *all = calloc(count + 1, sizeof *all), *some = calloc(count + 1, sizeof *some), child, untouched = {NULL, 0, NULL, 0, 0, 0};
     if (!all || !some || dconfdb_value_children(value, all, count + 1) != count || dconfdb_value_children(value, some, half) != count)
         exit(1);
     for (size_t i = 0; i < count; i++)
-        if (!dconfdb_value_child(value, i, &child) || !are_same(&child, &all[i]) || (i < half && !are_same(&child, &some[i])))
+        if (!dconfdb_value_child(&whole, i, &child) || !are_same(&child, &all[i]) || (i < half && !are_same(&child, &some[i])))
             exit(1);
     if (memcmp(&all[count], &untouched, sizeof untouched) != 0 || memcmp(&some[half], &untouched, sizeof untouched) != 0)
         exit(1);
+    takes_each(*value, all, count);
     free(all);
     free(some);
 }
@@ -176,7 +191,7 @@ static void prints_bytes(const char *type, const uint8_t *data, size_t size)
     void *copy = malloc(size + 1), *text = malloc(strlen(type) + 1);
     if (!copy || !text)
         exit(1);
-    DconfdbValue value = {memcpy(copy, data, size), size, memcpy(text, type, strlen(type)), strlen(type), 0};
+    DconfdbValue value = {memcpy(copy, data, size), size, memcpy(text, type, strlen(type)), strlen(type), 0, 0};
     prints(value);
     free(copy);
     free(text);

@@ -19,7 +19,7 @@ static uint8_t *texts(size_t count, DconfdbValue *list)
         for (size_t j = 0; j < WIDTH; j++)
             bytes[2 * count + WIDTH * i + j] = (uint8_t)((2 * i + 2) >> 8 * j);
     }
-    *list = (DconfdbValue){bytes, count * (2 + WIDTH), "as", 2, 7};
+    *list = (DconfdbValue){bytes, count * (2 + WIDTH), "as", 2, 7, 0};
     return bytes;
 }
 
@@ -29,11 +29,37 @@ static void takes_children(size_t size)
     DconfdbValue list, *children = malloc((count + 1) * sizeof *children);
     uint8_t *bytes = texts(count, &list);
     TRY(children);
-    children[count] = (DconfdbValue){NULL, 1, NULL, 1, 1};
+    children[count] = (DconfdbValue){NULL, 1, NULL, 1, 1, 1};
     TRY(dconfdb_value_children(&list, children, count + 1) == count && !children[count].data && children[count].size == 1);
     for (size_t i = 0; i < count; i++)
         TRY(is_text(&children[i], "x") && children[i].data == bytes + 2 * i && children[i].origin == 7);
     free(children);
+    free(bytes);
+}
+
+/* The same, one by one: forwards, and backwards. */
+static void takes_each(size_t size)
+{
+    size_t count = 2 * size;
+    DconfdbValue list, child;
+    uint8_t *bytes = texts(count, &list);
+    for (size_t i = 0; i < count; i++)
+        TRY(dconfdb_value_child(&list, i, &child) && child.data == bytes + 2 * i);
+    TRY(!dconfdb_value_child(&list, count, &child));
+    for (size_t i = count; i > 0; i--)
+        TRY(dconfdb_value_child(&list, i - 1, &child) && child.data == bytes + 2 * (i - 1));
+    free(bytes);
+}
+
+/* Behind a text that is out of order, in the middle, each is empty. */
+static void takes_none(size_t size)
+{
+    size_t count = 2 * size;
+    DconfdbValue list, child;
+    uint8_t *bytes = texts(count, &list);
+    memset(bytes + 2 * count + 4 * (count / 2), 0, 4);
+    for (size_t i = 0; i < count; i++)
+        TRY(dconfdb_value_child(&list, i, &child) && child.size == (i < count / 2 ? 2 : 0));
     free(bytes);
 }
 
@@ -96,9 +122,11 @@ int main(int argc, char **argv)
     TRY(argc == 2);
     store = dconfdb_store_open(argv[1], &error);
     TRY(store);
-    double children = growth(takes_children, NULL), deep = growth(iterates, sets_deep);
-    printf("%d texts and a key %d deep; four times as many take %.1f and %.1f times as long\n", 2 * MOST, MOST, children, deep);
-    TRY(children < GROWTH && deep < GROWTH);
+    double children = growth(takes_children, NULL), each = growth(takes_each, NULL), none = growth(takes_none, NULL);
+    double deep = growth(iterates, sets_deep);
+    printf("%d texts at once, one by one, with one out of order, and a key %d deep; four times as many take %.1f, %.1f, %.1f and %.1f times as long\n",
+           2 * MOST, MOST, children, each, none, deep);
+    TRY(children < GROWTH && each < GROWTH && none < GROWTH && deep < GROWTH);
     dconfdb_store_close(store);
     return 0;
 }

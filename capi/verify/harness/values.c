@@ -39,9 +39,11 @@ static bool some_part(DconfdbPart *found, const uint8_t *type, const uint8_t *va
     return is;
 }
 
-bool dconfdb_child_at(const uint8_t *type, size_t type_len, const uint8_t *value, size_t len, size_t index, DconfdbPart *found)
+bool dconfdb_child_at(const uint8_t *type, size_t type_len, const uint8_t *value, size_t len, size_t index, size_t *passed, DconfdbPart *found)
 {
     (void)index;
+    CHECK(__CPROVER_w_ok(passed, sizeof *passed), "memory: how far a walk came");
+    *passed = any_size();
     are_lent(type, type_len, value, len);
     return some_part(found, type, value);
 }
@@ -144,7 +146,7 @@ int value_parse(void)
 /* harness value_parts: unwind 7 */
 int value_parts(void)
 {
-    DconfdbValue value = {data, any_size(), "v", 1, any_size()}, child = {NULL, 0, NULL, 0, 0}, children[2];
+    DconfdbValue value = {data, any_size(), "v", 1, any_size(), any_size()}, child = {NULL, 0, NULL, 0, 0, 0}, children[2];
     size_t length = 0;
     int32_t number = 7;
     GIVEN(value.size <= sizeof data);

@@ -8,8 +8,8 @@ ghost use Rattle.dconfdb_values.specs.Listing.{ArePut};
 
 use dconfdb_values::{DconfdbChild, put_children};
 
-/// Puts the children of a value into the room, in order, as many as it takes, lent from the value's bytes, and
-/// each with the origin that is given; what is behind them stays. It says how many children there are: 0 if the
+/// Puts the children of a value into the room, in order, as many as it takes, lent from the value's bytes,
+/// each with the origin that is given and with none of its own children passed; what is behind them stays. It says how many children there are: 0 if the
 /// text spells no type.
 #[unsafe(no_mangle)]
 pub extern "C" fn dconfdb_put_children<'a>(

@@ -1,9 +1,10 @@
 //! What is in a value: its number, its text, its children.
-ghost use Rattle.std.specs.Prelude.{◌≡◌, ◌↔◌, IsTrue, IsUtf8, None, Some, false};
+ghost use Rattle.std.specs.Prelude.{◌≡◌, ◌↔◌, ◌≤◌, IsTrue, IsUtf8, None, Some, false};
 ghost use Rattle.gv_model.specs.Decode.{decode};
 ghost use Rattle.gv_model.specs.Tree.{children, tree_at, trees_len};
 ghost use Rattle.gv_model.specs.TypeText.{type_at};
 ghost use Rattle.dconfdb_values.specs.Numbers.{IsNumber, IsNumberType};
+ghost use Rattle.dconfdb_values.specs.Order.{ArePassed};
 ghost use Rattle.dconfdb_values.specs.Parts.{IsFound, IsLentChild, part_value};
 ghost use Rattle.dconfdb_values.specs.Texts.{IsText, IsTextType};
 
@@ -64,19 +65,26 @@ pub extern "C" fn dconfdb_count_children(type_text: &[u8], value: &[u8]) -> usiz
 
 /// The child at the index, lent from the value's bytes. False where there are no more; then `found`
 /// stays as it was.
+///
+/// `passed` is 0, or what an earlier call left there of the same bytes: how many of the first children are
+/// known to be in order, so that they are not looked at again.
 #[unsafe(no_mangle)]
 pub extern "C" fn dconfdb_child_at<'a>(
     type_text: &'a [u8],
     value: &'a [u8],
     index: usize,
+    passed: &mut usize,
     found: &mut DconfdbPart<'a>,
 ) -> bool
+    requires order { ArePassed (type_at type_text.now) value.now passed.now }
     ensures value { IsTrue result → tree_at (children (decode (type_at type_text.entry.now) value.entry.now)) index ≡ Some (part_value found.new) }
     ensures lent { IsTrue result → IsLentChild type_text.entry.now value.entry.now index found.new }
     ensures none { result ≡ false → tree_at (children (decode (type_at type_text.entry.now) value.entry.now)) index ≡ None }
     ensures kept { result ≡ false → found.new ≡ found.old }
+    ensures order { ArePassed (type_at type_text.entry.now) value.entry.now passed.new }
+    ensures onward { passed.old ≤ passed.new }
 {
-    match child(type_text, value, index) {
+    match child(type_text, value, index, passed) {
         Some(part) => {
             *found = part;
             true

@@ -4,3 +4,5 @@ pub mod WrittenLaws
 pub mod NumberLaws
 pub mod PathEntries
 pub mod ListingLaws
+pub mod OrderLaws
+pub mod OpenArrayLaws

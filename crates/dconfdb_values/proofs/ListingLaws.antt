@@ -16,25 +16,25 @@ use Rattle.dconfdb_values.specs.Listing.{ArePut, told_child}
 use Rattle.dconfdb_values.specs.declared.listing.DconfdbChild.{DconfdbChild}
 
 -- a part, with the index of its whole
-abbrev told : ℕ → Part → ℕ × Part
-told o p = (o, p)
+abbrev told : ℕ → Part → ℕ × (ℕ × Part)
+told o p = (o, (0, p))
 
 -- the first i are put
 pub record IsFilled (o : ℕ) (all : List Part) (old new : List DconfdbChild) (i : ℕ) (left : List Part) : Type 0 where
-  pub put : map told_child (take i new) ≡ take i (map (λ p. (o, p)) all)
+  pub put : map told_child (take i new) ≡ take i (map (λ p. (o, (0, p))) all)
   pub rest : drop i new ≡ drop i old
   pub left_is : left ≡ drop i all
 
 drop_next : {X : Type 0} (xs ys : List X) (x : X) (i : ℕ) → drop i xs ≡ x ∷ ys → ys ≡ drop (i + 1) xs
 drop_next xs ys x i e = ap (drop 1) (sym e) ∙ drop-drop 1 i xs
 
-told_next : (o : ℕ) (xs ys : List Part) (x : Part) (i : ℕ) → drop i xs ≡ x ∷ ys → take (suc i) (map (told o) xs) ≡ take i (map (told o) xs) ++ (o, x) ∷ []
+told_next : (o : ℕ) (xs ys : List Part) (x : Part) (i : ℕ) → drop i xs ≡ x ∷ ys → take (suc i) (map (told o) xs) ≡ take i (map (told o) xs) ++ (o, (0, x)) ∷ []
 told_next o [] ys x i e = absurd (nil_no_cons (sym (drop-nil i) ∙ e))
 told_next o (z ∷ xs) ys x zero e = cc
-told_next o (z ∷ xs) ys x (suc i) e = ap (λ zs. (o, z) ∷ zs) (told_next o xs ys x i e)
+told_next o (z ∷ xs) ys x (suc i) e = ap (λ zs. (o, (0, z)) ∷ zs) (told_next o xs ys x i e)
 
 pub filled_next : (o : ℕ) (all : List Part) (old new : List DconfdbChild) (i : ℕ) (left more : List Part) (x : Part) (c : DconfdbChild)
-    → IsFilled o all old new i left → left ≡ x ∷ more → told_child c ≡ (o, x) → i < length new
+    → IsFilled o all old new i left → left ≡ x ∷ more → told_child c ≡ (o, (0, x)) → i < length new
     → IsFilled o all old (slice_set new i c) (i + 1) more
 filled_next o all old new i left more x c h e is room =
     let at : drop i all ≡ x ∷ more = sym h.left_is ∙ e in

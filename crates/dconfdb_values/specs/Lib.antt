@@ -3,3 +3,5 @@ pub mod Texts
 pub mod Parts
 pub mod Parsed
 pub mod Listing
+pub mod Order
+pub mod OpenArrays

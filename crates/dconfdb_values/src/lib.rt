@@ -9,7 +9,7 @@
 //!
 //! ```
 //! let size = number(b"i", &[7, 0, 0, 0], b'i')?;
-//! let second = child(b"as", b"one\0two\0\x04\x08", 1)?;
+//! let second = child(b"as", b"one\0two\0\x04\x08", 1, &mut 0)?;
 //! Some(size == 7 && text(second.type_text, second.value)? == "two")
 //! ```
 #![tactic(auto)]
@@ -17,6 +17,7 @@
 mod entries;
 mod listing;
 mod numbers;
+mod open_array;
 mod parsing;
 mod parts;
 mod texts;

@@ -12,15 +12,16 @@ use crate::parts::n_children;
 use crate::typed::view_of;
 use gv_view::{Children, View};
 
-/// A child: its bytes and the text of its type, both lent from where it was found or the library's own, and
-/// the index that was handed in with the whole. libdconfdb's own value has this layout, so that it is put in
-/// place.
+/// A child: its bytes and the text of its type, both lent from where it was found or the library's own, the
+/// index that was handed in with the whole, and how many of its own first children are known to be in order,
+/// which is none. libdconfdb's own value has this layout, so that it is put in place.
 #[repr(C)]
 #[derive(Clone, Copy)]
 pub struct DconfdbChild<'a> {
     pub value: &'a [u8],
     pub type_text: &'a [u8],
     pub origin: usize,
+    pub passed: usize,
 }
 
 /// Puts the children of the value that the bytes are at the type that the text spells into the room, in
@@ -58,11 +59,12 @@ fn fill<'a>(children: Children<'a>, origin: usize, room: &mut [DconfdbChild<'a>]
 
 /// What a view shows, as C takes it.
 fn child_of<'a>(view: View<'a>, origin: usize) -> DconfdbChild<'a>
-    ensures { told_child result ≡ (origin, shown view.entry) }
+    ensures { told_child result ≡ (origin, (0, shown view.entry)) }
 {
     DconfdbChild {
         value: view.bytes(),
         type_text: view.type_str().as_str().as_bytes(),
         origin,
+        passed: 0,
     }
 }

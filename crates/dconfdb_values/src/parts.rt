@@ -1,13 +1,15 @@
 //! The children of a container.
-ghost use Rattle.std.specs.Prelude.{◌≡◌, IfSome, option_map};
+ghost use Rattle.std.specs.Prelude.{◌≡◌, ◌≤◌, IfSome, option_map};
 ghost use Rattle.gv_model.specs.Tree.{children, tree_at, trees_len};
 ghost use Rattle.gv_model.specs.TypeText.{type_at};
 ghost use Rattle.gv_model.specs.Decode.{decode};
 ghost use Rattle.gv_model.specs.Ty.{spelling};
 ghost use Rattle.gv_view.specs.Views.{shown, value, view_bytes, view_ty};
+ghost use Rattle.dconfdb_values.specs.Order.{ArePassed};
 ghost use Rattle.dconfdb_values.specs.Parts.{IsFound, IsLentChild, part_value, shown_part};
 
 use crate::entries::{entry_at_path, has_paths};
+use crate::open_array::OpenArray;
 use crate::typed::view_of;
 use gv_view::View;
 
@@ -36,13 +38,30 @@ pub fn n_children(type_text: &[u8], bytes: &[u8]) -> usize
 
 /// The child at the index, from 0. None where there are no more.
 ///
-/// It looks at the type's text and at the child's framing offsets.
-pub fn child<'a>(type_text: &'a [u8], bytes: &'a [u8], index: usize) -> Option<DconfdbPart<'a>>
+/// `passed` says how many of the first children are known to be in order, and is 0 before any call: a call
+/// leaves there what the next one may begin with. So a walk over the indices in order looks at each framing
+/// offset once: a child after the last one that was passed costs those between the two, any other as much as
+/// the first. A member is found along the type's text.
+pub fn child<'a>(
+    type_text: &'a [u8],
+    bytes: &'a [u8],
+    index: usize,
+    passed: &mut usize,
+) -> Option<DconfdbPart<'a>>
+    requires order { ArePassed (type_at type_text.now) bytes.now passed.now }
     ensures value { option_map part_value result ≡ tree_at (children (decode (type_at type_text.entry.now) bytes.entry.now)) index }
     ensures lent { IfSome result (IsLentChild type_text.entry.now bytes.entry.now index) }
+    ensures order { ArePassed (type_at type_text.entry.now) bytes.entry.now passed.new }
+    ensures onward { passed.old ≤ passed.new }
 {
-    let found = view_of(type_text, bytes)?.child(index)?;
-    Some(part_of(found))
+    let view = view_of(type_text, bytes)?;
+    let Some(array) = OpenArray::of(view) else {
+        return Some(part_of(view.child(index)?));
+    };
+    let reached = array.reach(index, *passed)?;
+    *passed = reached.passed;
+    let element = View::new(array.element, &view.bytes()[reached.from..reached.to]);
+    Some(part_of(element))
 }
 
 /// The value of the first entry with this key in a dictionary of strings, `a{sT}`, or of object paths,

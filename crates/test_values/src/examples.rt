@@ -61,7 +61,7 @@ fn of_gv_infer(alloc: Global) -> Result<bool, Fail> {
 
 fn of_dconfdb_values() -> Option<bool> {
     let size = number(b"i", &[7, 0, 0, 0], b'i')?;
-    let second = child(b"as", b"one\0two\0\x04\x08", 1)?;
+    let second = child(b"as", b"one\0two\0\x04\x08", 1, &mut 0)?;
     Some(size == 7 && text(second.type_text, second.value)? == "two")
 }
 
