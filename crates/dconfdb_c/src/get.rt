@@ -66,8 +66,8 @@ pub extern "C" fn dconfdb_count_children(type_text: &[u8], value: &[u8]) -> usiz
 /// The child at the index, lent from the value's bytes. False where there are no more; then `found`
 /// stays as it was.
 ///
-/// `passed` is 0, or what an earlier call left there of the same bytes: how many of the first children are
-/// known to be in order, so that they are not looked at again.
+/// `passed` is 0, which is right of all bytes, or what an earlier call left there of the same bytes: how many of
+/// the first children are known to be in order, so that they are not looked at again.
 #[unsafe(no_mangle)]
 pub extern "C" fn dconfdb_child_at<'a>(
     type_text: &'a [u8],

@@ -38,10 +38,10 @@ pub fn n_children(type_text: &[u8], bytes: &[u8]) -> usize
 
 /// The child at the index, from 0. None where there are no more.
 ///
-/// `passed` says how many of the first children are known to be in order, and is 0 before any call: a call
-/// leaves there what the next one may begin with. So a walk over the indices in order looks at each framing
-/// offset once: a child after the last one that was passed costs those between the two, any other as much as
-/// the first. A member is found along the type's text.
+/// `passed` says how many of the first children are known to be in order. Before any call it is 0, which is so
+/// of all bytes; a call leaves there what the next one of the same bytes may begin with. So a walk over the
+/// indices looks at each framing offset once, forwards, backwards or in any other order. A member is found along
+/// the type's text.
 pub fn child<'a>(
     type_text: &'a [u8],
     bytes: &'a [u8],
