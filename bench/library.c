@@ -261,6 +261,7 @@ static GVariant *(*g_variant_get_child_value)(GVariant *variant, size_t index);
 static GVariant *(*g_variant_lookup_value)(GVariant *variant, const char *key, const void *type);
 static char *(*g_variant_print)(GVariant *variant, int annotate);
 static GVariant *(*g_variant_parse)(const void *type, const char *text, const char *limit, const char **end, void **error);
+static GVariant *(*g_variant_new_from_data)(const void *type, const void *data, size_t size, int trusted, void (*frees)(void *), void *of);
 static void (*g_free)(void *memory);
 
 static DConfClient *client;
@@ -287,6 +288,7 @@ static void their_start(void) {
         {"g_variant_lookup_value", &g_variant_lookup_value},
         {"g_variant_print", &g_variant_print},
         {"g_variant_parse", &g_variant_parse},
+        {"g_variant_new_from_data", &g_variant_new_from_data},
         {"g_free", &g_free},
     };
     for (size_t i = 0; i < sizeof calls / sizeof calls[0]; i++) {
@@ -324,6 +326,23 @@ static void their_child(void) {
     GVariant *child = g_variant_get_child_value(variant, 5);
     answer = child;
     g_variant_unref(child);
+}
+
+static void their_walk_start(void) {
+    their_start();
+    our_walk_start();
+}
+
+/* The same of a value that GLib has not looked at yet. */
+static void their_each(void) {
+    GVariant *list = g_variant_new_from_data("as", many_texts.data, many_texts.size, 0, NULL, NULL);
+    answer = true;
+    for (size_t i = 0; i < TEXTS; i++) {
+        GVariant *child = g_variant_get_child_value(list, i);
+        answer = child && g_variant_get_size(child) == 1 && answer;
+        g_variant_unref(child);
+    }
+    g_variant_unref(list);
 }
 
 static void their_lookup(void) {
@@ -411,6 +430,7 @@ static const Work works[] = {
     {"dconf-int32", their_value_start, their_int32, 1000, false},
     {"dconf-string", their_value_start, their_string, 1000, false},
     {"dconf-child", their_value_start, their_child, 1000, false},
+    {"dconf-each", their_walk_start, their_each, TEXTS, false},
     {"dconf-lookup", their_value_start, their_lookup, 1000, false},
     {"dconf-print", their_value_start, their_print, 1000, false},
     {"dconf-parse", their_text_start, their_parse, 1000, false},
@@ -423,7 +443,7 @@ static void measure(const Work *work) {
     work->call();
     bool first = answer;
     growths = 0;
-    int calls = work->call == our_walk || work->call == our_each ? 1 : work->times; /* which go through all children */
+    int calls = work->times == TEXTS ? 1 : work->times; /* which goes through all children */
     CALLGRIND_TOGGLE_COLLECT;
     for (int i = 0; i < calls; i++)
         work->call();
