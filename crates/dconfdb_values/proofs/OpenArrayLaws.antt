@@ -1,5 +1,5 @@
 -- An array as its framing offsets have it, and the places of its elements.
-use Rattle.std.proofs.Common.{◌≡◌, ◌⊎◌, inl, inr, ℕ, ◌<◌, ◌≤◌, false, List, length, Option, Some, None, refl, sym, ap, ap₂, subst, ◌∙◌, arith}
+use Rattle.std.proofs.Common.{◌≡◌, inl, inr, ℕ, ◌<◌, ◌≤◌, false, List, length, Option, Some, None, sym, ap, ap₂, subst, ◌∙◌, arith}
 use Rattle.std.specs.Prelude.{IfSome, is_some, option_map, slice_get}
 use Rattle.std.proofs.lemmas.Option.{slice_get-map, slice_get_past}
 use Rattle.gv_model.specs.Ty.{Ty}
@@ -11,8 +11,7 @@ use Rattle.gv_model.specs.Tree.{children, tree_at}
 use Rattle.gv_model.proofs.ChildLaws.{child_of_value}
 use Rattle.gv_model.proofs.LayoutLaws.{bounds_within}
 use Rattle.gv_types.specs.TypeStr.{ty}
-use Rattle.dconfdb_values.specs.Order.{in_order}
-use Rattle.dconfdb_values.specs.OpenArrays.{AreElements, IsFramed, IsInOrder, IsPlaced, ends_of, in_order_of, spans_of}
+use Rattle.dconfdb_values.specs.OpenArrays.{AreElements, IsFramed, IsPlaced, ends_of, spans_of}
 use Rattle.dconfdb_values.specs.declared.open_array.OpenArray.{OpenArray}
 use Rattle.dconfdb_values.specs.declared.open_array.Reached.{Reached}
 use Rattle.dconfdb_values.proofs.OrderLaws.{array_body, array_spans, as_many, in_order_within, number_at, placed, span_at, unplaced}

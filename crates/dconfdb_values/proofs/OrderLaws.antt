@@ -1,5 +1,5 @@
 -- The elements of an array by framing offsets, and which of them are in order.
-use Rattle.std.proofs.Common.{◌≡◌, ℕ, zero, suc, ◌+◌, ◌-◌, ◌*◌, ◌/◌, ◌%◌, ◌<◌, ◌≤◌, Bool, true, false, cond, ◌==◌, nat_le, ◌&&◌, map, List, [], ◌∷◌, length, take, drop, Option, Some, None, refl, sym, ap, ap₂, ◌∙◌, arith, eq-eqb, ne_eqb}
+use Rattle.std.proofs.Common.{◌≡◌, ℕ, zero, suc, ◌+◌, ◌-◌, ◌*◌, ◌/◌, ◌%◌, ◌<◌, ◌≤◌, Bool, true, false, cond, ◌==◌, nat_le, map, List, [], ◌∷◌, length, take, drop, Option, Some, None, refl, sym, ap, ap₂, ◌∙◌, arith, eq-eqb, ne_eqb}
 use Rattle.std.specs.Prelude.{slice_get, option_map, slice_range}
 use Rattle.std.proofs.lemmas.Option.{none-some, same_Some, slice_get-map}
 use Rattle.std.proofs.lemmas.List.{drop-drop, take_rest}
@@ -117,7 +117,7 @@ framed t b w e is_width is_begin some within whole =
     let first : nat_le e (length b) ≡ true = grind arith in
     let second : ((length b - e) % w == 0) ≡ true = eq-eqb ((length b - e) % w) 0 whole in
     let begin : number_in (drop (length b - offset_width (length b)) b) ≡ e =
-        ap (λ x. number_in (drop (length b - x) b)) (sym is_width) ∙ sym (is_begin ∙ ap number_in (take_rest b (length b - w))) in
+    ap (λ x. number_in (drop (length b - x) b)) (sym is_width) ∙ sym (is_begin ∙ ap number_in (take_rest b (length b - w))) in
     let all : framed_from t w e b ≡ offset_spans t 0 (numbers_in w ((length b - e) / w) (drop e b)) = rw (first, second) refl in
     ap (λ c. cond c [] (framed_from t (offset_width (length b)) (number_in (drop (length b - offset_width (length b)) b)) b)) none
     ∙ (ap₂ (λ x y. framed_from t x y b) (sym is_width) begin

@@ -1,5 +1,5 @@
 -- An array whose elements have no fixed size, as its framing offsets have it.
-use Rattle.std.specs.Prelude.{◌≡◌, ◌≤◌, ◌⊎◌, ℕ, zero, suc, List, [], ◌∷◌, length, Option, Some, None, slice_get}
+use Rattle.std.specs.Prelude.{◌≡◌, ◌≤◌, ◌⊎◌, ℕ, zero, suc, List, [], ◌∷◌, length, Some, None, slice_get}
 use Rattle.gv_model.specs.Ty.{Ty}
 use Rattle.gv_model.specs.Arrays.{elements_end, element_spans, numbers_in, offset_spans}
 use Rattle.gv_model.specs.Children.{Span}

@@ -84,10 +84,18 @@ impl<'a> OpenArray<'a> {
         let at = self.in_order_to(index, passed.min(index));
         if at == index {
             if let Some((from, to)) = self.place(index) {
-                return Some(Reached { from, to, passed: passed.max(index + 1) });
+                return Some(Reached {
+                    from,
+                    to,
+                    passed: passed.max(index + 1),
+                });
             }
         }
-        Some(Reached { from: 0, to: 0, passed: passed.max(at) })
+        Some(Reached {
+            from: 0,
+            to: 0,
+            passed: passed.max(at),
+        })
     }
 
     /// The first element from `from` on that is out of order, or the one at `index`.
@@ -116,7 +124,11 @@ impl<'a> OpenArray<'a> {
     {
         let from = aligned_after(self.end_before(k), self.element);
         let to = self.end(k);
-        if from <= to && to <= self.body { Some((from, to)) } else { None }
+        if from <= to && to <= self.body {
+            Some((from, to))
+        } else {
+            None
+        }
     }
 
     /// Where the element before element `k` ends.

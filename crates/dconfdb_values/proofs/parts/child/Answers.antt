@@ -1,10 +1,9 @@
-use Rattle.std.proofs.Common.{◌≡◌, Some, ap, sym, ◌∙◌}
+use Rattle.std.proofs.Common.{ap, ◌∙◌}
 use Rattle.std.specs.Prelude.{option_map, slice_range}
 use Rattle.gv_model.specs.Ty.{spelling}
 use Rattle.gv_model.specs.TypeText.{type_at}
 use Rattle.gv_model.specs.Parts.{Part}
 use Rattle.gv_types.specs.TypeStr.{ty}
-use Rattle.gv_view.specs.Views.{view_bytes, view_ty}
 use Rattle.dconfdb_values.specs.Parts.{part_value}
 use Rattle.dconfdb_values.proofs.PartLaws.{nothing_at}
 use Rattle.dconfdb_values.proofs.OpenArrayLaws.{child_placed, framed_alike, none_at, reached_child, value_at}
@@ -29,8 +28,7 @@ returns-clause-value c =
 
 pub returns-clause-lent : goal.returns-clause-lent
 returns-clause-lent c =
-    let framed = framed_alike _ _ _ _ c.in-Some.array c.in_ok-view.ensures.at_type c.in_ok-view.ensures.bytes c.in-Some.ensures in
-    (
+    let framed = framed_alike _ _ _ _ c.in-Some.array c.in_ok-view.ensures.at_type c.in_ok-view.ensures.bytes c.in-Some.ensures in (
       reached_child c.in-Some.array c.in_ok-reached.reached,
       (
         child_placed (type_at c.args.type_text.now) c.args.bytes.now c.in-Some.array c.args.index c.in_ok-reached.reached framed c.in_ok-reached.ensures.some

@@ -1,4 +1,4 @@
-use Rattle.std.proofs.Common.{sym, ap, arith}
+use Rattle.std.proofs.Common.{sym}
 use Rattle.dconfdb_values.specs.OpenArrays.{ends_of}
 use Rattle.dconfdb_values.proofs.OrderLaws.{before_first, before_next}
 use Rattle.dconfdb_values.proofs.open_array.OpenArray.end_before.Goals as goal

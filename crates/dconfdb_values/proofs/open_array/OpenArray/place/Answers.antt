@@ -1,7 +1,7 @@
 use Rattle.std.proofs.Common.{◌≡◌, Some, sym, ap, ◌∙◌, arith}
 use Rattle.gv_model.specs.Layout.{alignment, round_up}
 use Rattle.gv_types.specs.TypeStr.{ty}
-use Rattle.dconfdb_values.specs.OpenArrays.{end_before, ends_of, in_order_of, spans_of}
+use Rattle.dconfdb_values.specs.OpenArrays.{end_before, ends_of, spans_of}
 use Rattle.dconfdb_values.proofs.OrderLaws.{end_within, is_past, is_within, no_more, one_more, span_at}
 use Rattle.dconfdb_values.proofs.open_array.OpenArray.place.Goals.{else-from-to-via-then-from-to+else-to-self, else-from-to-via-else-from-to}
 use Rattle.dconfdb_values.proofs.open_array.OpenArray.place.Goals as goal
@@ -17,7 +17,7 @@ returns-then-to-self-clause-some c =
     let a = c.args.self in
     let k = c.args.k in
     let from : round_up (alignment (ty a.element)) (end_before 0 (ends_of a) k) ≡ c.aligned_after-from.result =
-        ap (round_up (alignment (ty a.element))) (sym c.end_before.ensures) ∙ sym c.aligned_after-from.ensures in
+    ap (round_up (alignment (ty a.element))) (sym c.end_before.ensures) ∙ sym c.aligned_after-from.ensures in
     let lies = span_at (ty a.element) 0 (ends_of a) k c.end-to.result c.end-to.ensures ∙ ap (λ x. Some (ty a.element, Some (x, c.end-to.result))) from in
     record {
       lies = lies;
@@ -32,12 +32,12 @@ returns-else-from-to-clause-none c =
     let a = c.args.self in
     let k = c.args.k in
     let from : round_up (alignment (ty a.element)) (end_before 0 (ends_of a) k) ≡ c.aligned_after-from.result =
-        ap (round_up (alignment (ty a.element))) (sym c.end_before.ensures) ∙ sym c.aligned_after-from.ensures in
+    ap (round_up (alignment (ty a.element))) (sym c.end_before.ensures) ∙ sym c.aligned_after-from.ensures in
     let lies = span_at (ty a.element) 0 (ends_of a) k c.end-to.result c.end-to.ensures ∙ ap (λ x. Some (ty a.element, Some (x, c.end-to.result))) from in
     let past = is_past a.body c.aligned_after-from.result c.end-to.result (λ h g.
-      elim c.else-from-to.branch [
-        | else-from-to-via-then-from-to+else-to-self w ↦ omega (arith, g, w.if-to-self.false)
-        | else-from-to-via-else-from-to w ↦ omega (arith, h, w.if-from-to.false)
-      ]) in
+    elim c.else-from-to.branch [
+      | else-from-to-via-then-from-to+else-to-self w ↦ omega (arith, g, w.if-to-self.false)
+      | else-from-to-via-else-from-to w ↦ omega (arith, h, w.if-from-to.false)
+    ]) in
     let most = no_more (Some a.body) (spans_of a) (ty a.element, Some (c.aligned_after-from.result, c.end-to.result)) k lies past in
     omega (arith, most, c.requires.order)
