@@ -69,7 +69,7 @@ static gboolean is_redundant(Engine *self, const DconfdbSnapshot *now, const Dco
 {
     GVariant *found = NULL;
     DConfChangeset *sets[] = {self->waiting, self->flying};
-    bool is_directory = g_str_has_suffix(edit->path, "/");
+    bool is_directory = dconf_is_dir(edit->path, NULL);
     for (size_t i = 0; i < G_N_ELEMENTS(sets); i++) {
         if (sets[i] && is_directory && !dconf_changeset_all(sets[i], is_no_value_below, (gpointer)edit->path))
             return FALSE;

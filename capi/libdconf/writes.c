@@ -24,14 +24,15 @@ static gboolean refuse(const DconfdbError *fault, GError **error)
     return FALSE;
 }
 
-/* Whether all that is set may be; a reset may always, as dconf has it. */
+/* Whether all that is set may be. A reset that may not does nothing, as dconf has it. */
 gboolean may_change(Engine *self, const DconfdbSnapshot *now, const Edits *edits, GError **error)
 {
     g_autofree DconfdbNewEdit *known = g_new0(DconfdbNewEdit, edits->edits->len);
+    bool has_user = engine_has_user(self);
     for (guint at = 0; at < edits->edits->len; at++) {
         const DconfdbEdit *edit = edit_at(edits, at);
         known[at].sets = edit->type != NULL;
-        known[at].may = !edit->type || engine_is_writable(self, now, edit->path);
+        known[at].may = may_be_made(edit, has_user, now && dconfdb_snapshot_is_writable(now, edit->path));
     }
     return dconfdb_entry(known, edits->edits->len) != DCONFDB_ENTRY_REFUSED || refuse_locked(error);
 }

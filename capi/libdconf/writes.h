@@ -23,18 +23,21 @@ static inline const DconfdbEdit *edit_at(const Edits *self, guint at)
 Edits edits_of(DConfChangeset *changes);
 void edits_clear(Edits *self);
 
-/* What is known of each edit, to be freed: the reset of a locked key does nothing, and the user has what it says or not. */
+/* Whether an edit may be made, where somebody may write in the user's database, and its path may be written or not. */
+bool may_be_made(const DconfdbEdit *edit, bool is_open, bool may_write);
+
+/* What is known of each edit, to be freed: whether it may be made, and whether the user has what it says. */
 DconfdbNewEdit *known_of(const Edits *self, const DconfdbSnapshot *now);
 
 /* The changes of which the user has something else. */
 DConfChangeset *effective(const Edits *self, const DconfdbNewEdit *known, DConfChangeset *changes);
 
-/* Keeps those that may be made. */
+/* Keeps those that may be made, and what sets a key that may not: that is refused. */
 void leave_out(Edits *self, const DconfdbNewEdit *known);
 
 /* ---- how they are written (writes.c); but for the first, `turn` is held */
 
-/* Whether all that is set may be; a reset may always, as dconf has it. */
+/* Whether all that is set may be. A reset that may not does nothing, as dconf has it. */
 gboolean may_change(Engine *self, const DconfdbSnapshot *now, const Edits *edits, GError **error);
 void set_writing(Engine *self, DConfChangeset *changes);
 
