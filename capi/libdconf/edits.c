@@ -38,20 +38,20 @@ void edits_clear(Edits *self)
     g_ptr_array_unref(self->values);
 }
 
-bool may_be_made(const DconfdbEdit *edit, bool is_open, bool may_write)
+DconfdbNewEdit known_by_rights(const DconfdbEdit *edit, bool has_user, const DconfdbSnapshot *now)
 {
-    return dconfdb_may_be_made((const uint8_t *)edit->path, strlen(edit->path), edit->type != NULL, is_open, may_write);
+    bool sets = edit->type != NULL, may = now && dconfdb_snapshot_is_writable(now, edit->path);
+    may = dconfdb_may_be_made((const uint8_t *)edit->path, strlen(edit->path), sets, has_user, may);
+    return (DconfdbNewEdit){.sets = sets, .may = may};
 }
 
-/* What is known of each edit, to be freed: whether it may be made, and whether the user has what it says. */
-DconfdbNewEdit *known_of(const Edits *self, const DconfdbSnapshot *now)
+DconfdbNewEdit *known_of(const Edits *self, bool has_user, const DconfdbSnapshot *now)
 {
     DconfdbNewEdit *known = g_new0(DconfdbNewEdit, self->edits->len);
     for (guint at = 0; at < self->edits->len; at++) {
         const DconfdbEdit *edit = edit_at(self, at);
-        known[at].sets = edit->type != NULL;
-        known[at].may = may_be_made(edit, true, dconfdb_snapshot_is_writable(now, edit->path));
-        known[at].is_same = dconfdb_snapshot_has_edit(now, edit);
+        known[at] = known_by_rights(edit, has_user, now);
+        known[at].is_same = now && dconfdb_snapshot_has_edit(now, edit);
     }
     return known;
 }

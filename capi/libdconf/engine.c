@@ -273,7 +273,7 @@ static uint32_t find(Engine *self, const gchar *key, DConfReadFlags flags, const
     bool of_user = (flags & DCONF_READ_USER_VALUE) != 0, of_default = (flags & DCONF_READ_DEFAULT_VALUE) != 0;
     DconfdbKnown known = {.waits = is_edited, .sets = value != NULL, .edit_fits = true, .stored_fits = true};
     known.writable = of_user && engine_has_user(self);
-    known.may_write = is_edited && engine_is_writable(self, now, key);
+    known.may_write = is_edited && seen_is_writable(now, key);
     return dconfdb_found(of_user, of_default, &known);
 }
 
@@ -293,10 +293,4 @@ GVariant *engine_read(Engine *self, const gchar *key, DConfReadFlags flags, cons
     }
     value = lent_value(now, reads, key);
     return value ? g_variant_ref_sink(value) : NULL;
-}
-
-gboolean engine_is_writable(Engine *self, const DconfdbSnapshot *now, const gchar *path)
-{
-    /* What is no path is locked by nobody, as dconf has it. */
-    return engine_has_user(self) && seen_is_writable(now, path);
 }
