@@ -47,7 +47,12 @@ static Timed *timed_of(Engine *self, const Edits *edits)
     g_autofree DconfdbTime *asked = asked_of(self, edits);
     Timed *timed = g_new(Timed, count);
     for (guint at = 0; at < count; at++)
-        timed[at] = (Timed){edit_at(edits, at), asked[at].when, dconfdb_moment_beside(asked, count, asked[at].when)};
+        timed[at] = (Timed){edit_at(edits, at), asked[at].when, 0};
+    qsort(timed, count, sizeof *timed, by_moment);
+    for (guint at = 0; at < count; at++) {
+        bool is_next = at > 0 && timed[at - 1].asked == timed[at].asked;
+        timed[at].counts = is_next ? timed[at - 1].counts : dconfdb_moment_beside(asked, count, timed[at].asked);
+    }
     qsort(timed, count, sizeof *timed, by_moment);
     return timed;
 }
