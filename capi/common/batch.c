@@ -8,7 +8,7 @@
 
 Batch batch_new(size_t most)
 {
-    Batch batch = {.is_timed = true};
+    Batch batch = {.count = 0};
     batch.queued = g_malloc_n(most, sizeof *batch.queued + sizeof *batch.edits + sizeof *batch.moments + sizeof *batch.asked
                                         + sizeof *batch.numbers + sizeof *batch.made);
     batch.edits = (const DconfdbEdit **)(batch.queued + most);
@@ -63,7 +63,7 @@ static bool try_to_write(const Batch *batch, DconfdbStore *store, const Turn *tu
         return true;
     if (turn->fault != 0)
         return refuse_lock(store, turn->fault, fault);
-    return locked_change(store, turn->lock, batch->asked, batch->is_timed ? batch->made : NULL, batch->taken, fault);
+    return locked_change(store, turn->lock, batch->asked, batch->made, batch->taken, fault);
 }
 
 /* What became of a write, as dconfdb_queue_answered has it. The first fault for which a change is refused is kept. */
@@ -81,19 +81,13 @@ static uint32_t write_taken(Batch *batch, DconfdbStore *store, const Turn *turn,
     return answer_of_fault(fault);
 }
 
-/* No lock keeps a directory from being reset: what is locked in it stays. */
-static bool is_directory(const char *path)
-{
-    size_t len = strlen(path);
-    return len > 0 && path[len - 1] == '/';
-}
-
 static uint32_t ask(const Batch *batch, DconfdbStore *store, size_t number)
 {
-    const char *path = batch->edits[number]->path;
+    const DconfdbEdit *edit = batch->edits[number];
     DconfdbSnapshot *now = dconfdb_store_snapshot(store);
-    bool is = !batch->is_closed && (is_directory(path) || dconfdb_snapshot_is_writable(now, path));
+    bool may = dconfdb_snapshot_is_writable(now, edit->path);
     dconfdb_snapshot_unref(now);
+    bool is = dconfdb_may_be_made((const uint8_t *)edit->path, strlen(edit->path), edit->type != NULL, !batch->is_closed, may);
     return is ? DCONFDB_QUEUE_YES : DCONFDB_QUEUE_LOCKED;
 }
 

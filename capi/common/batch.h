@@ -16,7 +16,6 @@ typedef struct {
 /* The edits of all changes, the oldest first, and what becomes of each. */
 typedef struct {
     size_t count, taken;
-    bool is_timed;  /* what others have set since stays; else all counts as set now */
     bool is_closed; /* nobody who has this program's rights may write there: no key is writable */
     DconfdbQueued *queued; /* with all that follows in one block */
     const DconfdbEdit **edits;

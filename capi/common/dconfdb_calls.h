@@ -877,9 +877,6 @@ size_t dconfdb_newest_found(const size_t *newest, size_t keys, size_t key);
 /* Puts an edit as the newest of its key. Gives the one that was it before, and is so again if this one goes; or 0. */
 size_t dconfdb_newest_put(size_t *newest, size_t keys, size_t key, size_t number);
 
-/* Whether an edit's change needs no write, beside the newest edit of its key: both are alone in their changes. */
-bool dconfdb_waiting_is_overtaken(size_t number, bool is_alone, size_t newest, bool newest_is_alone);
-
 /* What becomes of a change when it was tried to write all that waits. */
 enum {
     DCONFDB_FATE_WAITS, /* before all that was set since */
@@ -888,7 +885,8 @@ enum {
     DCONFDB_FATE_OVERTAKEN /* a later one sets its key, and goes on waiting: nobody sees that it goes */
 };
 
-uint32_t dconfdb_waiting_fate(bool is_written, bool is_refused, bool is_overtaken);
+/* Of a change that has this edit, beside the newest edit of its key that goes on waiting; 0 where there is none. */
+uint32_t dconfdb_waiting_fate(bool is_written, bool is_refused, size_t number, bool is_alone, size_t newest, bool newest_is_alone);
 
 /* ---- which paths were set last */
 
@@ -926,6 +924,11 @@ uint32_t dconfdb_note_made(const DconfdbTime *notes, size_t n, const DconfdbTime
  * set by the latest of their times. They are handed out as dconfdb_list does. MEMORY, and then nothing is written. */
 uint32_t dconfdb_newest_notes(const DconfdbTime *notes, size_t n, size_t most, size_t most_bytes, DconfdbTime *room, size_t room_len,
                               size_t *len);
+
+/* The moment in which a change counts as made that was asked for in this one, beside all edits that wait, each with its moment; those of one
+ * moment are one change. It is the same; or the turn's, which is the last of all moments, if the change resets a directory, or sets something
+ * in one that is reset with it. */
+uint64_t dconfdb_moment_beside(const DconfdbTime *waiting, size_t n, uint64_t moment);
 
 /* The time of a moment of a clock that nobody sets, which is `boot` by that clock when it is `now` by the clock of the day. It is no
  * earlier than `noted`, what the program noted last, unless that is later than `now`. */
@@ -984,25 +987,31 @@ typedef struct {
     DconfdbWaits before, after;
 } DconfdbKeyAsked;
 
-/* Where what is seen of a key is found. */
+/* What is known of a key that is read, and of the newest edit of it that waits. */
+typedef struct {
+    bool waits, sets;
+    bool writable;    /* there is a user's database */
+    bool may_write;   /* and the key may be written */
+    bool edit_fits;   /* the edit's value is of the type that is asked for, or there is none */
+    bool stored_fits; /* the value that is stored is so */
+} DconfdbKnown;
+
+/* Where what is read of a key is found. */
 enum {
-    DCONFDB_SHOWN_STORED,  /* as dconfdb_read has it */
-    DCONFDB_SHOWN_DEFAULT, /* as dconfdb_read_default has it */
-    DCONFDB_SHOWN_EDIT     /* in the newest edit that waits */
+    DCONFDB_FOUND_STORED,  /* as dconfdb_read has it */
+    DCONFDB_FOUND_DEFAULT, /* as dconfdb_read_default has it */
+    DCONFDB_FOUND_EDIT,    /* in the newest edit that waits */
+    DCONFDB_FOUND_USERS,   /* in the first database, locked or not */
+    DCONFDB_FOUND_NOWHERE
 };
 
-/* `may_write`: whether the key may be written. `edit_fits`, `stored_fits`: the value of each is of the type that is asked
- * for, or there is none. A lock hides what waits. */
-uint32_t dconfdb_shown(bool waits, bool sets, bool may_write, bool edit_fits, bool stored_fits);
+/* The setting is read, in which a lock hides what waits; or the user's own value (`of_user`), locked or not; or what there is without that
+ * (`of_default`). Of both at once there is nothing. */
+uint32_t dconfdb_found(bool of_user, bool of_default, const DconfdbKnown *known);
 
-/* Where the user's own value is found, locked or not. */
-enum {
-    DCONFDB_OWN_FIRST, /* in the first database */
-    DCONFDB_OWN_NONE,
-    DCONFDB_OWN_EDIT
-};
-
-uint32_t dconfdb_own(bool waits, bool sets, bool writable);
+/* Whether an edit may be made. `is_open`: somebody may write in the user's database. `may_write`: its path may be written, or, of a
+ * directory that is reset, whatever. */
+bool dconfdb_may_be_made(const uint8_t *path, size_t path_len, bool sets, bool is_open, bool may_write);
 
 /* The paths of the keys that are seen otherwise than before: of those that are asked for by themselves, and of all others by what the layers
  * show. A value in other bytes is the same one. `was_writable`, `is_writable`: the first layer was the user's, and is. `same_others`: but for

@@ -102,11 +102,12 @@ static GVariant *read_beside(DconfdbBackend *self, Source *source, const char *k
     GVariant *stored = lent_value(source->now ? dconfdb_snapshot_ref(source->now) : NULL, dconfdb_snapshot_read, key);
     bool may = source->now && dconfdb_snapshot_is_writable(source->now, key);
     bool edit_fits = fits(source->value, expected), stored_fits = fits(stored, expected);
-    uint32_t shown = dconfdb_shown(source->is_edited, source->value != NULL, may, edit_fits, stored_fits);
+    DconfdbKnown known = {source->is_edited, source->value != NULL, source->has_user, may, edit_fits, stored_fits};
+    uint32_t found = dconfdb_found(false, false, &known);
     if (!edit_fits || !stored_fits)
         remember_odd(self, key, expected);
-    GVariant *value = shown == DCONFDB_SHOWN_STORED ? g_steal_pointer(&stored)
-        : shown == DCONFDB_SHOWN_EDIT               ? g_steal_pointer(&source->value)
+    GVariant *value = found == DCONFDB_FOUND_STORED ? g_steal_pointer(&stored)
+        : found == DCONFDB_FOUND_EDIT               ? g_steal_pointer(&source->value)
                                                     : take_lent(source, dconfdb_snapshot_read_default, key);
     g_clear_pointer(&stored, g_variant_unref);
     source_clear(source);
@@ -135,10 +136,11 @@ GVariant *dconfdb_backend_read_user_value(GSettingsBackend *backend, const char 
 {
     (void)expected;
     Source source = source_of(backend_of(backend), key);
-    uint32_t own = dconfdb_own(source.is_edited, source.value != NULL, source.has_user);
-    GVariant *value = own == DCONFDB_OWN_FIRST ? take_lent(&source, dconfdb_snapshot_read_user, key)
-        : own == DCONFDB_OWN_EDIT              ? g_steal_pointer(&source.value)
-                                               : NULL;
+    DconfdbKnown known = {.waits = source.is_edited, .sets = source.value != NULL, .writable = source.has_user};
+    uint32_t found = dconfdb_found(true, false, &known);
+    GVariant *value = found == DCONFDB_FOUND_USERS ? take_lent(&source, dconfdb_snapshot_read_user, key)
+        : found == DCONFDB_FOUND_EDIT              ? g_steal_pointer(&source.value)
+                                                   : NULL;
     source_clear(&source);
     return value;
 }

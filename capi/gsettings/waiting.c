@@ -241,11 +241,11 @@ guint waiting_settle(Waiting *waiting, const DconfdbSnapshot *now)
     return count;
 }
 
-/* Whether a later one sets its key, and goes on waiting: that is refused where this one would be. */
-static bool is_overtaken(const Waiting *waiting, const Change *change)
+/* What becomes of a change, none of which is refused. A later one that sets its key, and goes on waiting, is refused where this one would be. */
+static uint32_t fate_of(const Waiting *waiting, const Change *change, bool is_written)
 {
     const Edit *edit = &change->edits[0], *newest = newest_of(waiting, edit->key);
-    return newest && dconfdb_waiting_is_overtaken(edit->number, is_alone(edit), newest->number, is_alone(newest));
+    return dconfdb_waiting_fate(is_written, false, edit->number, is_alone(edit), newest ? newest->number : 0, newest && is_alone(newest));
 }
 
 /* By what became of each change: those that wait do so again, before all others, and those that are overtaken are freed, of which it
@@ -256,7 +256,7 @@ static guint sort_by_fate(Waiting *waiting, GQueue *taken, bool is_written)
     for (GList *at = taken->tail, *before; at; at = before) {
         Change *change = at->data;
         before = at->prev;
-        switch (dconfdb_waiting_fate(is_written, false, is_overtaken(waiting, change))) {
+        switch (fate_of(waiting, change, is_written)) {
         case DCONFDB_FATE_WAITS:
             change->is_taken = false;
             g_queue_unlink(taken, at);

@@ -5,6 +5,7 @@
 #include <string.h>
 
 uint32_t dconfdb_entry(const void *edits, size_t count);
+uint32_t dconfdb_found(bool of_user, bool of_default, const void *known);
 void dconfdb_patience_begin(void *patience, uint64_t now, uint64_t each);
 void dconfdb_queue_begin(void *queue, const void *edits, size_t count, void *step);
 void dconfdb_queue_answered(void *queue, void *edits, size_t count, uint32_t answer, size_t at, void *step);
@@ -56,6 +57,34 @@ static void finds_new_edit(void)
     lies("DconfdbNewEdit", "is_alone", NEW_IS_ALONE, FLAG);
     lies("DconfdbNewEdit", "is_taken", NEW_IS_TAKEN, FLAG);
     printf("TAKES(DconfdbNewEdit, %d);\n", NEW_EDIT);
+}
+
+/* What is known of a key is read alone, too. */
+enum { KNOWN_WAITS = 0, KNOWN_SETS = 1, KNOWN_WRITABLE = 2, KNOWN_MAY = 3, KNOWN_EDIT = 4, KNOWN_STORED = 5, KNOWN = 6 };
+
+/* Of a key of which these fields are so. */
+static uint32_t found_of(bool of_user, unsigned fields)
+{
+    uint8_t known[KNOWN];
+    for (int i = 0; i < KNOWN; i++)
+        known[i] = fields >> i & 1;
+    return dconfdb_found(of_user, false, known);
+}
+
+static void finds_known(void)
+{
+    enum { WAITING = 1, A_SET = 2, USERS = 4, MAY = 8, EDIT_FITS = 16, STORED_FITS = 32, ALL = 63 };
+    is_so(found_of(false, ALL) == 2 && found_of(false, ALL & ~WAITING) == 0 && found_of(false, ALL & ~A_SET) == 1, "DconfdbKnown");
+    is_so(found_of(false, ALL & ~MAY) == 0 && found_of(false, ALL & ~EDIT_FITS) == 1 && found_of(false, ALL & ~USERS) == 2, "DconfdbKnown");
+    is_so(found_of(false, ALL & ~STORED_FITS) == 2 && found_of(false, STORED_FITS) == 0 && found_of(false, 0) == 1, "DconfdbKnown");
+    is_so(found_of(true, USERS) == 3 && found_of(true, ALL & ~USERS) == 4, "DconfdbKnown");
+    lies("DconfdbKnown", "waits", KNOWN_WAITS, FLAG);
+    lies("DconfdbKnown", "sets", KNOWN_SETS, FLAG);
+    lies("DconfdbKnown", "writable", KNOWN_WRITABLE, FLAG);
+    lies("DconfdbKnown", "may_write", KNOWN_MAY, FLAG);
+    lies("DconfdbKnown", "edit_fits", KNOWN_EDIT, FLAG);
+    lies("DconfdbKnown", "stored_fits", KNOWN_STORED, FLAG);
+    printf("TAKES(DconfdbKnown, %d);\n", KNOWN);
 }
 
 static void finds_patience(void)
@@ -168,6 +197,7 @@ void finds_waits(void)
 {
     finds_wait();
     finds_new_edit();
+    finds_known();
     finds_patience();
     finds_notice();
     finds_watched_name();

@@ -1,6 +1,8 @@
 /* DConfClient: the calls of a program. */
 #include "libdconf.h"
 
+#include "seen.h"
+
 #include <stdlib.h>
 #include <string.h>
 
@@ -99,7 +101,8 @@ gboolean dconf_client_is_writable(DConfClient *client, const gchar *key)
     g_return_val_if_fail (DCONF_IS_CLIENT (client), FALSE);
     g_return_val_if_fail (key != NULL, FALSE);
     DconfdbSnapshot *now = engine_current(client->engine);
-    gboolean is = engine_is_writable(client->engine, now, key);
+    /* What is no path is locked by nobody, as dconf has it. */
+    gboolean is = seen_is_writable(now, key);
     dconfdb_snapshot_unref(now);
     return is;
 }

@@ -1,6 +1,8 @@
 /* The edits of a set of changes, and what is known of each. */
 #include "writes.h"
 
+#include <string.h>
+
 static DconfdbEdit edit_of(const gchar *path, GVariant *value)
 {
     if (!value)
@@ -36,20 +38,20 @@ void edits_clear(Edits *self)
     g_ptr_array_unref(self->values);
 }
 
-static bool is_reset_of_locked(const DconfdbSnapshot *now, const DconfdbEdit *edit)
+DconfdbNewEdit known_by_rights(const DconfdbEdit *edit, bool has_user, const DconfdbSnapshot *now)
 {
-    return !edit->type && dconf_is_key(edit->path, NULL) && !dconfdb_snapshot_is_writable(now, edit->path);
+    bool sets = edit->type != NULL, may = now && dconfdb_snapshot_is_writable(now, edit->path);
+    may = dconfdb_may_be_made((const uint8_t *)edit->path, strlen(edit->path), sets, has_user, may);
+    return (DconfdbNewEdit){.sets = sets, .may = may};
 }
 
-/* What is known of each edit, to be freed: the reset of a locked key does nothing, and the user has what it says or not. */
-DconfdbNewEdit *known_of(const Edits *self, const DconfdbSnapshot *now)
+DconfdbNewEdit *known_of(const Edits *self, bool has_user, const DconfdbSnapshot *now)
 {
     DconfdbNewEdit *known = g_new0(DconfdbNewEdit, self->edits->len);
     for (guint at = 0; at < self->edits->len; at++) {
         const DconfdbEdit *edit = edit_at(self, at);
-        known[at].sets = edit->type != NULL;
-        known[at].may = !is_reset_of_locked(now, edit);
-        known[at].is_same = dconfdb_snapshot_has_edit(now, edit);
+        known[at] = known_by_rights(edit, has_user, now);
+        known[at].is_same = now && dconfdb_snapshot_has_edit(now, edit);
     }
     return known;
 }
@@ -69,11 +71,11 @@ DConfChangeset *effective(const Edits *self, const DconfdbNewEdit *known, DConfC
     return found;
 }
 
-/* Keeps those that may be made. */
+/* Keeps those that may be made, and what sets a key that may not: that is refused. */
 void leave_out(Edits *self, const DconfdbNewEdit *known)
 {
     for (guint at = self->edits->len; at > 0; at--) {
-        if (!known[at - 1].may)
+        if (!known[at - 1].may && !known[at - 1].sets)
             g_array_remove_index(self->edits, at - 1);
     }
 }

@@ -252,54 +252,45 @@ static gboolean find_edit(Engine *self, const gchar *key, const GQueue *read_thr
     return is;
 }
 
-/* What is read of the store beside an edit, as the proved calls have it; NULL: what is seen is `value`, which the edit sets, or none. */
-static Reads *reads_own(gboolean is_edited, GVariant **value, gboolean has_user)
+/* What is read of the store, as the proved call has it; NULL: nothing is. */
+static Reads *reads_of(uint32_t found)
 {
-    uint32_t own = dconfdb_own(is_edited, *value != NULL, has_user);
-    if (own == DCONFDB_OWN_NONE)
-        g_clear_pointer(value, g_variant_unref);
-    return own == DCONFDB_OWN_FIRST ? dconfdb_snapshot_read_user : NULL;
+    switch (found) {
+    case DCONFDB_FOUND_STORED:
+        return dconfdb_snapshot_read;
+    case DCONFDB_FOUND_DEFAULT:
+        return dconfdb_snapshot_read_default;
+    case DCONFDB_FOUND_USERS:
+        return dconfdb_snapshot_read_user;
+    default:
+        return NULL;
+    }
 }
 
-static Reads *reads_seen(gboolean is_edited, const GVariant *value, gboolean may_write)
+/* What was found. Of a value of any type each is one that is asked for. */
+static uint32_t find(Engine *self, const gchar *key, DConfReadFlags flags, const DconfdbSnapshot *now, gboolean is_edited, const GVariant *value)
 {
-    switch (dconfdb_shown(is_edited, value != NULL, may_write, true, true)) {
-    case DCONFDB_SHOWN_EDIT:
-        return NULL;
-    case DCONFDB_SHOWN_DEFAULT:
-        return dconfdb_snapshot_read_default;
-    default:
-        return dconfdb_snapshot_read;
-    }
+    bool of_user = (flags & DCONF_READ_USER_VALUE) != 0, of_default = (flags & DCONF_READ_DEFAULT_VALUE) != 0;
+    DconfdbKnown known = {.waits = is_edited, .sets = value != NULL, .edit_fits = true, .stored_fits = true};
+    known.writable = of_user && engine_has_user(self);
+    known.may_write = is_edited && seen_is_writable(now, key);
+    return dconfdb_found(of_user, of_default, &known);
 }
 
 GVariant *engine_read(Engine *self, const gchar *key, DConfReadFlags flags, const GQueue *read_through)
 {
-    gboolean is_user = (flags & DCONF_READ_USER_VALUE) != 0, is_default = (flags & DCONF_READ_DEFAULT_VALUE) != 0;
     GVariant *value = NULL;
-    if (is_user && is_default)
-        return NULL;
     /* Before the look: what is written meanwhile is in one of the two. */
-    gboolean is_edited = !is_default && find_edit(self, key, read_through, &value);
+    gboolean is_edited = find_edit(self, key, read_through, &value);
     DconfdbSnapshot *now = engine_current(self);
-    Reads *reads = NULL;
-    if (is_default)
-        reads = dconfdb_snapshot_read_default;
-    else if (is_user)
-        reads = reads_own(is_edited, &value, engine_has_user(self));
-    else
-        reads = reads_seen(is_edited, value, is_edited && engine_is_writable(self, now, key));
+    uint32_t found = find(self, key, flags, now, is_edited, value);
+    Reads *reads = reads_of(found);
+    if (found != DCONFDB_FOUND_EDIT)
+        g_clear_pointer(&value, g_variant_unref);
     if (!reads) {
         dconfdb_snapshot_unref(now);
         return value;
     }
-    g_clear_pointer(&value, g_variant_unref);
     value = lent_value(now, reads, key);
     return value ? g_variant_ref_sink(value) : NULL;
-}
-
-gboolean engine_is_writable(Engine *self, const DconfdbSnapshot *now, const gchar *path)
-{
-    /* What is no path is locked by nobody, as dconf has it. */
-    return engine_has_user(self) && seen_is_writable(now, path);
 }

@@ -69,7 +69,7 @@ static gboolean is_redundant(Engine *self, const DconfdbSnapshot *now, const Dco
 {
     GVariant *found = NULL;
     DConfChangeset *sets[] = {self->waiting, self->flying};
-    bool is_directory = g_str_has_suffix(edit->path, "/");
+    bool is_directory = dconf_is_dir(edit->path, NULL);
     for (size_t i = 0; i < G_N_ELEMENTS(sets); i++) {
         if (sets[i] && is_directory && !dconf_changeset_all(sets[i], is_no_value_below, (gpointer)edit->path))
             return FALSE;
@@ -82,17 +82,16 @@ static gboolean is_redundant(Engine *self, const DconfdbSnapshot *now, const Dco
     return dconfdb_snapshot_has_edit(now, edit);
 }
 
-/* `lock` is held. What becomes of the changes, as each may be made: whether anything is seen otherwise by them. */
-static uint32_t entry_of(Engine *self, const DconfdbSnapshot *now, const Edits *edits, DConfChangeset *changes)
+/* `lock` is held. What becomes of the changes beside what waits. */
+static uint32_t entry_of(Engine *self, bool has_user, const DconfdbSnapshot *now, const Edits *edits, DConfChangeset *changes)
 {
     g_autofree DconfdbNewEdit *known = g_new0(DconfdbNewEdit, edits->edits->len);
     for (guint at = 0; at < edits->edits->len; at++) {
         const DconfdbEdit *edit = edit_at(edits, at);
         g_autoptr(GVariant) value = NULL;
         dconf_changeset_get(changes, edit->path, &value);
-        known[at].sets = value != NULL;
-        known[at].may = true;
-        known[at].is_same = is_redundant(self, now, edit, value);
+        known[at] = known_by_rights(edit, has_user, now);
+        known[at].is_same = now && is_redundant(self, now, edit, value);
     }
     return dconfdb_entry(known, edits->edits->len);
 }
@@ -108,17 +107,38 @@ static void set_moments(Engine *self, const Edits *edits)
     }
 }
 
-/* Lets the changes wait, and says whether they change anything. */
-static gboolean add_waiting(Engine *self, const DconfdbSnapshot *now, const Edits *edits, DConfChangeset *changes)
+/* Lets the changes wait, unless they are refused, or nothing of them is left. Gives what becomes of them. */
+static uint32_t add_waiting(Engine *self, const DconfdbSnapshot *now, const Edits *edits, DConfChangeset *changes)
 {
+    bool has_user = engine_has_user(self);
     g_mutex_lock(&self->lock);
-    uint32_t entry = entry_of(self, now, edits, changes);
-    if (!self->waiting)
-        self->waiting = dconf_changeset_new();
-    dconf_changeset_change(self->waiting, changes);
-    set_moments(self, edits);
+    uint32_t entry = entry_of(self, has_user, now, edits, changes);
+    if (entry != DCONFDB_ENTRY_REFUSED && entry != DCONFDB_ENTRY_EMPTY) {
+        if (!self->waiting)
+            self->waiting = dconf_changeset_new();
+        dconf_changeset_change(self->waiting, changes);
+        set_moments(self, edits);
+    }
     g_mutex_unlock(&self->lock);
-    return entry == DCONFDB_ENTRY_WAITS;
+    return entry;
+}
+
+/* Whether they wait, or there is nothing to be made. */
+static gboolean take(Engine *self, const DconfdbSnapshot *now, const Edits *edits, DConfChangeset *changes, GError **error)
+{
+    switch (add_waiting(self, now, edits, changes)) {
+    case DCONFDB_ENTRY_REFUSED:
+        return refuse_locked(error);
+    case DCONFDB_ENTRY_EMPTY:
+        return TRUE;
+    case DCONFDB_ENTRY_WAITS:
+        begin_thread(self);
+        notice_changed(self, changes, NULL, TRUE);
+        return TRUE;
+    default:
+        begin_thread(self);
+        return TRUE;
+    }
 }
 
 gboolean engine_change_fast(Engine *self, DConfChangeset *changes, GError **error)
@@ -127,16 +147,10 @@ gboolean engine_change_fast(Engine *self, DConfChangeset *changes, GError **erro
         return TRUE;
     DconfdbSnapshot *now = engine_newest(self);
     Edits edits = edits_of(changes);
-    gboolean may = may_change(self, now, &edits, error);
-    if (may && now && engine_has_user(self)) {
-        gboolean is_told = add_waiting(self, now, &edits, changes);
-        begin_thread(self);
-        if (is_told)
-            notice_changed(self, changes, NULL, TRUE);
-    }
+    gboolean is_done = take(self, now, &edits, changes, error);
     edits_clear(&edits);
     dconfdb_snapshot_unref(now);
-    return may;
+    return is_done;
 }
 
 void engine_sync(Engine *self)

@@ -75,9 +75,6 @@ gboolean engine_has_user(Engine *self);
 
 GVariant *engine_read(Engine *self, const gchar *key, DConfReadFlags flags, const GQueue *read_through);
 
-/* Whether the path, a key's or a directory's, is locked by nobody, and there is a user's database. */
-gboolean engine_is_writable(Engine *self, const DconfdbSnapshot *now, const gchar *path);
-
 /* ---- changes (writes.c, fast.c) */
 
 gboolean engine_change_fast(Engine *self, DConfChangeset *changes, GError **error);

@@ -106,7 +106,7 @@ static void add_own(const Own *own, DConfChangeset *changes, const DconfdbSnapsh
     for (guint i = 0; i < count; i++) {
         gchar *path = g_strconcat(prefix, paths[i], NULL);
         g_ptr_array_add(own->paths, path);
-        if (!g_str_has_suffix(path, "/")) {
+        if (!dconf_is_dir(path, NULL)) {
             add_edit(own, path, values[i]);
             continue;
         }

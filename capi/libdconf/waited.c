@@ -5,54 +5,91 @@
 #include "faults.h"
 #include "order.h"
 
+#include <stdlib.h>
 #include <string.h>
 
-/* `lock` is held. */
-static uint64_t moment_of(Engine *self, const DconfdbEdit *edit)
+/* ---- the moments */
+
+/* An edit, when it was asked for, and the moment in which its change counts as made. */
+typedef struct {
+    const DconfdbEdit *edit;
+    uint64_t asked, counts;
+} Timed;
+
+static gint by_moment(gconstpointer first, gconstpointer second)
 {
-    const uint64_t *moment = g_hash_table_lookup(self->moments, edit->path);
-    return moment ? *moment : UINT64_MAX;
+    const Timed *one = first, *other = second;
+    if (one->counts != other->counts)
+        return one->counts < other->counts ? -1 : 1;
+    if (one->asked != other->asked)
+        return one->asked < other->asked ? -1 : 1;
+    return strcmp(one->edit->path, other->edit->path);
 }
 
-static gint by_moment(gconstpointer one, gconstpointer other, gpointer self)
+/* When each edit was asked for, as the proved calls have it. */
+static DconfdbTime *asked_of(Engine *self, const Edits *edits)
 {
-    uint64_t first = moment_of(self, one), second = moment_of(self, other);
-    if (first == second)
-        return strcmp(((const DconfdbEdit *)one)->path, ((const DconfdbEdit *)other)->path);
-    return first < second ? -1 : 1;
-}
-
-/* The edits, the oldest first. Those of a change were asked for in one moment: all of them are made, or none. A directory is reset in
- * this moment, and with it counts all else. */
-static Batch batch_of(Engine *self, Edits *edits)
-{
-    Batch batch = batch_new(edits->edits->len);
+    DconfdbTime *asked = g_new(DconfdbTime, edits->edits->len);
     g_mutex_lock(&self->lock);
-    g_array_sort_with_data(edits->edits, by_moment, self);
     for (guint at = 0; at < edits->edits->len; at++) {
-        const DconfdbEdit *edit = edit_at(edits, at);
-        uint64_t moment = moment_of(self, edit);
-        bool is_next = at > 0 && batch.moments[at - 1] == moment;
-        batch_add(&batch, edit, moment, is_next ? batch.queued[at - 1].change : at, false);
-        batch.is_timed = batch.is_timed && !g_str_has_suffix(edit->path, "/");
+        const gchar *path = edit_at(edits, at)->path;
+        const uint64_t *moment = g_hash_table_lookup(self->moments, path);
+        asked[at] = (DconfdbTime){{(const uint8_t *)path, strlen(path)}, moment ? *moment : UINT64_MAX, 0};
     }
     g_mutex_unlock(&self->lock);
+    return asked;
+}
+
+/* The edits in the order of their changes' moments; of one change, and of one moment, in byte order. */
+static Timed *timed_of(Engine *self, const Edits *edits)
+{
+    guint count = edits->edits->len;
+    g_autofree DconfdbTime *asked = asked_of(self, edits);
+    Timed *timed = g_new(Timed, count);
+    for (guint at = 0; at < count; at++)
+        timed[at] = (Timed){edit_at(edits, at), asked[at].when, 0};
+    qsort(timed, count, sizeof *timed, by_moment);
+    for (guint at = 0; at < count; at++) {
+        bool is_next = at > 0 && timed[at - 1].asked == timed[at].asked;
+        timed[at].counts = is_next ? timed[at - 1].counts : dconfdb_moment_beside(asked, count, timed[at].asked);
+    }
+    qsort(timed, count, sizeof *timed, by_moment);
+    return timed;
+}
+
+/* The edits, the oldest first. Those of a change were asked for in one moment: all of them are made, or none. */
+static Batch batch_of(Engine *self, const Edits *edits)
+{
+    guint count = edits->edits->len;
+    g_autofree Timed *timed = timed_of(self, edits);
+    Batch batch = batch_new(count);
+    for (guint at = 0; at < count; at++) {
+        bool is_next = at > 0 && timed[at - 1].asked == timed[at].asked;
+        batch_add(&batch, timed[at].edit, timed[at].counts, is_next ? batch.queued[at - 1].change : at, false);
+    }
     return batch;
 }
 
-/* What of the edits isn't made: what is refused or left out, and what others have set since. */
-static void add_unmade(const Batch *batch, DconfdbStore *store, gboolean is_done, DConfChangeset *unmade)
+/* ---- what is made */
+
+/* Whether others have set it since. What counts as set in the turn nobody has. */
+static bool is_overtaken(const Batch *batch, size_t at, const DconfdbSnapshot *now)
+{
+    return batch->moments[at] != UINT64_MAX && !dconfdb_snapshot_has_edit(now, batch->edits[at]);
+}
+
+/* Adds the paths of what isn't made: what is refused or left out, and what others have set since. */
+static void add_unmade(const Batch *batch, DconfdbStore *store, gboolean is_done, GHashTable *unmade)
 {
     DconfdbSnapshot *now = dconfdb_store_snapshot(store);
     for (size_t at = 0; at < batch->count; at++) {
-        bool is = batch_is_refused(batch, at) || batch_is_left_out(batch, at);
-        if (is || (is_done && batch->is_timed && !dconfdb_snapshot_has_edit(now, batch->edits[at])))
-            dconf_changeset_set(unmade, batch->edits[at]->path, NULL);
+        if (batch_is_refused(batch, at) || batch_is_left_out(batch, at) || (is_done && is_overtaken(batch, at, now)))
+            g_hash_table_add(unmade, g_strdup(batch->edits[at]->path));
     }
     dconfdb_snapshot_unref(now);
 }
 
-static gboolean put_batch(Engine *self, Batch *batch, DConfChangeset *unmade, DconfdbError *refusal, DconfdbError *fault)
+static gboolean put_batch(Engine *self, Batch *batch, GHashTable *unmade, DconfdbError *refusal, DconfdbError *fault)
 {
     FolderLock lock;
     Turn turn;
@@ -67,13 +104,13 @@ static gboolean put_batch(Engine *self, Batch *batch, DConfChangeset *unmade, Dc
     return is_done;
 }
 
-/* Makes the changes that waited, but for those that are refused, or that others have set since: they come into `unmade`. What is to be
+/* Makes the changes that waited, but for those that are refused, or that others have set since: their paths come into `unmade`. What is to be
  * told of that is in `refusal`, if it has a number. */
-static gboolean put_waiting(Engine *self, DConfChangeset *changes, DConfChangeset *unmade, DconfdbError *refusal, DconfdbError *fault)
+static gboolean put_waiting(Engine *self, DConfChangeset *changes, GHashTable *unmade, DconfdbError *refusal, DconfdbError *fault)
 {
     DconfdbSnapshot *now = engine_look(self);
     Edits edits = edits_of(changes);
-    g_autofree DconfdbNewEdit *known = now ? known_of(&edits, now) : NULL;
+    g_autofree DconfdbNewEdit *known = now ? known_of(&edits, true, now) : NULL;
     /* What another program wrote may not be on the disk yet. */
     gboolean is_done = known && dconfdb_is_there(known, edits.edits->len) && settle_store(engine_store(self), NULL);
     if (!is_done) {
@@ -99,33 +136,41 @@ static DConfChangeset *take_waiting(Engine *self)
     return taken;
 }
 
-/* All of a set but what isn't made. */
-static DConfChangeset *without(DConfChangeset *taken, DConfChangeset *unmade)
+/* ---- what goes on waiting */
+
+/* What becomes of an edit that could not be written, beside what was asked for since: of each key it is as if each edit were a change. */
+static bool goes_on(const gchar *path, GHashTable *unmade, DConfChangeset *newer)
+{
+    bool is_newer = newer && dconf_changeset_get(newer, path, NULL);
+    return dconfdb_waiting_fate(false, g_hash_table_contains(unmade, path), 1, true, is_newer ? 2 : 0, true) == DCONFDB_FATE_WAITS;
+}
+
+/* What goes on waiting of a set, and all that was asked for since. */
+static DConfChangeset *merged(DConfChangeset *taken, GHashTable *unmade, DConfChangeset *newer)
 {
     const gchar *prefix, *const *paths;
     GVariant *const *values;
-    DConfChangeset *left = dconf_changeset_new();
+    DConfChangeset *waits = dconf_changeset_new();
     guint count = dconf_changeset_describe(taken, &prefix, &paths, &values);
     for (guint i = 0; i < count; i++) {
         g_autofree gchar *path = g_strconcat(prefix, paths[i], NULL);
-        if (!dconf_changeset_get(unmade, path, NULL))
-            dconf_changeset_set(left, path, values[i]);
+        if (goes_on(path, unmade, newer))
+            dconf_changeset_set(waits, path, values[i]);
     }
-    return left;
+    if (newer)
+        dconf_changeset_change(waits, newer);
+    return waits;
 }
 
 /* They wait again, before those that came since. */
-static void put_back(Engine *self, DConfChangeset *taken, DConfChangeset *refused)
+static void put_back(Engine *self, DConfChangeset *taken, GHashTable *unmade)
 {
-    DConfChangeset *merged = without(taken, refused);
     g_mutex_lock(&self->lock);
-    if (self->waiting) {
-        dconf_changeset_change(merged, self->waiting);
-        dconf_changeset_unref(self->waiting);
-    }
-    self->waiting = merged;
+    DConfChangeset *newer = self->waiting;
+    self->waiting = merged(taken, unmade, newer);
     self->writing = self->flying = NULL;
     g_mutex_unlock(&self->lock);
+    g_clear_pointer(&newer, dconf_changeset_unref);
     dconf_changeset_unref(taken);
 }
 
@@ -148,6 +193,18 @@ static void end_flying(Engine *self)
     g_mutex_unlock(&self->lock);
 }
 
+/* That these paths are what they were. */
+static void tell_unmade(Engine *self, GHashTable *unmade)
+{
+    GHashTableIter at;
+    gpointer path;
+    g_autoptr(DConfChangeset) changes = dconf_changeset_new();
+    g_hash_table_iter_init(&at, unmade);
+    while (g_hash_table_iter_next(&at, &path, NULL))
+        dconf_changeset_set(changes, path, NULL);
+    notice_changed(self, changes, NULL, FALSE);
+}
+
 /* False: it could not be written, by no fault of its own, and goes on waiting. What is refused is taken back. */
 gboolean write_waiting(Engine *self, DconfdbError *fault)
 {
@@ -155,7 +212,7 @@ gboolean write_waiting(Engine *self, DconfdbError *fault)
     if (!taken)
         return TRUE;
     DconfdbError refusal = DCONFDB_ERROR_INIT;
-    g_autoptr(DConfChangeset) unmade = dconf_changeset_new();
+    g_autoptr(GHashTable) unmade = g_hash_table_new_full(g_str_hash, g_str_equal, g_free, NULL);
     gboolean is_done = put_waiting(self, taken, unmade, &refusal, fault);
     if (refusal.code != DCONFDB_ERROR_NONE)
         g_warning("failed to commit changes to dconf: %s", refusal.text);
@@ -168,6 +225,6 @@ gboolean write_waiting(Engine *self, DconfdbError *fault)
         put_back(self, taken, unmade);
         warn_of_waiting(self, fault);
     }
-    notice_changed(self, unmade, NULL, FALSE);
+    tell_unmade(self, unmade);
     return is_done;
 }

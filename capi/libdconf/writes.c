@@ -9,7 +9,7 @@ enum { LONGEST_WAIT = 10000 };
 
 /* ---- refusals */
 
-static gboolean refuse_locked(GError **error)
+gboolean refuse_locked(GError **error)
 {
     g_set_error_literal(error, DCONF_ERROR, DCONF_ERROR_NOT_WRITABLE,
                         "The operation attempted to modify one or more non-writable keys");
@@ -24,15 +24,10 @@ static gboolean refuse(const DconfdbError *fault, GError **error)
     return FALSE;
 }
 
-/* Whether all that is set may be; a reset may always, as dconf has it. */
-gboolean may_change(Engine *self, const DconfdbSnapshot *now, const Edits *edits, GError **error)
+/* Whether all that is set may be. A reset that may not does nothing, as dconf has it. */
+static gboolean may_change(Engine *self, const DconfdbSnapshot *now, const Edits *edits, GError **error)
 {
-    g_autofree DconfdbNewEdit *known = g_new0(DconfdbNewEdit, edits->edits->len);
-    for (guint at = 0; at < edits->edits->len; at++) {
-        const DconfdbEdit *edit = edit_at(edits, at);
-        known[at].sets = edit->type != NULL;
-        known[at].may = !edit->type || engine_is_writable(self, now, edit->path);
-    }
+    g_autofree DconfdbNewEdit *known = known_of(edits, engine_has_user(self), now);
     return dconfdb_entry(known, edits->edits->len) != DCONFDB_ENTRY_REFUSED || refuse_locked(error);
 }
 
@@ -101,8 +96,8 @@ static gchar *new_tag(void)
 static gboolean put_news(Engine *self, DConfChangeset *changes, Edits *edits, const DconfdbSnapshot *now, DConfChangeset **told,
                          DconfdbError *fault)
 {
-    g_autofree DconfdbNewEdit *known = known_of(edits, now);
     bool has_user = engine_has_user(self);
+    g_autofree DconfdbNewEdit *known = known_of(edits, has_user, now);
     /* What another program wrote may not be on the disk yet. */
     bool are_there = has_user && dconfdb_is_there(known, edits->edits->len) && settle_store(engine_store(self), NULL);
     *told = effective(edits, known, changes);

@@ -23,19 +23,24 @@ static inline const DconfdbEdit *edit_at(const Edits *self, guint at)
 Edits edits_of(DConfChangeset *changes);
 void edits_clear(Edits *self);
 
-/* What is known of each edit, to be freed: the reset of a locked key does nothing, and the user has what it says or not. */
-DconfdbNewEdit *known_of(const Edits *self, const DconfdbSnapshot *now);
+/* What is known of an edit by whether it may be made: there is a user's database, and the newest snapshot, or NULL, has no lock of it. */
+DconfdbNewEdit known_by_rights(const DconfdbEdit *edit, bool has_user, const DconfdbSnapshot *now);
+
+/* The same of each edit, to be freed, and whether the user has what it says. */
+DconfdbNewEdit *known_of(const Edits *self, bool has_user, const DconfdbSnapshot *now);
 
 /* The changes of which the user has something else. */
 DConfChangeset *effective(const Edits *self, const DconfdbNewEdit *known, DConfChangeset *changes);
 
-/* Keeps those that may be made. */
+/* Keeps those that may be made, and what sets a key that may not: that is refused. */
 void leave_out(Edits *self, const DconfdbNewEdit *known);
 
-/* ---- how they are written (writes.c); but for the first, `turn` is held */
+/* ---- how they are written (writes.c) */
 
-/* Whether all that is set may be; a reset may always, as dconf has it. */
-gboolean may_change(Engine *self, const DconfdbSnapshot *now, const Edits *edits, GError **error);
+/* False, and that a key may not be written. */
+gboolean refuse_locked(GError **error);
+
+/* `turn` is held by who calls these. */
 void set_writing(Engine *self, DConfChangeset *changes);
 
 /* Waits for the turn to write, before anybody who reads is kept from the files. False: that fault. */

@@ -191,6 +191,23 @@ def whole(both, driver):
     same('a change of a key that is locked meanwhile, on stderr', err.count('failed to commit changes to dconf: '), 1)
 
 
+def overtaken(both, driver):
+    """Others set a key while a client that changed it can't write: theirs stays, and is told, though the reset of a directory waits, too, which is made
+    whenever it was asked for, and with it all of its change."""
+    store = both.folder / 'unwritable'
+    subprocess.run(['rm', '-rf', store], check=True)
+    store.mkdir()
+    env = both.environment('ours') | {'DCONFDB_STORE': str(store)}
+    with subprocess.Popen([driver], env=env, stdin=subprocess.PIPE, stdout=subprocess.PIPE, stderr=subprocess.PIPE, text=True) as program:
+        says(program, 'change sync /o/k=1 /o/l=1 /d/k=1 /e/k=1\nwrite sync /d/l 1\nstarve\n')
+        says(program, 'write fast /o/k 2\nchange fast /d/=- /o/m=2\nwrite fast /d/m 3\nchange fast /o/l=2 /o/n=2\n')
+        subprocess.run([driver], env=env, input='change sync /o/k=5 /o/l=5 /o/m=5 /d/l=5\n', stdout=subprocess.DEVNULL, text=True, timeout=60, check=True)
+        found = says(program, 'feed\nsync\nsettle 50\nread 0 /o/k\nread 0 /o/l\nread 0 /o/n\nread 0 /o/m\nlist /d/\nread 0 /d/m\nread 0 /e/k\n')
+        program.communicate(timeout=60)
+    wanted = ['  changed /o/ [k l n] NULL', '  5', '  5', '  NULL', '  2', '  1 m', '  3', '  1']
+    same('a key that others set while a directory\'s reset waits', found, wanted)
+
+
 def left(both, driver):
     """A client that goes while something waits: it is written all the same, if the program lives that long."""
     out, _ = asked(both, driver, 'write fast /u/k 1\nanew\nsettle 500\nread 2 /u/k\n', lambda store: None)
@@ -199,6 +216,6 @@ def left(both, driver):
 
 def main(both):
     driver = both.compiled('driver')
-    for part in (without_files, without_room, full, no_user, damaged, held, locked_meanwhile, whole, left):
+    for part in (without_files, without_room, full, no_user, damaged, held, locked_meanwhile, whole, overtaken, left):
         part(both, driver)
     return 'stores that can\'t be written, have no user, are damaged or held: the right errors, warnings and signals'

@@ -16,7 +16,8 @@ static const FolderLock lock = {3, 4, NULL};
 static DconfdbEdit edits[QUEUE_EDITS];
 static Batch batch;
 static Turn turn;
-static unsigned had, writes, asks;
+static unsigned had, writes, asks, answers;
+static bool is_left, may_be;
 static DconfdbError written;
 static bool is_written, is_closed;
 
@@ -63,7 +64,7 @@ static void are_taken(size_t count)
 {
     size_t first = any_bool() ? 1 : 0;
     batch = batch_new(count);
-    CHECK(batch.count == 0 && batch.taken == 0 && batch.is_timed && !batch.is_closed, "answer: it begins with nothing");
+    CHECK(batch.count == 0 && batch.taken == 0 && !batch.is_closed, "answer: it begins with nothing");
     has_room(count);
     fill(count);
     for (size_t i = 0; i < count; i++) {
@@ -109,7 +110,17 @@ bool dconfdb_snapshot_is_writable(const DconfdbSnapshot *snapshot, const char *p
     CHECK(snapshot == now && had > 0, "memory: the snapshot is had");
     CHECK(path == edits[0].path, "step: what is asked is whether the edit's key may be written");
     asks++;
-    return any_bool();
+    return is_left = any_bool();
+}
+
+/* ---- a proved call: any answer */
+
+bool dconfdb_may_be_made(const uint8_t *path, size_t len, bool sets, bool is_open, bool may_write)
+{
+    CHECK((const char *)path == edits[0].path && len == 2 && sets == (edits[0].type != NULL), "step: what is asked is whether the edit may be made");
+    CHECK(is_open == !batch.is_closed && may_write == is_left, "step: by whether somebody may write there, and the key may be written");
+    answers++;
+    return may_be = any_bool();
 }
 
 static bool fails(DconfdbError *fault)
@@ -136,7 +147,7 @@ bool locked_change(DconfdbStore *at, const FolderLock *by, const DconfdbEdit *as
 {
     CHECK(at == store && by == turn.lock && turn.fault == 0, "order: nothing is written without the lock");
     CHECK(asked == batch.asked && count == was_taken && count > 0, "step: those are written that were taken since the last write");
-    CHECK(made == (batch.is_timed ? batch.made : NULL), "step: with their moments, but where all count as set now");
+    CHECK(made == batch.made, "step: with their moments");
     writes++;
     is_written = any_bool();
     return is_written || fails(error);
@@ -171,7 +182,7 @@ static Made made_room[QUEUE_EDITS];
 
 static void set_up(void)
 {
-    batch = (Batch){.count = any_size(), .taken = any_size(), .is_timed = any_bool(), .is_closed = any_bool(), .queued = queued, .edits = edits_at,
+    batch = (Batch){.count = any_size(), .taken = any_size(), .is_closed = any_bool(), .queued = queued, .edits = edits_at,
                     .asked = asked_room, .numbers = numbers, .made = made_room};
     GIVEN(batch.count <= QUEUE_EDITS && batch.taken <= batch.count);
     for (size_t i = 0; i < QUEUE_EDITS; i++) {
@@ -216,16 +227,11 @@ int batch_ask(void)
 {
     static char key[3] = "/a";
     set_up();
-    if (any_bool())
-        key[1] = '/';
     edits[0].path = key;
-    bool is_folder = key[1] == '/';
     uint32_t answer = real_ask(&batch, store, 0);
     CHECK(had == 0, "memory: the snapshot is given back");
-    CHECK(asks == (unsigned)(!batch.is_closed && !is_folder), "step: a key is asked of; no lock keeps a directory from being reset");
-    CHECK(answer == DCONFDB_QUEUE_YES || answer == DCONFDB_QUEUE_LOCKED, "answer: it may be written, or not");
-    CHECK(!batch.is_closed || answer == DCONFDB_QUEUE_LOCKED, "answer: where nobody may write no key may be written");
-    CHECK(batch.is_closed || !is_folder || answer == DCONFDB_QUEUE_YES, "answer: a directory may be reset");
+    CHECK(asks == 1 && answers == 1, "step: it is asked once");
+    CHECK(answer == (may_be ? DCONFDB_QUEUE_YES : DCONFDB_QUEUE_LOCKED), "answer: it may be made, or is locked");
     if (answer == DCONFDB_QUEUE_LOCKED && !batch.is_closed)
         REACHED("a locked key");
     return 0;

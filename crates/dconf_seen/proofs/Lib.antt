@@ -1,2 +1,4 @@
 pub mod SeenLaws
 pub mod CoveringLaws
+pub mod ReadingLaws
+pub mod AllowedLaws

@@ -1,2 +1,4 @@
 pub mod Waiting
 pub mod Covering
+pub mod Reading
+pub mod Allowed

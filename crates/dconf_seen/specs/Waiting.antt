@@ -99,16 +99,6 @@ own_found Edited l _ path = None
 
 -- ---- in numbers
 
-abbrev pub shown_number : Shown → ℕ
-shown_number Stored = 0
-shown_number Default = 1
-shown_number Edit = 2
-
-abbrev pub own_number : Own → ℕ
-own_number First = 0
-own_number Nothing = 1
-own_number Edited = 2
-
 abbrev pub word_numbered : Bool → Bool → Word
 word_numbered waits set = if waits then (if set then Sets else Unset) else Silent
 

@@ -1,6 +1,6 @@
 //! Where the value of a key is found while an edit of it may wait.
 ghost use Rattle.std.specs.Prelude.{◌≡◌};
-ghost use Rattle.dconf_seen.specs.Waiting.{own_by, own_number, past, shown_as, shown_by, shown_number, word_numbered};
+ghost use Rattle.dconf_seen.specs.Waiting.{own_by, past, shown_as, shown_by, word_numbered};
 
 /// What the newest edit says that waits of a key.
 #[derive(Clone, Copy, Debug, PartialEq, Eq)]
@@ -65,28 +65,6 @@ fn past(shown: Shown, edit_fits: bool, stored_fits: bool) -> Shown
     }
 }
 
-/// The same in numbers: 0 as it is stored, 1 without the user's value, 2 in the edit.
-pub fn shown_number(
-    waits: bool,
-    sets: bool,
-    may_write: bool,
-    edit_fits: bool,
-    stored_fits: bool,
-) -> u32
-    ensures { result ≡ shown_number (shown_as (word_numbered waits sets) may_write edit_fits stored_fits) }
-{
-    match shown_as(
-        word_numbered(waits, sets),
-        may_write,
-        edit_fits,
-        stored_fits,
-    ) {
-        Shown::Stored => 0,
-        Shown::Default => 1,
-        Shown::Edit => 2,
-    }
-}
-
 /// Where the user's own value is found, locked or not: by the newest edit that waits, and by whether there is a user's database.
 pub fn own_by(word: Word, writable: bool) -> Own
     ensures { result ≡ own_by word writable }
@@ -98,18 +76,8 @@ pub fn own_by(word: Word, writable: bool) -> Own
     }
 }
 
-/// The same in numbers: 0 in the first database, 1 nowhere, 2 in the edit.
-pub fn own_number(waits: bool, sets: bool, writable: bool) -> u32
-    ensures { result ≡ own_number (own_by (word_numbered waits sets) writable) }
-{
-    match own_by(word_numbered(waits, sets), writable) {
-        Own::First => 0,
-        Own::Nothing => 1,
-        Own::Edited => 2,
-    }
-}
-
-fn word_numbered(waits: bool, sets: bool) -> Word
+/// The word of an edit of which it is known whether it waits, and whether it sets a value.
+pub(crate) fn word_numbered(waits: bool, sets: bool) -> Word
     ensures { result ≡ word_numbered waits sets }
 {
     match (waits, sets) {

@@ -16,7 +16,7 @@ use Rattle.dconf_times.proofs.NotedLaws.{one_note}
 -- ---- tests
 
 -- what is so of one that is among them is so of one of them
-any_of : (f : Note → Bool) (note : Note) (notes : List Note) → is_among note notes ≡ true → f note ≡ true → list_any f notes ≡ true
+pub any_of : (f : Note → Bool) (note : Note) (notes : List Note) → is_among note notes ≡ true → f note ≡ true → list_any f notes ≡ true
 any_of f note [] among is = absurd (no_truth among)
 any_of f note (n ∷ notes) among is = elim (or_cases (is_note note n) (is_among note notes) among) [
   | inl same ↦ or_left (f n) (list_any f notes) (subst (λ m. f m ≡ true) (one_note note n same) is)

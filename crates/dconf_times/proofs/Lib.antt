@@ -3,4 +3,5 @@ pub mod PutLaws
 pub mod TurnLaws
 pub mod LeavingLaws
 pub mod MomentLaws
+pub mod ResetLaws
 pub mod RoomLaws

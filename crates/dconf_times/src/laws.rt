@@ -1,6 +1,7 @@
 //! What comes of turns: no older set overwrites a newer one, and what is made together is made whole. Nothing is computed here.
 ghost use Rattle.dconf_times.specs.Leaving.{NoOlderWins};
 ghost use Rattle.dconf_times.specs.Moments.{MomentsAreTimed};
+ghost use Rattle.dconf_times.specs.Resets.{MomentsAreKept};
 ghost use Rattle.dconf_times.specs.Room.{NoneIsForgotten};
 ghost use Rattle.dconf_times.specs.Turns.{IsWhole, LatestStands, OneCounts};
 
@@ -37,4 +38,10 @@ pub fn moments_are_timed()
 /// Of what goes where notes are too many it is noted that it was set by then: nothing older wins.
 pub fn none_is_forgotten()
     ensures { NoneIsForgotten }
+{}
+
+/// A change that waits keeps the moment in which it was asked for, but if it has to do with a directory that is reset with it. That is reset
+/// in the turn, and what is set in it is no earlier.
+pub fn moments_are_kept()
+    ensures { MomentsAreKept }
 {}

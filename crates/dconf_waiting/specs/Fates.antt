@@ -17,3 +17,7 @@ fate_number Overtaken = 3
 -- both are alone in their changes, and the newest edit of the key is another one
 abbrev pub is_overtaken : WaitingEdit → WaitingEdit → Bool
 is_overtaken edit newest = edit.is_alone && newest.is_alone && nat_lt edit.number newest.number
+
+-- the edit of that number
+abbrev pub edit_with : ℕ → Bool → WaitingEdit
+edit_with number is_alone = record { number = number; is_alone = is_alone }

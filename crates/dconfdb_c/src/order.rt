@@ -4,6 +4,7 @@ ghost use Rattle.std.specs.List.{filter};
 ghost use Rattle.dconf_times.specs.Leaving.{is_late, is_left};
 ghost use Rattle.dconf_times.specs.Moments.{time_of_file, time_of_moment};
 ghost use Rattle.dconf_times.specs.Noted.{AreNoted};
+ghost use Rattle.dconf_times.specs.Resets.{moment_beside};
 ghost use Rattle.dconf_times.specs.Room.{AreNewest};
 ghost use Rattle.dconf_times.specs.Seeing.{is_unnoted, seen_of, stays_beside};
 ghost use Rattle.dconf_times.specs.Times.{note_of};
@@ -13,8 +14,8 @@ ghost use Rattle.dconfdb_calls.specs.Given.{HandsOut};
 
 use dconf_notes::{notes_read, notes_written};
 use dconf_times::{
-    DconfdbAsked, DconfdbSeen, DconfdbTime, leave_out, newest, note_made, note_seen, time_of_file,
-    time_of_moment,
+    DconfdbAsked, DconfdbSeen, DconfdbTime, leave_out, moment_beside, newest, note_made, note_seen,
+    time_of_file, time_of_moment,
 };
 use dconfdb_calls::{Fault, hand_out};
 use std::alloc::Global;
@@ -121,6 +122,16 @@ pub extern "C" fn dconfdb_newest_notes<'a>(
         }
         Err(_) => Fault::Memory.number(),
     }
+}
+
+/// The moment in which a change counts as made that was asked for in this one, beside all edits that wait, each
+/// with its moment; those of one moment are one change. It is the same, or the turn's, which is the last of all, if
+/// the change resets a directory, or sets something in one that is reset with it.
+#[unsafe(no_mangle)]
+pub extern "C" fn dconfdb_moment_beside(waiting: &[DconfdbTime<'_>], moment: u64) -> u64
+    ensures { result ≡ moment_beside (map note_of waiting.now) moment }
+{
+    moment_beside(waiting, moment)
 }
 
 /// The time of what was asked for in a moment, by a clock that nobody sets: it is `now` by the clock of

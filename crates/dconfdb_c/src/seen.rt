@@ -1,8 +1,10 @@
 //! What is seen of a key while an edit of it may wait, and which paths stand for which.
 ghost use Rattle.std.specs.Prelude.{◌≡◌, ◌≢◌, ℕ, List, false, true};
 ghost use Rattle.dconf_model.specs.Paths.{is_short, starts_with_slash};
+ghost use Rattle.dconf_seen.specs.Allowed.{may_be_made};
 ghost use Rattle.dconf_seen.specs.Covering.{meets};
-ghost use Rattle.dconf_seen.specs.Waiting.{may_write, own_by, own_number, shown_as, shown_number, word_numbered};
+ghost use Rattle.dconf_seen.specs.Reading.{found_by, found_number, known_word};
+ghost use Rattle.dconf_seen.specs.Waiting.{may_write};
 ghost use Rattle.dconf_texts.specs.Kinds.{kind_below, kind_number, kind_of};
 ghost use Rattle.dconf_told.specs.Relocking.{AreRelocked};
 ghost use Rattle.dconf_told.specs.Telling.{AreTold, before_in};
@@ -11,34 +13,33 @@ ghost use Rattle.dconfdb_calls.specs.Listed.{ended};
 ghost use Rattle.dconfdb_calls.specs.Seen.{layers_of};
 
 use dconf_layers::{Layer, LentLayers};
-use dconf_seen::{meets, own_number, shown_number};
+use dconf_seen::{Known, found_by, found_number, may_be_made, meets};
 use dconf_texts::{is_short, kind_below, kind_of, number_of_kind};
 use dconf_told::{DconfdbKeyAsked, may_write, relocked_texts, told_texts};
 use dconfdb_calls::{Fault, hand_out};
 use std::alloc::Global;
 
-/// Where what is seen of a key is found: 0 as it is stored, 1 without the user's value, 2 in the newest edit that waits of it. `waits`
-/// says whether one does, `sets` whether it sets a value, `may_write` whether the key may be written, and the others whether the edit's
-/// value is of the type that is asked for, and the one that is stored, if there is one.
+/// Where what is read of a key is found: 0 as it is stored, 1 without the user's value, 2 in the newest edit that waits of it, 3 in the
+/// first database, 4 nowhere. The setting is read, or the user's own value (`of_user`), or what there is without that (`of_default`).
 #[unsafe(no_mangle)]
-pub extern "C" fn dconfdb_shown(
-    waits: bool,
-    sets: bool,
-    may_write: bool,
-    edit_fits: bool,
-    stored_fits: bool,
-) -> u32
-    ensures { result ≡ shown_number (shown_as (word_numbered waits sets) may_write edit_fits stored_fits) }
+pub extern "C" fn dconfdb_found(of_user: bool, of_default: bool, known: &Known) -> u32
+    ensures { result ≡ found_number (found_by of_user of_default (known_word known.now) known.now.writable known.now.may_write known.now.edit_fits known.now.stored_fits) }
 {
-    shown_number(waits, sets, may_write, edit_fits, stored_fits)
+    found_number(found_by(of_user, of_default, *known))
 }
 
-/// Where the user's own value is found, locked or not: 0 in the first database, 1 nowhere, 2 in the newest edit that waits.
+/// Whether an edit may be made: somebody may write in the user's database (`is_open`), and the path may be written, or it is a directory's
+/// that is reset.
 #[unsafe(no_mangle)]
-pub extern "C" fn dconfdb_own(waits: bool, sets: bool, writable: bool) -> u32
-    ensures { result ≡ own_number (own_by (word_numbered waits sets) writable) }
+pub extern "C" fn dconfdb_may_be_made(
+    path: &[u8],
+    sets: bool,
+    is_open: bool,
+    may_write: bool,
+) -> bool
+    ensures { result ≡ may_be_made path.now sets is_open may_write }
 {
-    own_number(waits, sets, writable)
+    may_be_made(path, sets, is_open, may_write)
 }
 
 /// The paths of the keys that are seen otherwise than before: of those that are asked for by themselves, and of all others by what the

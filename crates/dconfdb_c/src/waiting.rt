@@ -2,7 +2,7 @@
 //! long it is waited for.
 ghost use Rattle.std.specs.Prelude.{◌≡◌, ◌≤◌, ◌<◌, ◌+◌, ◌⊎◌, ◌↔◌, IsTrue, false};
 ghost use Rattle.dconf_waiting.specs.Newest.{IsPut, found};
-ghost use Rattle.dconf_waiting.specs.Fates.{fate_number, fate_of, is_overtaken};
+ghost use Rattle.dconf_waiting.specs.Fates.{edit_with, fate_number, fate_of, is_overtaken};
 ghost use Rattle.dconf_waiting.specs.Patiences.{IsRenewed, longest, patience_from};
 
 use dconf_waiting::{
@@ -26,34 +26,25 @@ pub extern "C" fn dconfdb_newest_put(newest: &mut [usize], key: usize, number: u
     put(newest, key, number)
 }
 
-/// Whether an edit's change needs no write, beside the newest edit of its key, by their numbers: both are
-/// alone in their changes.
+/// What becomes of a change when it was tried to write all that waits: 0 it waits, 1 it is written,
+/// 2 refused, 3 overtaken by the newest edit of its key that goes on waiting, by their numbers: both are alone
+/// in their changes.
 #[unsafe(no_mangle)]
-pub extern "C" fn dconfdb_waiting_is_overtaken(
+pub extern "C" fn dconfdb_waiting_fate(
+    is_written: bool,
+    is_refused: bool,
     number: usize,
     is_alone: bool,
     newest: usize,
     newest_is_alone: bool,
-) -> bool
-    ensures { IsTrue result ↔ (IsTrue is_alone × IsTrue newest_is_alone × (number < newest)) }
+) -> u32
+    ensures { result ≡ fate_number (fate_of is_written is_refused (is_overtaken (edit_with number is_alone) (edit_with newest newest_is_alone))) }
 {
     let newest = WaitingEdit {
         number: newest,
         is_alone: newest_is_alone,
     };
-    is_overtaken(WaitingEdit { number, is_alone }, newest)
-}
-
-/// What becomes of a change when it was tried to write all that waits: 0 it waits, 1 it is written,
-/// 2 refused, 3 overtaken.
-#[unsafe(no_mangle)]
-pub extern "C" fn dconfdb_waiting_fate(
-    is_written: bool,
-    is_refused: bool,
-    is_overtaken: bool,
-) -> u32
-    ensures { result ≡ fate_number (fate_of is_written is_refused is_overtaken) }
-{
+    let is_overtaken = is_overtaken(WaitingEdit { number, is_alone }, newest);
     fate_number(is_written, is_refused, is_overtaken)
 }
 

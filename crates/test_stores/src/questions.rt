@@ -8,7 +8,7 @@ use crate::places::{filed, placed, stepped};
 use crate::tables::{alike, item_shown, searched};
 use crate::texts::lines::{keyfile_shown, kind_shown, locks_shown};
 use crate::texts::paths::path_read;
-use crate::times::{kept, noted, overtaken};
+use crate::times::{counted, kept, noted, overtaken};
 use crate::turns::steps_shown;
 use std::alloc::Global;
 use std::test::Fail;
@@ -17,6 +17,7 @@ use test_rows::{Question, bytes_of};
 /// What a table asks of its texts.
 #[derive(Clone, Copy)]
 pub(crate) enum TableOf {
+    Counted,
     Crash,
     Filed,
     Kept,
@@ -36,6 +37,7 @@ pub(crate) enum TableOf {
 impl Question for TableOf {
     fn answer(&mut self, alloc: Global, asked: &str, found: &mut String) -> Result<(), Fail> {
         let shown = match *self {
+            TableOf::Counted => counted(asked, found),
             TableOf::Crash => crashed(alloc, asked, found),
             TableOf::Filed => filed(alloc, asked, found),
             TableOf::Kept => kept(alloc, asked, found),

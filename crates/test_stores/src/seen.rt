@@ -1,7 +1,10 @@
 //! What is seen while edits wait, and who is told of what: over a first layer that has 5 at `/k`, and a second that has the same and locks it.
 use crate::calls::layer;
 use dconf_layers::{Layer, LentLayers};
-use dconf_seen::{Own, Shown, Word, covers, meets, own_by, own_number, shown_as, shown_number};
+use dconf_seen::{
+    Found, Known, Own, Shown, Word, covers, found_by, found_number, may_be_made, meets, own_by,
+    shown_as,
+};
 use dconf_texts::{PathKind, is_short, kind_below, kind_of, number_of_kind};
 use dconf_told::{
     DconfdbKeyAsked, DconfdbView, DconfdbWaits, are_seen_alike, may_write, relocked,
@@ -144,12 +147,41 @@ fn are_found() -> bool {
         && shown_as(Word::Sets, false, true, true) == Shown::Stored
         && shown_as(Word::Unset, true, true, true) == Shown::Default
         && shown_as(Word::Silent, true, true, false) == Shown::Default
-        && shown_number(true, true, true, true, true) == 2
         && own_by(Word::Silent, true) == Own::First
         && own_by(Word::Unset, true) == Own::Nothing
         && own_by(Word::Sets, true) == Own::Edited
         && own_by(Word::Sets, false) == Own::Nothing
-        && own_number(false, false, true) == 0
+}
+
+/// Of a key of which an edit waits that sets a value, and that may be written or not.
+fn known(may_write: bool) -> Known {
+    Known {
+        waits: true,
+        sets: true,
+        writable: true,
+        may_write,
+        edit_fits: true,
+        stored_fits: true,
+    }
+}
+
+/// Whether what is read is found by what is asked for.
+fn are_read() -> bool {
+    found_by(false, false, known(true)) == Found::InEdit
+        && found_by(false, false, known(false)) == Found::InDatabases
+        && found_by(true, false, known(false)) == Found::InEdit
+        && found_by(false, true, known(true)) == Found::WithoutUser
+        && found_by(true, true, known(true)) == Found::Nowhere
+        && found_number(Found::InFirst) == 3
+}
+
+/// Whether a lock keeps all but the reset of a directory from being made, and a closed database all.
+fn are_allowed() -> bool {
+    may_be_made(b"/a/", false, true, false)
+        && !may_be_made(b"/a", false, true, false)
+        && !may_be_made(b"/a", true, true, false)
+        && may_be_made(b"/a", true, true, true)
+        && !may_be_made(b"/a/", false, false, true)
 }
 
 fn are_covered() -> bool {
@@ -187,6 +219,6 @@ fn who_listens_is_told(rt: HostRuntime) -> Result<(), Fail> {
 
 #[test]
 fn what_is_seen_is_found(rt: HostRuntime) -> Result<(), Fail> {
-    assert!(rt; are_found() && are_covered() && are_kinds());
+    assert!(rt; are_found() && are_read() && are_allowed() && are_covered() && are_kinds());
     Ok(())
 }

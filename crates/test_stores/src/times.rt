@@ -1,6 +1,6 @@
 //! Which edits are overtaken, what is noted of the times of sets, and what is kept of it in a file.
 use dconf_notes::{notes_read, notes_written};
-use dconf_times::{DconfdbTime, is_overtaken, note_times};
+use dconf_times::{DconfdbTime, is_overtaken, moment_beside, note_times};
 use std::alloc::{AllocError, Global};
 use std::fmt::Write;
 use test_rows::number;
@@ -39,6 +39,28 @@ pub(crate) const OVERTAKEN: &str = "
 /bk 6 9 | false
 /c/d/k 2 9 | true
 /c/d/k 3 9 | false
+";
+
+/// The moment of a change beside all that wait, among them the reset of `/b/`.
+pub(crate) fn counted(asked: &str, found: &mut String) -> Result<(), AllocError> {
+    let waiting = [
+        time_of("/a/k=5"),
+        time_of("/b/=7"),
+        time_of("/c=7"),
+        time_of("/b/k=8"),
+        time_of("/bk=9"),
+    ];
+    match moment_beside(&waiting, u64::from(number(asked))) {
+        u64::MAX => write!(found, "now"),
+        moment => write!(found, "{moment}"),
+    }
+}
+
+pub(crate) const COUNTED: &str = "
+5 | 5
+7 | now
+8 | now
+9 | 9
 ";
 
 /// The times of a text, as `/a/k=5 /b/=7`.
