@@ -68,11 +68,20 @@ bool asking_is_as_expected(const DconfdbSnapshot *now, const Asking *asking, Dco
 
 /* ---- what others changed */
 
-/* What differs between two files, or NULL. */
-static Seen *what_differs(const DconfdbSnapshot *before, const DconfdbSnapshot *after)
+/* When it was changed: by the file that was left, or, where that went, by the folder, in which its name went. */
+static FileState left_of(const DconfdbStore *store, const FileState *file)
+{
+    FileState left = *file;
+    if (!left.is_there && file_look(store->place.folder, &left) == 0)
+        left.is_there = false;
+    return left;
+}
+
+/* What differs between two files, or NULL. One that went has nothing of what it had. */
+static Seen *what_differs(const DconfdbStore *store, const DconfdbSnapshot *before, const DconfdbSnapshot *after)
 {
     bool are_users = before->is_writable && after->is_writable && before->count > 0 && after->count > 0;
-    if (!are_users || before->parts[0] == after->parts[0] || !after->parts[0]->state.is_there)
+    if (!are_users || before->parts[0] == after->parts[0])
         return NULL;
     Seen *seen = malloc(sizeof *seen);
     char *paths = snapshot_own_differences(after, before);
@@ -81,13 +90,13 @@ static Seen *what_differs(const DconfdbSnapshot *before, const DconfdbSnapshot *
         free(paths);
         return NULL;
     }
-    *seen = (Seen){NULL, after->parts[0]->state, paths};
+    *seen = (Seen){NULL, left_of(store, &after->parts[0]->state), paths};
     return seen;
 }
 
 static void heed(DconfdbStore *store, const DconfdbSnapshot *before, const DconfdbSnapshot *after)
 {
-    Seen *seen = what_differs(before, after);
+    Seen *seen = what_differs(store, before, after);
     if (seen) {
         seen->next = store->seen;
         store->seen = seen;
