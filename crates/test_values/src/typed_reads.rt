@@ -12,13 +12,17 @@ fn head<'a>(part: Option<DconfdbPart<'a>>) -> Option<(&'a str, u8)> {
     Some((str::from_utf8(part.type_text).ok()?, *part.value.first()?))
 }
 
-/// Pushes the children at these indices, asked for one after the other, and how many of the first are known to be in order by then.
+/// Pushes the children at three indices, asked for one after the other, and how many of the first are known to be in order by then.
 fn push_walk(to: &mut String, indices: &str, of: &[u8], bytes: &[u8]) -> Result<(), Fail> {
+    let (first, others) = indices.split_once(' ').unwrap_or((indices, ""));
+    let (second, third) = others.split_once(' ').unwrap_or((others, ""));
     let mut passed = 0;
-    for index in indices.split(' ') {
-        let found = head(child(of, bytes, index.parse()?, &mut passed));
-        write!(to, "{:?} {};", found, passed)?;
-    }
+    let found = head(child(of, bytes, first.parse()?, &mut passed));
+    write!(to, "{:?} {};", found, passed)?;
+    let found = head(child(of, bytes, second.parse()?, &mut passed));
+    write!(to, "{:?} {};", found, passed)?;
+    let found = head(child(of, bytes, third.parse()?, &mut passed));
+    write!(to, "{:?} {};", found, passed)?;
     Ok(())
 }
 
@@ -72,14 +76,14 @@ const TYPED: &str = r#"
     children: yq 07 00 09 00 | 0
     children: i 07 00 09 00 | 0
     child 0 1 2: (yq) 07 00 09 00 | Some(("y", 7)) 0;Some(("q", 9)) 0;None 0;
-    child 0:  07 00 09 00 | None 0;
-    child 0: v 05 00 'y' | Some(("y", 5)) 0;
+    child 0 1 2:  07 00 09 00 | None 0;None 0;None 0;
+    child 0 1 0: v 05 00 'y' | Some(("y", 5)) 0;None 0;Some(("y", 5)) 0;
     child 1 0 2: ay 05 06 | Some(("y", 6)) 0;Some(("y", 5)) 0;None 0;
-    child 0 1 2 3: as 'one' 00 'two' 00 'six' 00 04 08 0c | Some(("s", 111)) 1;Some(("s", 116)) 2;Some(("s", 115)) 3;None 3;
-    child 2 0 1: as 'one' 00 'two' 00 'six' 00 04 08 0c | Some(("s", 115)) 3;Some(("s", 111)) 3;Some(("s", 116)) 3;
+    child 0 1 2: as 'one' 00 'two' 00 'six' 00 04 08 0c | Some(("s", 111)) 1;Some(("s", 116)) 2;Some(("s", 115)) 3;
+    child 2 0 3: as 'one' 00 'two' 00 'six' 00 04 08 0c | Some(("s", 115)) 3;Some(("s", 111)) 3;None 3;
     child 2 1 0: as 'one' 00 'two' 00 'six' 00 04 03 0c | None 1;None 1;Some(("s", 111)) 1;
     child 0 2 1: as 'one' 00 'two' 00 'six' 00 0d 08 0c | None 0;None 0;None 0;
-    child 0: as 'one' 00 05 | None 0;
+    child 0 1 2: as 'one' 00 05 | None 0;None 0;None 0;
     key a: a{sy} 'a' 00 01 02 'b' 00 02 02 'a' 00 03 02 04 08 0c | Some(("y", 1))
     key b: a{sy} 'a' 00 01 02 'b' 00 02 02 'a' 00 03 02 04 08 0c | Some(("y", 2))
     key c: a{sy} 'a' 00 01 02 'b' 00 02 02 'a' 00 03 02 04 08 0c | None
