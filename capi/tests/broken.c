@@ -11,6 +11,7 @@
 #include <signal.h>
 #include <stdatomic.h>
 #include <stdint.h>
+#include <sys/stat.h>
 #include <sys/time.h>
 #include <sys/wait.h>
 #include <unistd.h>
@@ -309,10 +310,14 @@ static void walked_by_two(void)
 
 static void written_over(void)
 {
-    char zeros[4096] = {0};
+    static const char zeros[1 << 16];
+    struct stat state;
     reads_sites();
     int file = open("site.db", O_WRONLY);
-    TRY(file >= 0 && write(file, zeros, sizeof zeros) == (ssize_t)sizeof zeros && close(file) == 0);
+    TRY(file >= 0 && fstat(file, &state) == 0);
+    for (off_t done = 0; done < state.st_size; done += (off_t)sizeof zeros)
+        TRY(write(file, zeros, sizeof zeros) == (ssize_t)sizeof zeros);
+    TRY(close(file) == 0);
     TRY(!is_text(&value, "desk"));
 }
 
