@@ -6,3 +6,4 @@ pub mod PathEntries
 pub mod ListingLaws
 pub mod OrderLaws
 pub mod OpenArrayLaws
+pub mod TextLists

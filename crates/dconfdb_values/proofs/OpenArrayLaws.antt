@@ -10,7 +10,7 @@ use Rattle.gv_model.specs.Decode.{body, cut, decode, spans}
 use Rattle.gv_model.specs.Tree.{children, tree_at}
 use Rattle.gv_model.proofs.ChildLaws.{child_of_value}
 use Rattle.gv_model.proofs.LayoutLaws.{bounds_within}
-use Rattle.gv_types.specs.TypeStr.{ty}
+use Rattle.gv_model.specs.TypeText.{type_at}
 use Rattle.dconfdb_values.specs.OpenArrays.{AreElements, IsFramed, IsPlaced, ends_of, spans_of}
 use Rattle.dconfdb_values.specs.declared.open_array.OpenArray.{OpenArray}
 use Rattle.dconfdb_values.specs.declared.open_array.Reached.{Reached}
@@ -40,17 +40,17 @@ cut_at t b a k h =
 
 -- the child that lies there
 abbrev pub reached_child : OpenArray → Reached → Child
-reached_child a r = record { type = ty a.element; from = r.from; to = r.to }
+reached_child a r = record { type = type_at a.element.now; from = r.from; to = r.to }
 
-span_of : (a : OpenArray) (k : ℕ) → k < a.count → (s : Span) × (slice_get (spans_of a) k ≡ Some (ty a.element, s))
-span_of a k lt = (_, span_at (ty a.element) 0 (ends_of a) k _ (number_at a.width a.count a.offsets.now k lt))
+span_of : (a : OpenArray) (k : ℕ) → k < a.count → (s : Span) × (slice_get (spans_of a) k ≡ Some (type_at a.element.now, s))
+span_of a k lt = (_, span_at (type_at a.element.now) 0 (ends_of a) k _ (number_at a.width a.count a.offsets.now k lt))
 
 pub child_placed : (t : Ty) (b : List ℕ) (a : OpenArray) (k : ℕ) (r : Reached) → IsFramed t b a → k < a.count → IsPlaced a k r
     → slice_get (cut t b) k ≡ Some (reached_child a r)
 child_placed t b a k r h lt (inl p) =
     cut_at t b a k h
     ∙ (ap (option_map (child_at (length b))) (placed (Some a.body) (spans_of a) k (omega (arith, p.passed)) ∙ p.lies)
-    ∙ ap (λ (s : ℕ × ℕ). Some (child (ty a.element) s)) (bounds_within (length b) r.from r.to p.begins (omega (arith, p.ends, h.within))))
+    ∙ ap (λ (s : ℕ × ℕ). Some (child (type_at a.element.now) s)) (bounds_within (length b) r.from r.to p.begins (omega (arith, p.ends, h.within))))
   where
     child : Ty → ℕ × ℕ → Child
     child u s = record { type = u; from = s.0; to = s.1 }
@@ -58,11 +58,11 @@ child_placed t b a k r h lt (inr p) =
     let at = span_of a k lt in
     cut_at t b a k h
     ∙ (ap (option_map (child_at (length b))) (unplaced (Some a.body) (spans_of a) k p.0 ∙ ap (option_map nowhere) at.1)
-    ∙ ap₂ (λ x y. Some (record { type = ty a.element; from = x; to = y })) (sym p.1.0) (sym p.1.1))
+    ∙ ap₂ (λ x y. Some (record { type = type_at a.element.now; from = x; to = y })) (sym p.1.0) (sym p.1.1))
 
 pub no_child : (t : Ty) (b : List ℕ) (a : OpenArray) (k : ℕ) → IsFramed t b a → a.count ≤ k → slice_get (cut t b) k ≡ None
 no_child t b a k h le =
-    let all : length (spans_of a) ≤ k = omega (arith, le, as_many (ty a.element) 0 a.width a.count a.offsets.now) in
+    let all : length (spans_of a) ≤ k = omega (arith, le, as_many (type_at a.element.now) 0 a.width a.count a.offsets.now) in
     let some = in_order_within (Some a.body) (spans_of a) in
     cut_at t b a k h
     ∙ ap (option_map (child_at (length b)))
@@ -76,7 +76,7 @@ framed_alike t u b d a e same h = subst (λ x. IsFramed u x a) same (subst (λ s
 pub none_at : (t : Ty) (b : List ℕ) (a : OpenArray) (k : ℕ) → IsFramed t b a → a.count ≤ k → None ≡ tree_at (children (decode t b)) k
 none_at t b a k h le = sym (child_of_value t b k ∙ ap (option_map (λ c. decode c.type (child_bytes b c))) (no_child t b a k h le))
 
-pub value_at : (t u : Ty) (b d : List ℕ) (a : OpenArray) (k : ℕ) (r : Reached) → IsFramed t b a → k < a.count → IsPlaced a k r → u ≡ ty a.element
+pub value_at : (t u : Ty) (b d : List ℕ) (a : OpenArray) (k : ℕ) (r : Reached) → IsFramed t b a → k < a.count → IsPlaced a k r → u ≡ type_at a.element.now
     → d ≡ child_bytes b (reached_child a r) → Some (decode u d) ≡ tree_at (children (decode t b)) k
 value_at t u b d a k r h lt p typed same =
     ap₂ (λ s c. Some (decode s c)) typed same

@@ -1,23 +1,28 @@
 //! Arrays whose elements have no fixed size: framing offsets say where each ends (GVariant Specification, "Arrays"),
 //! and from the first on that is out of order none lies anywhere.
-ghost use Rattle.std.specs.Prelude.{◌≡◌, ◌≤◌, ◌<◌, ◌+◌, ◌*◌, ◌^◌, ◌⊎◌, IfNone, IfSome, Some, length, slice_get};
-ghost use Rattle.gv_types.specs.TypeStr.{ty};
+ghost use Rattle.std.specs.Prelude.{◌≡◌, ◌≤◌, ◌<◌, ◌+◌, ◌*◌, ◌^◌, ◌⊎◌, ◌↔◌, IfNone, IfSome, IsTrue, Some, length, slice_get};
+ghost use Rattle.gv_model.specs.Layout.{alignment};
+ghost use Rattle.gv_model.specs.Ty.{spelling};
+ghost use Rattle.gv_model.specs.TypeText.{type_at};
 ghost use Rattle.gv_view.specs.Views.{view_bytes, view_ty};
 
-use gv_layout::{aligned_after, fixed_size, number, offset_width};
-use gv_types::{Class, TypeStr};
+use gv_layout::{alignment, fixed_size, number, offset_width, round_up};
+use gv_types::Class;
 use gv_view::View;
 
 /// An array whose elements have no fixed size: their ends, and where the first of these is, which is where the
 /// elements' body ends.
 #[derive(Clone, Copy)]
 pub(crate) struct OpenArray<'a> {
-    /// The type of its elements.
-    pub(crate) element: TypeStr<'a>,
+    /// The text of its elements' type.
+    pub(crate) element: &'a [u8],
+    aligned_to: u8,
     offsets: &'a [u8],
     width: usize,
     count: usize,
     body: usize,
+    ghost spelled: { element.now ≡ spelling (type_at element.now) },
+    ghost aligned: { aligned_to ≡ alignment (type_at element.now) },
     ghost narrow: { width ≤ 8 },
     ghost whole: { length offsets.now ≡ width * count },
     ghost small: { body + 256 < 2 ^ 64 },
@@ -34,6 +39,21 @@ pub(crate) struct Reached {
 impl<'a> OpenArray<'a> {
     ghost use Rattle.dconfdb_values.specs.OpenArrays.{AreElements, IsFramed, IsInOrder, IsPlaced, end_before, ends_of, in_order_of};
 
+    /// The array that bytes are at the text of an array of texts, of which nothing has to be found out. None at another text, and
+    /// where the bytes hold no elements.
+    #[inline(always)]
+    pub(crate) fn of_texts(type_text: &'a [u8], bytes: &'a [u8]) -> Option<OpenArray<'a>>
+        ensures { IfSome result (IsFramed (type_at type_text.entry.now) bytes.entry.now) }
+    {
+        if type_text.len() != 2 || bytes.is_empty() {
+            return None;
+        }
+        if type_text[0] != b'a' || !is_letter_of_texts(type_text[1]) {
+            return None;
+        }
+        OpenArray::framed(&type_text[1..], 1, bytes)
+    }
+
     /// The array that a view shows. None at another type, and where the bytes hold no elements.
     pub(crate) fn of(view: View<'a>) -> Option<OpenArray<'a>>
         ensures { IfSome result (IsFramed (view_ty view.entry) (view_bytes view.entry)) }
@@ -46,13 +66,16 @@ impl<'a> OpenArray<'a> {
         if fixed_size(element).is_some() {
             return None;
         }
-        OpenArray::framed(element, bytes)
+        OpenArray::framed(element.as_str().as_bytes(), alignment(element), bytes)
     }
 
     /// The elements of this type of an array of these bytes. None where the last framing offset is none.
-    fn framed(element: TypeStr<'a>, bytes: &'a [u8]) -> Option<OpenArray<'a>>
+    #[inline(always)]
+    fn framed(element: &'a [u8], aligned_to: u8, bytes: &'a [u8]) -> Option<OpenArray<'a>>
         requires some { 0 < length bytes.now }
-        ensures { IfSome result (AreElements (ty element.entry) bytes.entry.now) }
+        requires spelled { element.now ≡ spelling (type_at element.now) }
+        requires aligned { aligned_to ≡ alignment (type_at element.now) }
+        ensures { IfSome result (AreElements (type_at element.entry.now) bytes.entry.now) }
     {
         let width = usize::from(offset_width(bytes.len()));
         let body = number(&bytes[bytes.len() - width..]);
@@ -61,6 +84,7 @@ impl<'a> OpenArray<'a> {
         }
         Some(OpenArray {
             element,
+            aligned_to,
             offsets: &bytes[body..],
             width,
             count: (bytes.len() - body) / width,
@@ -71,6 +95,7 @@ impl<'a> OpenArray<'a> {
     /// Element `index`, if there are so many, from where `passed` of them are known to be in order.
     ///
     /// It looks at the framing offsets between the two.
+    #[inline(always)]
     pub(crate) fn reach(self, index: usize, passed: usize) -> Option<Reached>
         requires order { passed ≤ in_order_of self }
         ensures none { IfNone result (self.entry.count ≤ index) }
@@ -99,6 +124,7 @@ impl<'a> OpenArray<'a> {
     }
 
     /// The first element from `from` on that is out of order, or the one at `index`.
+    #[inline(always)]
     fn in_order_to(self, index: usize, from: usize) -> usize
         requires below { index < self.count }
         requires before { from ≤ index }
@@ -116,13 +142,14 @@ impl<'a> OpenArray<'a> {
     }
 
     /// Where element `k` begins and ends, if it is in order and all before it are.
+    #[inline(always)]
     fn place(self, k: usize) -> Option<(usize, usize)>
         requires below { k < self.count }
         requires order { k ≤ in_order_of self }
         ensures some { IfSome result (IsInOrder self.entry k) }
         ensures none { IfNone result (in_order_of self.entry ≡ k) }
     {
-        let from = aligned_after(self.end_before(k), self.element);
+        let from = round_up(self.end_before(k), self.aligned_to);
         let to = self.end(k);
         if from <= to && to <= self.body {
             Some((from, to))
@@ -132,6 +159,7 @@ impl<'a> OpenArray<'a> {
     }
 
     /// Where the element before element `k` ends.
+    #[inline(always)]
     fn end_before(self, k: usize) -> usize
         requires { k < self.count }
         ensures { result ≡ end_before 0 (ends_of self.entry) k }
@@ -140,6 +168,7 @@ impl<'a> OpenArray<'a> {
     }
 
     /// The framing offset of element `k`.
+    #[inline(always)]
     fn end(self, k: usize) -> usize
         requires { k < self.count }
         ensures { slice_get (ends_of self.entry) k ≡ Some result }
@@ -147,4 +176,11 @@ impl<'a> OpenArray<'a> {
         let at = self.width * k;
         number(&self.offsets[at..at + self.width])
     }
+}
+
+/// Whether it is the letter of a type of texts.
+fn is_letter_of_texts(letter: u8) -> bool
+    ensures { IsTrue result ↔ ((letter ≡ 115) ⊎ ((letter ≡ 111) ⊎ (letter ≡ 103))) }
+{
+    letter == b's' || (letter == b'o' || letter == b'g')
 }

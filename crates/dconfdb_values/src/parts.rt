@@ -6,6 +6,7 @@ ghost use Rattle.gv_model.specs.Decode.{decode};
 ghost use Rattle.gv_model.specs.Ty.{spelling};
 ghost use Rattle.gv_view.specs.Views.{shown, value, view_bytes, view_ty};
 ghost use Rattle.dconfdb_values.specs.Order.{ArePassed};
+ghost use Rattle.dconfdb_values.specs.OpenArrays.{IsFramed};
 ghost use Rattle.dconfdb_values.specs.Parts.{IsFound, IsLentChild, part_value, shown_part};
 
 use crate::entries::{entry_at_path, has_paths};
@@ -54,14 +55,39 @@ pub fn child<'a>(
     ensures order { ArePassed (type_at type_text.entry.now) bytes.entry.now passed.new }
     ensures onward { passed.old ≤ passed.new }
 {
+    if let Some(array) = OpenArray::of_texts(type_text, bytes) {
+        return element(type_text, bytes, array, index, passed);
+    }
     let view = view_of(type_text, bytes)?;
-    let Some(array) = OpenArray::of(view) else {
-        return Some(part_of(view.child(index)?));
-    };
+    match OpenArray::of(view) {
+        Some(array) => element(type_text, bytes, array, index, passed),
+        None => Some(part_of(view.child(index)?)),
+    }
+}
+
+/// The element at the index of the array that these bytes are at the type that the text spells.
+#[inline(always)]
+fn element<'a>(
+    type_text: &'a [u8],
+    bytes: &'a [u8],
+    array: OpenArray<'a>,
+    index: usize,
+    passed: &mut usize,
+) -> Option<DconfdbPart<'a>>
+    requires array { IsFramed (type_at type_text.now) bytes.now array }
+    requires order { ArePassed (type_at type_text.now) bytes.now passed.now }
+    ensures value { option_map part_value result ≡ tree_at (children (decode (type_at type_text.entry.now) bytes.entry.now)) index }
+    ensures lent { IfSome result (IsLentChild type_text.entry.now bytes.entry.now index) }
+    ensures order { ArePassed (type_at type_text.entry.now) bytes.entry.now passed.new }
+    ensures onward { passed.old ≤ passed.new }
+{
+    let _of = type_text;
     let reached = array.reach(index, *passed)?;
     *passed = reached.passed;
-    let element = View::new(array.element, &view.bytes()[reached.from..reached.to]);
-    Some(part_of(element))
+    Some(DconfdbPart {
+        value: &bytes[reached.from..reached.to],
+        type_text: array.element,
+    })
 }
 
 /// The value of the first entry with this key in a dictionary of strings, `a{sT}`, or of object paths,

@@ -1,7 +1,7 @@
 use Rattle.std.proofs.Common.{length, drop, ◌-◌, sym, ap, refl, ◌∙◌, arith}
 use Rattle.std.proofs.lemmas.List.{length-take, length-drop, take_rest}
 use Rattle.gv_model.specs.BasicValue.{number_in}
-use Rattle.gv_types.specs.TypeStr.{ty}
+use Rattle.gv_model.specs.TypeText.{type_at}
 use Rattle.gv_layout.proofs.Widths.{width_is}
 use Rattle.dconfdb_values.proofs.OrderLaws.{framed}
 use Rattle.dconfdb_values.proofs.open_array.OpenArray.framed.Goals as goal
@@ -25,6 +25,8 @@ invariant_of-result c =
     let b = c.args.bytes.now in
     let width = width_is (length b) c.from-width.result c.offset_width.result c.from-width.ensures c.offset_width.ensures in
     record {
+      spelled = c.requires.spelled;
+      aligned = c.requires.aligned;
       narrow = width.narrow;
       whole = ap length (take_rest b c.number-body.result) ∙ (length-drop c.number-body.result b ∙ omega (arith, width.some c.requires.some, c.if-bytes-body-ne0.false));
       small = omega (arith, c.if-body-bytes.false);
@@ -37,7 +39,7 @@ returns c =
     record {
       type_is = refl;
       body_is = ap (λ w. number_in (drop (length b - w) b)) (sym wide) ∙ (ap number_in (sym (take_rest b (length b - c.from-width.result))) ∙ sym c.number-body.ensures);
-      spans_are = framed (ty c.args.element) b c.from-width.result c.number-body.result wide c.number-body.ensures c.requires.some
+      spans_are = framed (type_at c.args.element.now) b c.from-width.result c.number-body.result wide c.number-body.ensures c.requires.some
           (omega (arith, c.if-body-bytes.false)) (omega (arith, c.if-bytes-body-ne0.false));
       within = omega (arith, c.if-body-bytes.false);
     }
