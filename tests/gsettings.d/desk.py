@@ -84,8 +84,10 @@ def put(schema, key, text):
 def profile():
     """The profiles of both backends: a user's database, and below it the site's."""
     STORE.mkdir(parents=True, exist_ok=True)
-    (STORE / 'profile').write_text('user-db:user\nsystem-db:site\n', encoding='utf-8')
-    (HOME / 'dconf.profile').write_text(f'user-db:user\nfile-db:{SITE}\n', encoding='utf-8')
+    for file, text in ((STORE / 'profile', 'user-db:user\nsystem-db:site\n'), (HOME / 'dconf.profile', f'user-db:user\nfile-db:{SITE}\n')):
+        # Whoever reads a file while it is written anew may see none of its lines.
+        if not file.exists() or file.read_text(encoding='utf-8') != text:
+            file.write_text(text, encoding='utf-8')
 
 
 def site(values, locks=(), into=SITE):
