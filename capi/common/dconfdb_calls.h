@@ -835,8 +835,88 @@ uint32_t dconfdb_heard(uint32_t before, uint32_t watch, uint32_t comes, uint32_t
 
 /* ---- when what waits is written. All moments are of one clock, in microseconds; 0 is none. */
 
-/* Whether a write begins now. */
-bool dconfdb_is_to_write(bool waits, bool is_in_line, uint64_t again, uint64_t now);
+/* What the thread knows that writes what waits, tells, and watches the files. */
+typedef struct {
+    uint64_t again;    /* when a write is tried again that failed, or was not its turn */
+    uint64_t moment;   /* now */
+    uint64_t failed;   /* which try was the last that failed by a fault that lasts; 0: none did */
+    uint64_t last_try; /* how many there were when the program began to end */
+    bool ends;         /* the program ends, or nobody holds what the thread works for */
+    bool is_let_go;    /* nobody does, and the program goes on */
+    bool waits;        /* something waits to be written */
+    bool is_in_line;   /* it is in line for its turn */
+    bool has_untold;
+    bool is_to_watch; /* somebody wants to be told of what others change */
+    bool is_asked;    /* somebody wants a write to be tried now */
+    bool asks;        /* of something that waits nobody knows whether it changes anything */
+    bool is_watched;  /* what others change is told without a look at the files */
+} DconfdbRound;
+
+/* Its tasks, in the order in which they come in a round. */
+enum {
+    DCONFDB_ROUND_BEGINS,
+    DCONFDB_ROUND_TELL,
+    DCONFDB_ROUND_WATCH,
+    DCONFDB_ROUND_LOOK, /* at the files, before a write: what is there already needs no turn */
+    DCONFDB_ROUND_WRITE,
+    DCONFDB_ROUND_LEAVE,  /* the line, since nothing waits any longer; it isn't to try again */
+    DCONFDB_ROUND_RESTS,  /* over: until something happens */
+    DCONFDB_ROUND_ENDS,   /* over for good: nothing waits */
+    DCONFDB_ROUND_GIVES_UP /* the same, but what waits is given up */
+};
+
+/* The task that is due after that one. */
+uint32_t dconfdb_round_after(uint32_t task, const DconfdbRound *known);
+
+/* What whoever wants to know that all is on the disk does, in this order. */
+enum {
+    DCONFDB_SYNC_BEGINS,
+    DCONFDB_SYNC_WRITE,  /* what waits, since no other thread does */
+    DCONFDB_SYNC_AWAIT,  /* that all is settled that waits now: is it? */
+    DCONFDB_SYNC_TAKE,   /* the turn to look at the files: is it had? */
+    DCONFDB_SYNC_LOOK,   /* at them */
+    DCONFDB_SYNC_SETTLE, /* what was there already when it was set: is it on the disk? */
+    DCONFDB_SYNC_YES,    /* over: all is there */
+    DCONFDB_SYNC_NO      /* over: not yet */
+};
+
+/* What is known; the last two from when the turn is had. */
+typedef struct {
+    bool has_writer;   /* another thread writes what waits */
+    bool has_store;
+    bool has_looked;   /* the files were looked at since it was asked for */
+    bool is_to_settle; /* nobody knows yet that what was there already is on the disk */
+} DconfdbSync;
+
+/* The task that is due after that one, by its answer; of the first any will do. */
+uint32_t dconfdb_sync_after(uint32_t task, bool yes, const DconfdbSync *known);
+
+/* What whoever looks at the files of a store does, in this order; of the first three, one comes. */
+enum {
+    DCONFDB_GLANCE_BEGINS,
+    DCONFDB_GLANCE_REFRESH,    /* looks at the databases of the store that is open */
+    DCONFDB_GLANCE_OPEN,       /* opens it anew: its profile may name other files */
+    DCONFDB_GLANCE_OPEN_AGAIN, /* the same, but its profiles look like those that were read */
+    DCONFDB_GLANCE_HAND,       /* hands out what is the newest */
+    DCONFDB_GLANCE_HEED,       /* heeds what others changed, while own changes wait */
+    DCONFDB_GLANCE_WATCH,      /* has the files watched that are the store's now */
+    DCONFDB_GLANCE_SEEN,       /* over: it succeeded */
+    DCONFDB_GLANCE_FAILED      /* over: it failed */
+};
+
+/* What is known. */
+typedef struct {
+    uint32_t first, second; /* what dconfdb_same_file says of the two files that may be the profile */
+    bool is_open;
+    bool is_done;        /* the files were read, or the store was opened */
+    bool is_shown;       /* the newest is handed out already */
+    bool is_other;       /* what was handed out is another than before */
+    bool waits;          /* changes wait to be written */
+    bool has_same_files; /* the store that was opened has the files of the one before */
+} DconfdbGlance;
+
+/* The task that is due after that one. */
+uint32_t dconfdb_glance_after(uint32_t task, const DconfdbGlance *known);
 
 /* The pause before a write is tried again, by the one before it; 0 before the first. */
 uint64_t dconfdb_pause_after(uint64_t pause);
@@ -862,9 +942,6 @@ void dconfdb_patience_renew(DconfdbPatience *patience, uint64_t now);
  * by a fault that lasts (0: none has), and the time isn't over. */
 bool dconfdb_patience_goes_on(const DconfdbPatience *patience, uint64_t settled, uint64_t added, uint64_t failed, uint64_t tries,
                               uint64_t now);
-
-/* Whether who writes goes on: the program doesn't end, or something waits, and no later try than those has failed so. */
-bool dconfdb_writer_goes_on(bool ends, bool waits, uint64_t failed, uint64_t tries);
 
 /* Whether a fault lasts, by which nothing could be written since that moment. `tries_again`: somebody will. */
 bool dconfdb_fault_is_lasting(bool is_momentary, bool tries_again, uint64_t since, uint64_t now);

@@ -5,6 +5,8 @@
 #define G_SETTINGS_ENABLE_BACKEND
 #include "batch.h"
 #include "dconfdb.h"
+#include "dconfdb_calls.h"
+#include "files.h"
 #include "locked.h"
 #include "order.h"
 #include "place.h"
@@ -14,7 +16,6 @@
 #include <gio/gsettingsbackend.h>
 #include <pthread.h>
 #include <stdatomic.h>
-#include <sys/stat.h>
 #include <unistd.h>
 
 /* ---- changes that wait (changes.c, waiting.c) */
@@ -113,6 +114,12 @@ bool changes_write(DconfdbStore *store, const Turn *turn, GQueue *changes, GQueu
 /* How it comes to its turn (turn.c). */
 typedef struct Wait Wait;
 
+/* The files that may be the profile, as they were at one moment. */
+typedef struct {
+    uint64_t asked; /* by file_clock() */
+    FileState files[2];
+} Profiles;
+
 /* It lives as long as somebody has a reference. GLib keeps one to that which GSETTINGS_BACKEND names. `turn` is
  * taken before `lock`, and neither while a signal is sent, a warning printed, or another program waited for. fork()
  * takes `lock`; in the child `turn` is free, whoever had it. */
@@ -125,7 +132,7 @@ typedef struct {
 
     GMutex turn;         /* held while files are looked at or changed. It guards: */
     DconfdbStore *store; /* NULL: it isn't opened yet, or could not be. Changed with `lock` held, too */
-    struct stat seen[2]; /* the profiles as they were then; st_nlink is 0 where there is none */
+    Profiles seen;       /* as they were then */
     guint last_look;     /* the number of the last look at the files that succeeded */
     gint64 failing;      /* since when nothing can be written, by no fault of a change; 0: it can */
     gint64 pause;        /* before the next try */
@@ -187,6 +194,13 @@ void store_open(DconfdbBackend *self);
  * try it again, or 0. `tries_again`: somebody will; else one failure is told as those that go on. */
 gint64 store_write(DconfdbBackend *self, gint64 end, bool tries_again);
 
+/* Looks at the files, where nobody told of them since a set was made: what is older than the set is seen before its turn. What is
+ * there already by the newest files is settled without a turn. */
+void store_settle(DconfdbBackend *self);
+
+/* Both, as far as they are due, by who has no worker, or is it. */
+void store_write_alone(DconfdbBackend *self, gint64 end);
+
 bool store_has_waiting(DconfdbBackend *self);
 
 /* Looks at the files, and notifies of every difference; of a first opening, of nothing. False: they can't be read now. */
@@ -229,7 +243,7 @@ void turn_leave(DconfdbBackend *self);
 /* How long something that waits for its turn is waited for. Neither call takes a lock or memory. */
 typedef struct {
     DconfdbPatience time;
-    struct timespec changed; /* the folder, then: a turn makes a file in it, and renames it */
+    DconfdbFileTime changed; /* the folder, then: a turn makes a file in it, and renames it */
 } Patience;
 
 Patience patience_of(const DconfdbBackend *self, gint64 each);
@@ -247,6 +261,10 @@ static inline bool is_forked(const DconfdbBackend *self)
 
 /* Whether it sets, writes and watches: it is no such child, and hasn't ended. */
 bool is_at_work(const DconfdbBackend *self);
+
+/* What is known of what waits; also before a write begins. */
+void know_what_waits(const DconfdbBackend *self, DconfdbRound *known);
+void know_before_write(const DconfdbBackend *self, DconfdbRound *known);
 
 bool worker_is_here(const DconfdbBackend *self);
 void worker_begin(DconfdbBackend *self);

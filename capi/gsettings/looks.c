@@ -1,8 +1,10 @@
 /* A look at the backend's files: what is seen is handed out, and faults are warned of. */
 #define _GNU_SOURCE
 #include "looks.h"
+#include "lists.h"
+#include "notices.h"
 
-#include <string.h>
+#include <stdlib.h>
 
 /* One that says nothing yet: of its text the first byte alone is cleared. */
 void begin_error(DconfdbError *error)
@@ -71,45 +73,28 @@ void warn_once(DconfdbBackend *self, Notice *notice, const DconfdbError *error)
     self->told = faults;
 }
 
-static void look_at_profiles(const DconfdbBackend *self, struct stat now[2])
+/* One that can't be looked at isn't there. */
+static Profiles look_at_profiles(const DconfdbBackend *self)
 {
-    for (int i = 0; i < 2; i++) {
-        if (stat(self->profiles[i], &now[i]) != 0)
-            now[i] = (struct stat){.st_nlink = 0};
-    }
+    Profiles now = {.asked = file_clock()};
+    for (int i = 0; i < 2; i++)
+        file_look(self->profiles[i], &now.files[i]);
+    return now;
 }
 
-static bool is_at_once(const struct timespec *one, const struct timespec *other)
+static uint32_t profile_sameness(const DconfdbBackend *self, const Profiles *now, int which)
 {
-    return one->tv_sec == other->tv_sec && one->tv_nsec == other->tv_nsec;
+    return dconfdb_same_file(&self->seen.files[which], &now->files[which], self->seen.asked, false);
 }
 
-/* One whose permissions changed may be read, or no longer. */
-static bool is_same(const struct stat *one, const struct stat *other)
+/* Whether they have the same databases, by their names. */
+static bool have_same_files(const DconfdbStore *one, const DconfdbStore *other)
 {
-    bool is_there = one->st_nlink != 0;
-    if (!is_there || other->st_nlink == 0)
-        return is_there == (other->st_nlink != 0);
-    return one->st_dev == other->st_dev && one->st_ino == other->st_ino && one->st_size == other->st_size && is_at_once(&one->st_mtim, &other->st_mtim)
-        && is_at_once(&one->st_ctim, &other->st_ctim);
-}
-
-/* Opens the store, also in the place of one that is open; where that fails, the old one stays. A bad file
- * stops no program: it counts as what can be read of it. */
-static bool open_store(DconfdbBackend *self, const struct stat profiles[2], DconfdbError *error)
-{
-    DconfdbStore *store = place_open(&self->place, error);
-    if (!store)
-        return false;
-    if (self->store)
-        store_take_over(store, self->store);
-    g_mutex_lock(&self->lock);
-    DconfdbStore *old = self->store;
-    self->store = store;
-    g_mutex_unlock(&self->lock);
-    dconfdb_store_close(old);
-    memcpy(self->seen, profiles, sizeof self->seen);
-    return true;
+    char *ours = files_of(one), *others = files_of(other);
+    bool have = ours && others && are_same_texts(ours, others);
+    free(ours);
+    free(others);
+    return have;
 }
 
 /* `lock` is held. */
@@ -166,30 +151,89 @@ bool is_shown(const DconfdbBackend *self)
     return is;
 }
 
-bool look(DconfdbBackend *self, Notice *notice)
+/* A look, and what is known of it. */
+typedef struct {
+    guint number;
+    Profiles profiles;
+    DconfdbGlance known;
+    Notice *notice;
+} Looking;
+
+/* Opens the store, also in the place of one that is open; where that fails, the old one stays. A bad file
+ * stops no program: it counts as what can be read of it. */
+static bool open_store(DconfdbBackend *self, Looking *it, DconfdbError *error)
+{
+    DconfdbStore *store = place_open(&self->place, error), *old = self->store;
+    if (!store)
+        return false;
+    if (old) {
+        store_take_over(store, old);
+        it->known.has_same_files = have_same_files(store, old);
+    }
+    g_mutex_lock(&self->lock);
+    self->store = store;
+    g_mutex_unlock(&self->lock);
+    dconfdb_store_close(old);
+    self->seen = it->profiles;
+    return true;
+}
+
+static void read_files(DconfdbBackend *self, uint32_t task, Looking *it)
 {
     DconfdbError error;
-    struct stat profiles[2];
-    guint number = (guint)g_atomic_int_add(&self->looks_begun, 1) + 1;
     begin_error(&error);
-    look_at_profiles(self, profiles);
-    bool opens = !self->store || !is_same(&profiles[0], &self->seen[0]) || !is_same(&profiles[1], &self->seen[1]);
-    bool done = opens ? open_store(self, profiles, &error) : dconfdb_store_refresh(self->store, NULL, &error);
+    bool done = task == DCONFDB_GLANCE_REFRESH ? dconfdb_store_refresh(self->store, NULL, &error) : open_store(self, it, &error);
     if (done)
-        self->last_look = number;
-    warn_once(self, notice, done ? NULL : &error);
-    if (done && !opens && is_shown(self))
-        return true;
-    renew(self, notice);
-    /* What begins to wait later is newer than what was read. */
-    if (notice->before && notice->before != notice->after && store_has_waiting(self))
-        heed_others(self->store, notice->before, notice->after);
-    if (done && opens) {
-        g_atomic_int_set(&self->is_reopened, TRUE);
-        g_mutex_lock(&self->lock);
-        if (self->has_worker)
-            worker_wake(self);
-        g_mutex_unlock(&self->lock);
+        self->last_look = it->number;
+    warn_once(self, it->notice, done ? NULL : &error);
+    it->known.is_done = done;
+    it->known.is_shown = done && is_shown(self);
+}
+
+/* What begins to wait later is newer than what was read. */
+static void hand_out(DconfdbBackend *self, Looking *it)
+{
+    const Notice *notice = it->notice;
+    renew(self, it->notice);
+    it->known.is_other = notice->before && notice->before != notice->after;
+    it->known.waits = it->known.is_other && store_has_waiting(self);
+}
+
+/* The worker does. */
+static void watch_anew(DconfdbBackend *self)
+{
+    g_atomic_int_set(&self->is_reopened, TRUE);
+    g_mutex_lock(&self->lock);
+    if (self->has_worker)
+        worker_wake(self);
+    g_mutex_unlock(&self->lock);
+}
+
+static void carry_out(DconfdbBackend *self, uint32_t task, Looking *it)
+{
+    switch (task) {
+    case DCONFDB_GLANCE_HAND:
+        hand_out(self, it);
+        break;
+    case DCONFDB_GLANCE_HEED:
+        heed_others(self->store, it->notice->before, it->notice->after);
+        break;
+    case DCONFDB_GLANCE_WATCH:
+        watch_anew(self);
+        break;
+    default:
+        read_files(self, task, it);
     }
-    return done;
+}
+
+bool look(DconfdbBackend *self, Notice *notice)
+{
+    Looking it = {.number = (guint)g_atomic_int_add(&self->looks_begun, 1) + 1, .profiles = look_at_profiles(self), .notice = notice};
+    uint32_t task = DCONFDB_GLANCE_BEGINS;
+    it.known.first = profile_sameness(self, &it.profiles, 0);
+    it.known.second = profile_sameness(self, &it.profiles, 1);
+    it.known.is_open = self->store != NULL;
+    while ((task = dconfdb_glance_after(task, &it.known)) < DCONFDB_GLANCE_SEEN)
+        carry_out(self, task, &it);
+    return task == DCONFDB_GLANCE_SEEN;
 }

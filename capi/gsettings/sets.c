@@ -47,7 +47,7 @@ static uint32_t make(DconfdbBackend *self, Change *change, GTree **told)
     if (!is_kept)
         change_free(change);
     if (is_here)
-        store_write(self, g_get_monotonic_time() + LONGEST_WRITE, false);
+        store_write_alone(self, g_get_monotonic_time() + LONGEST_WRITE);
     return entry;
 }
 

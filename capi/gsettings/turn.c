@@ -113,12 +113,12 @@ void turn_leave(DconfdbBackend *self)
 
 /* ---- how long it is waited for */
 
-static struct timespec changed_at(const DconfdbBackend *self)
+static DconfdbFileTime changed_at(const DconfdbBackend *self)
 {
-    struct stat folder;
-    if (!self->place.folder || stat(self->place.folder, &folder) != 0)
-        return (struct timespec){0, 0};
-    return folder.st_mtim;
+    FileState folder;
+    if (!self->place.folder || file_look(self->place.folder, &folder) != 0)
+        return (DconfdbFileTime){0, 0};
+    return folder.written;
 }
 
 Patience patience_of(const DconfdbBackend *self, gint64 each)
@@ -130,8 +130,8 @@ Patience patience_of(const DconfdbBackend *self, gint64 each)
 
 void patience_renew(Patience *patience, const DconfdbBackend *self)
 {
-    struct timespec changed = changed_at(self);
-    if (changed.tv_sec == patience->changed.tv_sec && changed.tv_nsec == patience->changed.tv_nsec)
+    DconfdbFileTime changed = changed_at(self);
+    if (changed.seconds == patience->changed.seconds && changed.nanoseconds == patience->changed.nanoseconds)
         return;
     patience->changed = changed;
     dconfdb_patience_renew(&patience->time, (uint64_t)g_get_monotonic_time());

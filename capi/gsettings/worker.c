@@ -55,49 +55,106 @@ static int sleep_of(DconfdbBackend *self)
     return is ? (int)MIN(wait, INT_MAX) : -1;
 }
 
-/* Whether there is more to do; else it has given up what waits, if something does: the program ends, and a write has failed again. A
- * thread that waits for the turn has the backend: that is kept until then where the program goes on. */
-static bool goes_on(DconfdbBackend *self, bool ends, bool waits)
+void know_what_waits(const DconfdbBackend *self, DconfdbRound *known)
 {
-    bool is_in_line = self->wait && g_atomic_int_get(&self->is_let_go);
+    known->failed = self->failed;
+    known->last_try = self->last_try;
+    known->waits = self->waiting.changes.length > 0;
+}
+
+/* Where not all is watched a look comes before a write anyway. */
+void know_before_write(const DconfdbBackend *self, DconfdbRound *known)
+{
+    know_what_waits(self, known);
+    known->is_watched = g_atomic_int_get(&self->is_watching);
+    known->asks = known->is_watched && waiting_asks(&self->waiting);
+}
+
+/* `lock` is held. What was asked for once counts once. */
+static void know_all(DconfdbBackend *self, DconfdbRound *known)
+{
+    know_before_write(self, known);
+    known->again = (uint64_t)self->again;
+    known->is_in_line = self->wait != NULL;
+    known->moment = (uint64_t)g_get_monotonic_time();
+    known->ends = self->has_ended;
+    known->is_let_go = g_atomic_int_get(&self->is_let_go);
+    known->has_untold = self->untold.length > 0;
+    known->is_to_watch = self->is_to_watch;
+    known->is_asked = self->is_asked;
+    self->is_asked = false;
+}
+
+/* What comes of a look or of a write. */
+static void know_anew(DconfdbBackend *self, DconfdbRound *known)
+{
     g_mutex_lock(&self->lock);
-    bool goes = dconfdb_writer_goes_on(ends, waits || is_in_line, self->failed, self->last_try);
+    know_what_waits(self, known);
     g_mutex_unlock(&self->lock);
-    if (!goes && waits)
-        g_atomic_int_set(&self->has_given_up, TRUE);
-    return goes;
+    known->again = (uint64_t)self->again;
+    known->is_in_line = self->wait != NULL;
+}
+
+/* What waits then is written next. */
+static void look_before_write(DconfdbBackend *self, DconfdbRound *known)
+{
+    g_atomic_int_set(&self->is_writing, TRUE);
+    store_settle(self);
+    know_anew(self, known);
+    g_atomic_int_set(&self->is_writing, known->waits || known->is_in_line);
+}
+
+static void write_what_waits(DconfdbBackend *self, DconfdbRound *known)
+{
+    g_atomic_int_set(&self->is_writing, TRUE);
+    self->again = store_write(self, 0, true);
+    know_anew(self, known);
+    g_atomic_int_set(&self->is_writing, known->again != 0 || known->is_in_line);
 }
 
 /* What waited was settled without the turn: others have that. */
-static void leave_line(DconfdbBackend *self)
+static void leave_line(DconfdbBackend *self, DconfdbRound *known)
 {
     turn_leave(self);
+    self->again = 0;
+    known->again = 0;
+    known->is_in_line = self->wait != NULL;
     g_atomic_int_set(&self->is_writing, FALSE);
 }
 
-/* Does what is to be done. False: the program ends, and nothing waits, or can be written. */
+static void carry_out(DconfdbBackend *self, uint32_t task, DconfdbRound *known)
+{
+    switch (task) {
+    case DCONFDB_ROUND_TELL:
+        tell_untold(self);
+        break;
+    case DCONFDB_ROUND_WATCH:
+        watch_turn(self);
+        break;
+    case DCONFDB_ROUND_LOOK:
+        look_before_write(self, known);
+        break;
+    case DCONFDB_ROUND_WRITE:
+        write_what_waits(self, known);
+        break;
+    default:
+        leave_line(self, known);
+    }
+}
+
+/* Does what is due, as the proved call says. False: the program ends, and nothing waits, or can be written. */
 static bool takes_turn(DconfdbBackend *self)
 {
+    DconfdbRound known;
+    uint32_t task = DCONFDB_ROUND_BEGINS;
     g_mutex_lock(&self->lock);
-    bool ends = self->has_ended, is_to_watch = self->is_to_watch, is_asked = self->is_asked;
-    bool waits = self->waiting.changes.length > 0, has_untold = self->untold.length > 0;
-    self->is_asked = false;
+    know_all(self, &known);
     g_mutex_unlock(&self->lock);
-    if (has_untold)
-        tell_untold(self);
-    if (is_to_watch && !ends)
-        watch_turn(self);
-    if (!waits || is_asked)
-        self->again = 0;
-    if (dconfdb_is_to_write(waits, self->wait != NULL, (uint64_t)self->again, (uint64_t)g_get_monotonic_time())) {
-        g_atomic_int_set(&self->is_writing, TRUE);
-        self->again = store_write(self, 0, true);
-        waits = store_has_waiting(self);
-        g_atomic_int_set(&self->is_writing, self->again != 0 || self->wait);
-    }
-    if (!waits && self->wait)
-        leave_line(self);
-    return goes_on(self, ends, waits);
+    while ((task = dconfdb_round_after(task, &known)) < DCONFDB_ROUND_RESTS)
+        carry_out(self, task, &known);
+    if (task == DCONFDB_ROUND_GIVES_UP)
+        g_atomic_int_set(&self->has_given_up, TRUE);
+    return task == DCONFDB_ROUND_RESTS;
 }
 
 /* Who let go of the backend waits for that, or has left it to this thread. */

@@ -103,17 +103,11 @@ static void write_here(DconfdbBackend *self, Notice *notice, gint64 end)
     g_mutex_unlock(&self->turn);
 }
 
-/* Looks at the files, where nobody told of them since a set was made: what is older than the set is seen before its turn. What is
- * there already by the newest files is settled without a turn. */
-static void settle_what_is_there(DconfdbBackend *self, Notice *notice)
+void store_settle(DconfdbBackend *self)
 {
-    g_mutex_lock(&self->lock);
-    bool asks = waiting_asks(&self->waiting), waits = self->waiting.changes.length > 0;
-    g_mutex_unlock(&self->lock);
-    if (!asks && (!waits || g_atomic_int_get(&self->is_watching)))
-        return;
+    Notice notice = {.faults = NULL};
     g_mutex_lock(&self->turn);
-    bool done = look(self, notice);
+    bool done = look(self, &notice);
     g_mutex_lock(&self->lock);
     guint settled = done ? waiting_settle(&self->waiting, self->now) : 0;
     self->settled += settled;
@@ -122,6 +116,7 @@ static void settle_what_is_there(DconfdbBackend *self, Notice *notice)
         g_cond_broadcast(&self->settles);
     g_mutex_unlock(&self->lock);
     g_mutex_unlock(&self->turn);
+    notice_tell(self, &notice);
 }
 
 bool store_has_waiting(DconfdbBackend *self)
@@ -134,12 +129,8 @@ bool store_has_waiting(DconfdbBackend *self)
 
 gint64 store_write(DconfdbBackend *self, gint64 end, bool tries_again)
 {
-    Notice seen = {.faults = NULL}, notice = {.faults = NULL};
+    Notice notice = {.faults = NULL};
     gint64 again = 0;
-    settle_what_is_there(self, &seen);
-    notice_tell(self, &seen);
-    if (!store_has_waiting(self))
-        return 0;
     if (worker_is_this(self)) {
         Turn turn = turn_take(self, end);
         if (turn.fault == EWOULDBLOCK)
@@ -151,6 +142,24 @@ gint64 store_write(DconfdbBackend *self, gint64 end, bool tries_again)
     }
     notice_tell(self, &notice);
     return again;
+}
+
+void store_write_alone(DconfdbBackend *self, gint64 end)
+{
+    DconfdbRound known = {.again = 0};
+    uint32_t task = DCONFDB_ROUND_BEGINS;
+    g_mutex_lock(&self->lock);
+    know_before_write(self, &known);
+    g_mutex_unlock(&self->lock);
+    while ((task = dconfdb_round_after(task, &known)) < DCONFDB_ROUND_RESTS) {
+        if (task == DCONFDB_ROUND_LOOK)
+            store_settle(self);
+        if (task == DCONFDB_ROUND_WRITE)
+            store_write(self, end, false);
+        g_mutex_lock(&self->lock);
+        know_what_waits(self, &known);
+        g_mutex_unlock(&self->lock);
+    }
 }
 
 /* Asks for a write now, where one that failed is to be tried again later. Gives how many were tried so far. */
@@ -192,16 +201,11 @@ static bool await_settled(DconfdbBackend *self, Patience *patience, guint64 trie
 /* `turn` is held. Another program may have written what was set once more, and not brought it to the disk. */
 static bool settle(DconfdbBackend *self)
 {
+    bool is_settled = settle_store(self->store, NULL);
     g_mutex_lock(&self->lock);
-    bool is = self->is_to_settle;
-    self->is_to_settle = false;
+    self->is_to_settle = !is_settled;
     g_mutex_unlock(&self->lock);
-    if (!is || !self->store || settle_store(self->store, NULL))
-        return true;
-    g_mutex_lock(&self->lock);
-    self->is_to_settle = true;
-    g_mutex_unlock(&self->lock);
-    return false;
+    return is_settled;
 }
 
 /* `turn` is held. Whether the files were looked at since so many looks had begun: the worker does after each write. */
@@ -210,20 +214,58 @@ static bool has_looked_since(const DconfdbBackend *self, guint begun)
     return (gint)(self->last_look - begun) > 0;
 }
 
+/* A sync, and what it knows. */
+typedef struct {
+    guint begun;
+    guint64 tries;
+    Patience patience;
+    DconfdbSync known;
+    Notice notice;
+} Sync;
+
+/* `turn` is taken, if that is possible in time; then the rest is known. */
+static bool take_turn(DconfdbBackend *self, Sync *sync)
+{
+    if (!mutex_lock_until(&self->turn, (gint64)sync->patience.time.end))
+        return false;
+    sync->known.has_looked = has_looked_since(self, sync->begun);
+    g_mutex_lock(&self->lock);
+    sync->known.is_to_settle = self->is_to_settle && self->store;
+    g_mutex_unlock(&self->lock);
+    return true;
+}
+
+/* Gives its answer. */
+static bool carry_out(DconfdbBackend *self, uint32_t task, Sync *sync)
+{
+    switch (task) {
+    case DCONFDB_SYNC_WRITE:
+        store_write_alone(self, (gint64)sync->patience.time.end);
+        return true;
+    case DCONFDB_SYNC_AWAIT:
+        return await_settled(self, &sync->patience, sync->tries);
+    case DCONFDB_SYNC_TAKE:
+        return take_turn(self, sync);
+    case DCONFDB_SYNC_LOOK:
+        return look(self, &sync->notice);
+    default:
+        return settle(self);
+    }
+}
+
 bool store_sync(DconfdbBackend *self)
 {
-    Notice notice = {.faults = NULL};
-    guint begun = (guint)g_atomic_int_get(&self->looks_begun);
-    Patience patience = patience_of(self, LONGEST_SYNC);
-    guint64 tries = ask_for_a_try(self);
-    if (!worker_is_another(self))
-        store_write(self, (gint64)patience.time.end, false);
-    if (!await_settled(self, &patience, tries) || !mutex_lock_until(&self->turn, (gint64)patience.time.end))
-        return false;
-    if (self->place.folder && !has_looked_since(self, begun))
-        look(self, &notice);
-    bool is_settled = settle(self);
-    g_mutex_unlock(&self->turn);
-    notice_tell(self, &notice);
-    return is_settled;
+    Sync sync = {.begun = (guint)g_atomic_int_get(&self->looks_begun), .patience = patience_of(self, LONGEST_SYNC)};
+    uint32_t task = DCONFDB_SYNC_BEGINS;
+    bool yes = true, has_turn = false;
+    sync.tries = ask_for_a_try(self);
+    sync.known = (DconfdbSync){.has_writer = worker_is_another(self), .has_store = self->place.folder != NULL};
+    while ((task = dconfdb_sync_after(task, yes, &sync.known)) < DCONFDB_SYNC_YES) {
+        yes = carry_out(self, task, &sync);
+        has_turn = has_turn || (task == DCONFDB_SYNC_TAKE && yes);
+    }
+    if (has_turn)
+        g_mutex_unlock(&self->turn);
+    notice_tell(self, &sync.notice);
+    return task == DCONFDB_SYNC_YES;
 }

@@ -32,9 +32,8 @@ static Program *program_of(const char *word)
 /* As for the library: what the environment says doesn't count for a program that has more rights than whoever started it. */
 static void forget_environment(void)
 {
-    static const char *const names[] = {"DCONFDB_STORE", "XDG_CONFIG_HOME", "HOME", "DCONFDB_PROFILE"};
-    for (size_t i = 0; i < sizeof names / sizeof *names; i++)
-        unsetenv(names[i]);
+    for (size_t i = 0; i < VARIABLES; i++)
+        unsetenv(variables[i]);
 }
 
 /* The proved program, by what has to be asked to know where a store is that nobody names. */

@@ -6,6 +6,9 @@
 
 uint32_t dconfdb_entry(const void *edits, size_t count);
 uint32_t dconfdb_found(bool of_user, bool of_default, const void *known);
+uint32_t dconfdb_round_after(uint32_t task, const void *known);
+uint32_t dconfdb_glance_after(uint32_t task, const void *known);
+uint32_t dconfdb_sync_after(uint32_t task, bool yes, const void *known);
 void dconfdb_patience_begin(void *patience, uint64_t now, uint64_t each);
 void dconfdb_queue_begin(void *queue, const void *edits, size_t count, void *step);
 void dconfdb_queue_answered(void *queue, void *edits, size_t count, uint32_t answer, size_t at, void *step);
@@ -85,6 +88,100 @@ static void finds_known(void)
     lies("DconfdbKnown", "edit_fits", KNOWN_EDIT, FLAG);
     lies("DconfdbKnown", "stored_fits", KNOWN_STORED, FLAG);
     printf("TAKES(DconfdbKnown, %d);\n", KNOWN);
+}
+
+/* What is known of a round is read alone, too: the numbers, and the fields of which these are so. */
+enum { ROUND_AGAIN = 0, ROUND_MOMENT = 8, ROUND_FAILED = 16, ROUND_LAST_TRY = 24, ROUND_FLAGS = 32, ROUND_ENDS = 32, ROUND_IS_LET_GO = 33,
+       ROUND_WAITS = 34, ROUND_IS_IN_LINE = 35, ROUND_HAS_UNTOLD = 36, ROUND_IS_TO_WATCH = 37, ROUND_IS_ASKED = 38, ROUND_ASKS = 39,
+       ROUND_IS_WATCHED = 40, ROUND = 48 };
+enum { IT_ENDS = 1, LET_GO = 2, IT_WAITS = 4, IN_LINE = 8, UNTOLD = 16, TO_WATCH = 32, ASKED = 64, ASKS = 128, WATCHED = 256 };
+
+static bool is_after(uint32_t task, const uint64_t numbers[4], unsigned fields, uint32_t next)
+{
+    _Alignas(16) uint8_t known[ROUND] = {0};
+    memcpy(known, numbers, ROUND_FLAGS);
+    for (int i = 0; i < ROUND_IS_WATCHED + 1 - ROUND_FLAGS; i++)
+        known[ROUND_FLAGS + i] = fields >> i & 1;
+    return dconfdb_round_after(task, known) == next;
+}
+
+static void finds_round(void)
+{
+    static const uint64_t none[4] = {0}, later[4] = {5, 4, 0, 0}, due[4] = {5, 5, 0, 0}, old[4] = {5, 0, 2, 2}, failed[4] = {5, 0, 2, 1};
+    is_so(is_after(0, none, 0, 6) && is_after(0, none, UNTOLD, 1) && is_after(0, none, TO_WATCH, 2) && is_after(0, none, IT_ENDS, 7), "DconfdbRound");
+    is_so(is_after(0, later, IT_WAITS, 6) && is_after(0, due, IT_WAITS, 3) && is_after(0, due, IT_WAITS | WATCHED, 4), "DconfdbRound");
+    is_so(is_after(0, due, IT_WAITS | WATCHED | ASKS, 3) && is_after(3, later, IT_WAITS | ASKED, 4), "DconfdbRound");
+    is_so(is_after(3, later, IT_WAITS | IN_LINE, 4) && is_after(0, none, IN_LINE, 5) && is_after(4, later, 0, 5), "DconfdbRound");
+    is_so(is_after(5, none, IT_ENDS | IN_LINE, 7) && is_after(5, none, IT_ENDS | IN_LINE | LET_GO, 6), "DconfdbRound");
+    is_so(is_after(4, old, IT_ENDS | IT_WAITS, 6) && is_after(4, failed, IT_ENDS | IT_WAITS, 8), "DconfdbRound");
+    lies("DconfdbRound", "again", ROUND_AGAIN, WORD);
+    lies("DconfdbRound", "moment", ROUND_MOMENT, WORD);
+    lies("DconfdbRound", "failed", ROUND_FAILED, WORD);
+    lies("DconfdbRound", "last_try", ROUND_LAST_TRY, WORD);
+    lies("DconfdbRound", "ends", ROUND_ENDS, FLAG);
+    lies("DconfdbRound", "is_let_go", ROUND_IS_LET_GO, FLAG);
+    lies("DconfdbRound", "waits", ROUND_WAITS, FLAG);
+    lies("DconfdbRound", "is_in_line", ROUND_IS_IN_LINE, FLAG);
+    lies("DconfdbRound", "has_untold", ROUND_HAS_UNTOLD, FLAG);
+    lies("DconfdbRound", "is_to_watch", ROUND_IS_TO_WATCH, FLAG);
+    lies("DconfdbRound", "is_asked", ROUND_IS_ASKED, FLAG);
+    lies("DconfdbRound", "asks", ROUND_ASKS, FLAG);
+    lies("DconfdbRound", "is_watched", ROUND_IS_WATCHED, FLAG);
+    printf("TAKES(DconfdbRound, %d);\n", ROUND);
+}
+
+enum { SYNC_HAS_WRITER = 0, SYNC_HAS_STORE = 1, SYNC_HAS_LOOKED = 2, SYNC_IS_TO_SETTLE = 3, SYNC = 4 };
+
+static bool is_due(uint32_t task, unsigned fields, uint32_t next)
+{
+    uint8_t known[SYNC];
+    for (int i = 0; i < SYNC; i++)
+        known[i] = fields >> i & 1;
+    return dconfdb_sync_after(task, true, known) == next;
+}
+
+static void finds_sync(void)
+{
+    enum { WRITER = 1, STORE = 2, LOOKED = 4, SETTLE = 8 };
+    is_so(is_due(0, 0, 1) && is_due(0, WRITER, 2) && is_due(3, 0, 6) && is_due(3, STORE, 4), "DconfdbSync");
+    is_so(is_due(3, STORE | LOOKED, 6) && is_due(3, SETTLE, 5), "DconfdbSync");
+    lies("DconfdbSync", "has_writer", SYNC_HAS_WRITER, FLAG);
+    lies("DconfdbSync", "has_store", SYNC_HAS_STORE, FLAG);
+    lies("DconfdbSync", "has_looked", SYNC_HAS_LOOKED, FLAG);
+    lies("DconfdbSync", "is_to_settle", SYNC_IS_TO_SETTLE, FLAG);
+    printf("TAKES(DconfdbSync, %d);\n", SYNC);
+}
+
+enum { GLANCE_FIRST = 0, GLANCE_SECOND = 4, GLANCE_FLAGS = 8, GLANCE_IS_OPEN = 8, GLANCE_IS_DONE = 9, GLANCE_IS_SHOWN = 10,
+       GLANCE_IS_OTHER = 11, GLANCE_WAITS = 12, GLANCE_HAS_SAME_FILES = 13, GLANCE = 16 };
+
+static bool is_next(uint32_t task, uint32_t first, uint32_t second, unsigned fields, uint32_t next)
+{
+    _Alignas(16) uint8_t known[GLANCE] = {0};
+    memcpy(known + GLANCE_FIRST, &first, NUMBER);
+    memcpy(known + GLANCE_SECOND, &second, NUMBER);
+    for (int i = 0; i < GLANCE_HAS_SAME_FILES + 1 - GLANCE_FLAGS; i++)
+        known[GLANCE_FLAGS + i] = fields >> i & 1;
+    return dconfdb_glance_after(task, known) == next;
+}
+
+static void finds_glance(void)
+{
+    enum { IS_OPEN = 1, IS_DONE = 2, IS_SHOWN = 4, IS_OTHER = 8, SETS_WAIT = 16, SAME_FILES = 32 };
+    is_so(is_next(0, 0, 0, 0, 2) && is_next(0, 0, 0, IS_OPEN, 1) && is_next(0, 2, 0, IS_OPEN, 3), "DconfdbGlance");
+    is_so(is_next(0, 2, 1, IS_OPEN, 2) && is_next(1, 0, 0, IS_OPEN | IS_DONE, 4), "DconfdbGlance");
+    is_so(is_next(1, 0, 0, IS_OPEN | IS_DONE | IS_SHOWN, 7) && is_next(1, 0, 0, IS_OPEN | IS_SHOWN, 4), "DconfdbGlance");
+    is_so(is_next(4, 0, 0, IS_OTHER, 8) && is_next(4, 0, 0, SETS_WAIT, 8) && is_next(4, 0, 0, IS_OTHER | SETS_WAIT, 5), "DconfdbGlance");
+    is_so(is_next(5, 2, 0, IS_OPEN | IS_DONE, 6) && is_next(5, 2, 0, IS_OPEN | IS_DONE | SAME_FILES, 7), "DconfdbGlance");
+    lies("DconfdbGlance", "first", GLANCE_FIRST, NUMBER);
+    lies("DconfdbGlance", "second", GLANCE_SECOND, NUMBER);
+    lies("DconfdbGlance", "is_open", GLANCE_IS_OPEN, FLAG);
+    lies("DconfdbGlance", "is_done", GLANCE_IS_DONE, FLAG);
+    lies("DconfdbGlance", "is_shown", GLANCE_IS_SHOWN, FLAG);
+    lies("DconfdbGlance", "is_other", GLANCE_IS_OTHER, FLAG);
+    lies("DconfdbGlance", "waits", GLANCE_WAITS, FLAG);
+    lies("DconfdbGlance", "has_same_files", GLANCE_HAS_SAME_FILES, FLAG);
+    printf("TAKES(DconfdbGlance, %d);\n", GLANCE);
 }
 
 static void finds_patience(void)
@@ -198,6 +295,9 @@ void finds_waits(void)
     finds_wait();
     finds_new_edit();
     finds_known();
+    finds_round();
+    finds_sync();
+    finds_glance();
     finds_patience();
     finds_notice();
     finds_watched_name();

@@ -2,6 +2,7 @@
 #define _GNU_SOURCE
 #include "dconfdb.h"
 #include "dconfdb_calls.h"
+#include "lists.h"
 #include "place.h"
 #include "seen.h"
 #include "watch.h"
@@ -123,16 +124,6 @@ static bool tell(const Watching *watch, const DconfdbSnapshot *now, DconfdbError
 
 /* ---- looking */
 
-/* Whether both lists have the same names. */
-static bool are_same(const char *one, const char *other)
-{
-    while (*one && strcmp(one, other) == 0) {
-        one += strlen(one) + 1;
-        other += strlen(other) + 1;
-    }
-    return *one == 0 && *other == 0;
-}
-
 /* Watches the files that the profile names. False: not all are, or it names others now: it may be written after it was read, and
  * before it was watched. */
 static bool begin_once(Watching *watch)
@@ -141,7 +132,7 @@ static bool begin_once(Watching *watch)
     bool are_all = false, are_all_now = false;
     char *files = place_files(&watch->place, &are_all, &error);
     char *now = files && watch_files(watch->names, files, PROFILES) ? place_files(&watch->place, &are_all_now, &error) : NULL;
-    bool is_done = now && are_same(files, now) && are_all && are_all_now;
+    bool is_done = now && are_same_texts(files, now) && are_all && are_all_now;
     free(files);
     free(now);
     return is_done;

@@ -117,13 +117,7 @@ inline waiting_settle() {
         fi
     }
 }
-inline settle_what_is_there() {
-    TAKE(LOCK); GIVE(LOCK);
-    if
-    :: TAKE(TURN); look(); TAKE(LOCK); waiting_settle(); GIVE(LOCK); GIVE(TURN)
-    :: skip
-    fi
-}
+inline store_settle() { TAKE(TURN); look(); TAKE(LOCK); waiting_settle(); GIVE(LOCK); GIVE(TURN); notice_tell() }
 
 /* The turn is had at once, or waited for in line by a thread of its own, or, if none can be had, asked for again. */
 inline folder_lock() { TAKE(FOLDER); TAKE(LISTING); GIVE(LISTING) }
@@ -181,34 +175,26 @@ inline write_in() {
     fi;
     GIVE(TURN)
 }
-inline store_has_waiting() { TAKE(LOCK); now = waiting; GIVE(LOCK) }
-inline store_write() {
-    settle_what_is_there(); notice_tell();
-    store_has_waiting();
-    if
-    :: now > 0 -> turn_take(); if :: ok -> write_in(); turn_give(); notice_tell() :: else fi
-    :: else
-    fi
-}
+inline store_write() { turn_take(); if :: ok -> write_in(); turn_give(); notice_tell() :: else fi }
 
-/* False: `goes` is; the program ends, and nothing waits, or a write has failed since. A backend that is let go is kept until the thread in line has come
- * to its turn. */
-inline goes_on() {
-    TAKE(LOCK);
-    atomic {
-        goes = !ends || ((now > 0 || (waits_in_line && is_let_go)) && failed <= last_try);
-        gave_up = gave_up || (!goes && now > 0)
-    };
-    GIVE(LOCK)
-}
+inline know_what_waits() { now = waiting; has_failed = failed > last_try }
+inline know_anew() { TAKE(LOCK); atomic { know_what_waits() }; GIVE(LOCK) }
+inline look_before_write() { store_settle(); know_anew() }
+inline write_what_waits() { store_write(); know_anew() }
+
+/* In the order of the proved call. `goes` is false: the program ends, and nothing waits, or a write has failed since. A backend that is let go is kept
+ * until the thread in line has come to its turn. */
 inline takes_turn() {
-    TAKE(LOCK); atomic { ends = has_ended; is_asked = false }; GIVE(LOCK);
+    TAKE(LOCK); atomic { ends = has_ended; is_left = is_let_go; is_asked = false; know_what_waits() }; GIVE(LOCK);
     tell_untold();
     if :: store_look() :: skip fi;
-    store_has_waiting();
-    if :: now > 0 -> store_write(); store_has_waiting() :: else fi;
+    if :: now > 0 -> look_before_write() :: skip fi;
+    if :: now > 0 -> write_what_waits() :: else fi;
     if :: now == 0 && waits_in_line -> leave_line() :: else fi;
-    goes_on()
+    atomic {
+        goes = !ends || ((now > 0 || (waits_in_line && is_left)) && !has_failed);
+        gave_up = gave_up || (!goes && now > 0)
+    }
 }
 
 byte last_try = 255;
@@ -217,7 +203,7 @@ byte last_try = 255;
 proctype work()
 {
     byte mine = 0, done = 0, now = 0;
-    bool ok = false, goes = true, ends = false;
+    bool ok = false, goes = true, ends = false, is_left = false, has_failed = false;
     do
     :: takes_turn();
         if

@@ -1,17 +1,8 @@
 //! When what waits is written, and how long who asks for that waits for it.
 ghost use Rattle.std.specs.Prelude.{ℕ, ◌≡◌, ◌≤◌, ◌<◌, ◌+◌, ◌*◌, ◌↔◌, ◌⊎◌, IsTrue, false};
-ghost use Rattle.dconf_waiting.specs.Dues.{IsDue, IsFirstOf, next_pause};
+ghost use Rattle.dconf_waiting.specs.Dues.{IsFirstOf, next_pause};
 
-use dconf_waiting::{exit_goes_on, is_to_write, pause_after, sleep_until};
-
-/// Whether a write begins now: something waits, and it is in line for its turn already, or no later
-/// moment was said.
-#[unsafe(no_mangle)]
-pub extern "C" fn dconfdb_is_to_write(waits: bool, is_in_line: bool, again: u64, now: u64) -> bool
-    ensures { IsTrue result ↔ (IsTrue waits × IsDue is_in_line again now) }
-{
-    is_to_write(waits, is_in_line, again, now)
-}
+use dconf_waiting::{exit_goes_on, pause_after, sleep_until};
 
 /// The pause before a write is tried again, by the one before it; 0 before the first.
 #[unsafe(no_mangle)]

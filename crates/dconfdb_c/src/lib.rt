@@ -26,6 +26,7 @@ mod printing;
 mod queue;
 mod read;
 mod repair;
+mod rounds;
 mod seen;
 mod since;
 mod turn;

@@ -7,7 +7,6 @@ ghost use Rattle.dconf_waiting.specs.Patiences.{IsRenewed, longest, patience_fro
 
 use dconf_waiting::{
     Patience, Progress, WaitingEdit, fate_number, found, is_lasting, is_overtaken, put,
-    writer_goes_on,
 };
 
 /// The number of the newest edit of a key; 0 if none waits.
@@ -85,21 +84,6 @@ pub extern "C" fn dconfdb_patience_goes_on(
         tries,
     };
     patience.goes_on(progress, now)
-}
-
-/// Whether who writes what waits goes on: the program doesn't end, or something waits, and no later try
-/// than those has failed by a fault that lasts.
-#[unsafe(no_mangle)]
-pub extern "C" fn dconfdb_writer_goes_on(ends: bool, waits: bool, failed: u64, tries: u64) -> bool
-    ensures { IsTrue result ↔ ((ends ≡ false) ⊎ (IsTrue waits × (failed ≤ tries))) }
-{
-    let progress = Progress {
-        settled: 0,
-        added: 0,
-        failed,
-        tries,
-    };
-    writer_goes_on(ends, waits, progress)
 }
 
 /// Whether a fault lasts, by which nothing could be written since that moment.

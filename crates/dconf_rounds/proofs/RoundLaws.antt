@@ -1,0 +1,111 @@
+-- What holds of a round, whatever is known.
+use Rattle.std.proofs.Common.{ℕ, ◌≡◌, Bool, true, false, not, refl, sym, ◌∙◌}
+use Rattle.std.specs.Prelude.{◌&&◌, ◌||◌, if◌then◌else◌, nat_lt}
+use Rattle.dconf_rounds.specs.declared.rounds.Task.{Task}
+use Rattle.dconf_rounds.specs.declared.rounds.Task.TheVariants.{Tell, Watch, Look, Write, Leave, Rest, End, GiveUp}
+use Rattle.dconf_rounds.specs.Rounds.{watches, looks_first, writes, leaves, is_left, has_failed, task_number, is_over, NothingDueIsPassedOver}
+
+abbrev by : Bool → Bool → Bool → Bool → Bool → Task → Task
+by tells watched looked wrote left end =
+    if tells then Tell else if watched then Watch else if looked then Look else if wrote then Write else if left then Leave else end
+
+abbrev ends_by : Bool → Bool → Bool → Bool → Task
+ends_by ends waits left failed = if not ends then Rest else if not waits && not left then End else if not failed then Rest else if waits then GiveUp else End
+
+-- ---- the end
+
+end_is_over : (ends waits left failed : Bool) → is_over (ends_by ends waits left failed) ≡ true
+end_is_over false waits left failed = refl
+end_is_over true false false failed = refl
+end_is_over true false true false = refl
+end_is_over true false true true = refl
+end_is_over true true left false = refl
+end_is_over true true left true = refl
+
+rests : (ends waits left failed : Bool) → ends ≡ false → ends_by ends waits left failed ≡ Rest
+rests false waits left failed e = refl
+rests true waits left failed e = absurd (let bad : true ≡ false = e in cc)
+
+given_up : (ends waits left failed : Bool) → ends_by ends waits left failed ≡ GiveUp → (ends ≡ true) × (waits ≡ true) × (failed ≡ true)
+given_up false waits left failed e = absurd (let bad : Rest ≡ GiveUp = e in cc)
+given_up true false false failed e = absurd (let bad : End ≡ GiveUp = e in cc)
+given_up true false true false e = absurd (let bad : Rest ≡ GiveUp = e in cc)
+given_up true false true true e = absurd (let bad : End ≡ GiveUp = e in cc)
+given_up true true left false e = absurd (let bad : Rest ≡ GiveUp = e in cc)
+given_up true true left true e = (refl, refl, refl)
+
+ended : (ends waits left failed : Bool) → ends_by ends waits left failed ≡ End → (ends ≡ true) × (waits ≡ false)
+ended false waits left failed e = absurd (let bad : Rest ≡ End = e in cc)
+ended true false false failed e = (refl, refl)
+ended true false true false e = absurd (let bad : Rest ≡ End = e in cc)
+ended true false true true e = (refl, refl)
+ended true true left false e = absurd (let bad : Rest ≡ End = e in cc)
+ended true true left true e = absurd (let bad : GiveUp ≡ End = e in cc)
+
+-- ---- a task
+
+over_by : (a b l c d : Bool) (end : Task) → is_over end ≡ true → is_over (by a b l c d end) ≡ not (a || (b || (l || (c || d))))
+over_by true b l c d end e = refl
+over_by false true l c d end e = refl
+over_by false false true c d end e = refl
+over_by false false false true d end e = refl
+over_by false false false false true end e = refl
+over_by false false false false false end e = e
+
+forward_by : (done : ℕ) (a b l c d : Bool) (end : Task) → (a ≡ true → nat_lt done 1 ≡ true) → (b ≡ true → nat_lt done 2 ≡ true)
+    → (l ≡ true → nat_lt done 3 ≡ true) → (c ≡ true → nat_lt done 4 ≡ true) → (d ≡ true → nat_lt done 5 ≡ true) → is_over end ≡ true
+    → is_over (by a b l c d end) ≡ false → nat_lt done (task_number (by a b l c d end)) ≡ true
+forward_by done true b l c d end p q t r s o e = p refl
+forward_by done false true l c d end p q t r s o e = q refl
+forward_by done false false true c d end p q t r s o e = t refl
+forward_by done false false false true d end p q t r s o e = r refl
+forward_by done false false false false true end p q t r s o e = s refl
+forward_by done false false false false false end p q t r s o e = absurd (let bad : true ≡ false = sym o ∙ e in cc)
+
+lives_by : (a b l c d : Bool) (end : Task) → end ≡ Rest → is_over (by a b l c d end) ≡ true → by a b l c d end ≡ Rest
+lives_by true b l c d end r e = absurd (let bad : false ≡ true = e in cc)
+lives_by false true l c d end r e = absurd (let bad : false ≡ true = e in cc)
+lives_by false false true c d end r e = absurd (let bad : false ≡ true = e in cc)
+lives_by false false false true d end r e = absurd (let bad : false ≡ true = e in cc)
+lives_by false false false false true end r e = absurd (let bad : false ≡ true = e in cc)
+lives_by false false false false false end r e = r
+
+give_up_is_the_end : (a b l c d : Bool) (end : Task) → by a b l c d end ≡ GiveUp → end ≡ GiveUp
+give_up_is_the_end true b l c d end e = absurd (let bad : Tell ≡ GiveUp = e in cc)
+give_up_is_the_end false true l c d end e = absurd (let bad : Watch ≡ GiveUp = e in cc)
+give_up_is_the_end false false true c d end e = absurd (let bad : Look ≡ GiveUp = e in cc)
+give_up_is_the_end false false false true d end e = absurd (let bad : Write ≡ GiveUp = e in cc)
+give_up_is_the_end false false false false true end e = absurd (let bad : Leave ≡ GiveUp = e in cc)
+give_up_is_the_end false false false false false end e = e
+
+end_is_the_end : (a b l c d : Bool) (end : Task) → by a b l c d end ≡ End → end ≡ End
+end_is_the_end true b l c d end e = absurd (let bad : Tell ≡ End = e in cc)
+end_is_the_end false true l c d end e = absurd (let bad : Watch ≡ End = e in cc)
+end_is_the_end false false true c d end e = absurd (let bad : Look ≡ End = e in cc)
+end_is_the_end false false false true d end e = absurd (let bad : Write ≡ End = e in cc)
+end_is_the_end false false false false true end e = absurd (let bad : Leave ≡ End = e in cc)
+end_is_the_end false false false false false end e = e
+
+and_left : (a b : Bool) → a && b ≡ true → a ≡ true
+and_left true b e = refl
+and_left false b e = e
+
+-- ---- the law
+
+pub nothing_due_is_passed_over : NothingDueIsPassedOver
+nothing_due_is_passed_over done k =
+    let a : Bool = nat_lt done 1 && k.has_untold in
+    let b : Bool = nat_lt done 2 && watches k in
+    let l : Bool = nat_lt done 3 && looks_first k in
+    let c : Bool = nat_lt done 4 && writes k in
+    let d : Bool = nat_lt done 5 && leaves k in
+    let end : Task = ends_by k.ends k.waits (is_left k) (has_failed k) in
+    let over : is_over end ≡ true = end_is_over k.ends k.waits (is_left k) (has_failed k) in
+    record {
+      over = over_by a b l c d end over;
+      forward = forward_by done a b l c d end (and_left (nat_lt done 1) k.has_untold) (and_left (nat_lt done 2) (watches k))
+          (and_left (nat_lt done 3) (looks_first k)) (and_left (nat_lt done 4) (writes k)) (and_left (nat_lt done 5) (leaves k)) over;
+      lives = λ e. lives_by a b l c d end (rests k.ends k.waits (is_left k) (has_failed k) e);
+      gives_up = λ e. given_up k.ends k.waits (is_left k) (has_failed k) (give_up_is_the_end a b l c d end e);
+      ends = λ e. ended k.ends k.waits (is_left k) (has_failed k) (end_is_the_end a b l c d end e);
+    }

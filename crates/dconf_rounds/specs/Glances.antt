@@ -1,0 +1,72 @@
+-- What whoever looks at the files of a store does next.
+use Rattle.std.specs.Prelude.{ℕ, ◌≡◌, Bool, true, false, not, ◌&&◌, ◌||◌, if◌then◌else◌, ◌==◌, nat_lt}
+use Rattle.dconf_rounds.specs.declared.glances.GlanceKnown.{GlanceKnown}
+use Rattle.dconf_rounds.specs.declared.glances.Glance.{Glance}
+use Rattle.dconf_rounds.specs.declared.glances.Glance.TheVariants.{Refresh, Open, OpenAgain, Hand, Heed, Watch, Seen, Failed}
+
+-- ---- what is due
+
+-- it is open, and both profiles are the ones that were read, for sure
+abbrev pub refreshes : GlanceKnown → Bool
+refreshes k = k.is_open && ((k.first == 0) && (k.second == 0))
+
+abbrev pub is_another : ℕ → Bool
+is_another sameness = not (sameness == 0) && not (sameness == 2)
+
+-- none is open, or a profile is another one for sure
+abbrev pub opens : GlanceKnown → Bool
+opens k = not k.is_open || (is_another k.first || is_another k.second)
+
+abbrev pub begins_with : GlanceKnown → Glance
+begins_with k = if refreshes k then Refresh else if opens k then Open else OpenAgain
+
+-- all but a look that succeeded, at the files that it had, and saw what is handed out already
+abbrev pub hands : GlanceKnown → Bool
+hands k = not (k.is_done && (k.is_shown && refreshes k))
+
+abbrev pub heeds : GlanceKnown → Bool
+heeds k = k.is_other && k.waits
+
+-- a store was opened, and its files may be others than those that are watched
+abbrev pub watches_anew : GlanceKnown → Bool
+watches_anew k = k.is_done && (opens k || (not (refreshes k) && not k.has_same_files))
+
+-- ---- what comes next, once the first tasks were done, or were not due
+
+abbrev pub glance_after : ℕ → GlanceKnown → Glance
+glance_after done k =
+    if nat_lt done 1 then begins_with k else if nat_lt done 4 && hands k then Hand else if nat_lt done 5 && heeds k then Heed else
+    if nat_lt done 6 && watches_anew k then Watch else if k.is_done then Seen else Failed
+
+abbrev pub glance_number : Glance → ℕ
+glance_number Refresh = 1
+glance_number Open = 2
+glance_number OpenAgain = 3
+glance_number Hand = 4
+glance_number Heed = 5
+glance_number Watch = 6
+glance_number Seen = 7
+glance_number Failed = 8
+
+-- ---- the law
+
+abbrev pub is_told : Glance → Bool
+is_told Seen = true
+is_told Failed = true
+is_told _ = false
+
+-- a task that is due, and was not come to
+abbrev pub is_wanted : ℕ → GlanceKnown → Bool
+is_wanted done k = nat_lt done 1 || ((nat_lt done 4 && hands k) || ((nat_lt done 5 && heeds k) || (nat_lt done 6 && watches_anew k)))
+
+pub record IsGoodGlance (done : ℕ) (k : GlanceKnown) : Type 0 where
+  -- it is over exactly if nothing is due: what others changed while changes waited is heeded
+  pub over : is_told (glance_after done k) ≡ not (is_wanted done k)
+  -- it has succeeded exactly if the files were read
+  pub seen : glance_after done k ≡ Seen → k.is_done ≡ true
+  pub failed : glance_after done k ≡ Failed → k.is_done ≡ false
+  -- the store is kept only while both profiles are the ones that were read, for sure
+  pub kept : glance_after done k ≡ Refresh → refreshes k ≡ true
+
+abbrev pub NothingNewIsMissed : Type 0
+NothingNewIsMissed = (done : ℕ) (k : GlanceKnown) → IsGoodGlance done k

@@ -1,0 +1,85 @@
+-- What the thread does next that writes what waits.
+use Rattle.std.specs.Prelude.{ℕ, ◌≡◌, Bool, true, false, not, ◌&&◌, ◌||◌, if◌then◌else◌, ◌==◌, nat_lt, nat_le}
+use Rattle.dconf_rounds.specs.declared.rounds.Known.{Known}
+use Rattle.dconf_rounds.specs.declared.rounds.Task.{Task}
+use Rattle.dconf_rounds.specs.declared.rounds.Task.TheVariants.{Tell, Watch, Look, Write, Leave, Rest, End, GiveUp}
+
+-- ---- what is due
+
+abbrev pub watches : Known → Bool
+watches k = k.is_to_watch && not k.ends
+
+-- something waits; and it is in line already, or asked for, or its moment has come
+abbrev pub writes : Known → Bool
+writes k = k.waits && (k.is_in_line || (k.is_asked || nat_le k.again k.moment))
+
+-- before a write, unless the newest files are known
+abbrev pub looks_first : Known → Bool
+looks_first k = writes k && (k.asks || not k.is_watched)
+
+-- nothing waits, but it is in line, or was to try again
+abbrev pub leaves : Known → Bool
+leaves k = not k.waits && (k.is_in_line || not (k.again == 0))
+
+-- ---- how a round ends
+
+-- nobody but this thread has what it works for, and it is in line
+abbrev pub is_left : Known → Bool
+is_left k = k.is_in_line && k.is_let_go
+
+-- a later try than those of then has failed by a fault that lasts
+abbrev pub has_failed : Known → Bool
+has_failed k = nat_lt k.last_try k.failed
+
+abbrev pub ending : Known → Task
+ending k = if not k.ends then Rest else if not k.waits && not (is_left k) then End else if not (has_failed k) then Rest else if k.waits then GiveUp else End
+
+-- ---- what comes next, once the first tasks were done, or were not due
+
+abbrev pub task_after : ℕ → Known → Task
+task_after done k =
+    if nat_lt done 1 && k.has_untold then Tell else if nat_lt done 2 && watches k then Watch else
+    if nat_lt done 3 && looks_first k then Look else if nat_lt done 4 && writes k then Write else if nat_lt done 5 && leaves k then Leave else ending k
+
+abbrev pub task_number : Task → ℕ
+task_number Tell = 1
+task_number Watch = 2
+task_number Look = 3
+task_number Write = 4
+task_number Leave = 5
+task_number Rest = 6
+task_number End = 7
+task_number GiveUp = 8
+
+-- ---- the law
+
+-- a task that is due, and was not come to
+abbrev pub is_owed : ℕ → Known → Bool
+is_owed done k =
+    (nat_lt done 1 && k.has_untold) || ((nat_lt done 2 && watches k) ||
+    ((nat_lt done 3 && looks_first k) || ((nat_lt done 4 && writes k) || (nat_lt done 5 && leaves k))))
+
+abbrev pub is_over : Task → Bool
+is_over Tell = false
+is_over Watch = false
+is_over Look = false
+is_over Write = false
+is_over Leave = false
+is_over Rest = true
+is_over End = true
+is_over GiveUp = true
+
+pub record IsGoodRound (done : ℕ) (k : Known) : Type 0 where
+  -- it is over exactly if nothing is due
+  pub over : is_over (task_after done k) ≡ not (is_owed done k)
+  -- each task comes once, and those before it don't come after it
+  pub forward : is_over (task_after done k) ≡ false → nat_lt done (task_number (task_after done k)) ≡ true
+  -- while the program goes on, so does the thread
+  pub lives : k.ends ≡ false → is_over (task_after done k) ≡ true → task_after done k ≡ Rest
+  -- what waits is given up only at the program's end, after a later try has failed
+  pub gives_up : task_after done k ≡ GiveUp → (k.ends ≡ true) × (k.waits ≡ true) × (has_failed k ≡ true)
+  -- and else it ends with nothing that waits
+  pub ends : task_after done k ≡ End → (k.ends ≡ true) × (k.waits ≡ false)
+
+abbrev pub NothingDueIsPassedOver : Type 0
+NothingDueIsPassedOver = (done : ℕ) (k : Known) → IsGoodRound done k

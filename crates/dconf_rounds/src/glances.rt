@@ -1,0 +1,134 @@
+//! What whoever looks at the files of a store does next.
+ghost use Rattle.std.specs.Prelude.{◌≡◌};
+ghost use Rattle.dconf_rounds.specs.Glances.{begins_with, glance_after, glance_number, hands, heeds, is_another, opens, refreshes, watches_anew};
+
+/// What comes next, in this order; of the first three, one does.
+#[derive(Clone, Copy)]
+pub enum Glance {
+    /// Looks at the databases of the store that is open.
+    Refresh,
+    /// Opens the store anew, with what its profile names now, which may be other files.
+    Open,
+    /// The same, but the profiles look like those that were read.
+    OpenAgain,
+    /// Hands out what is the newest.
+    Hand,
+    /// Heeds what others changed, while own changes wait.
+    Heed,
+    /// Has the files watched that are the store's now.
+    Watch,
+    /// It is over, and succeeded.
+    Seen,
+    /// It is over, and failed.
+    Failed,
+}
+
+/// What is known.
+#[repr(C)]
+#[derive(Clone, Copy)]
+pub struct GlanceKnown {
+    /// Whether each of the two files that may be the profile is the one that was read: 0 it is, 2 nobody can be sure, and else it isn't.
+    pub first: u32,
+    pub second: u32,
+    pub is_open: bool,
+    /// The files were read, or the store was opened.
+    pub is_done: bool,
+    /// The newest is handed out already.
+    pub is_shown: bool,
+    /// What was handed out is another than before.
+    pub is_other: bool,
+    /// Changes wait to be written.
+    pub waits: bool,
+    /// The store that was opened has the files of the one before.
+    pub has_same_files: bool,
+}
+
+/// What comes next, once the first `done` tasks were done, or were not due.
+pub fn glance_after(done: u32, known: &GlanceKnown) -> Glance
+    ensures { result ≡ glance_after done known.now }
+{
+    if done < 1 {
+        return begins_with(known);
+    }
+    if done < 4 && hands(known) {
+        return Glance::Hand;
+    }
+    if done < 5 && heeds(known) {
+        return Glance::Heed;
+    }
+    if done < 6 && watches_anew(known) {
+        return Glance::Watch;
+    }
+    if known.is_done {
+        return Glance::Seen;
+    }
+    Glance::Failed
+}
+
+/// The same as a number: 1 refresh, 2 open, 3 open again, 4 hand, 5 heed, 6 watch, 7 seen, 8 failed.
+pub fn glance_number(done: u32, known: &GlanceKnown) -> u32
+    ensures { result ≡ glance_number (glance_after done known.now) }
+{
+    match glance_after(done, known) {
+        Glance::Refresh => 1,
+        Glance::Open => 2,
+        Glance::OpenAgain => 3,
+        Glance::Hand => 4,
+        Glance::Heed => 5,
+        Glance::Watch => 6,
+        Glance::Seen => 7,
+        Glance::Failed => 8,
+    }
+}
+
+fn begins_with(known: &GlanceKnown) -> Glance
+    ensures { result ≡ begins_with known.now }
+{
+    if refreshes(known) {
+        return Glance::Refresh;
+    }
+    if opens(known) {
+        return Glance::Open;
+    }
+    Glance::OpenAgain
+}
+
+/// Whether none is open, or a profile is another one for sure.
+fn opens(known: &GlanceKnown) -> bool
+    ensures { result ≡ opens known.now }
+{
+    !known.is_open || (is_another(known.first) || is_another(known.second))
+}
+
+/// Whether the store is open, and both profiles are the ones that were read, for sure.
+fn refreshes(known: &GlanceKnown) -> bool
+    ensures { result ≡ refreshes known.now }
+{
+    known.is_open && (known.first == 0 && known.second == 0)
+}
+
+fn is_another(sameness: u32) -> bool
+    ensures { result ≡ is_another sameness }
+{
+    sameness != 0 && sameness != 2
+}
+
+/// Whether anything may be new: also that it failed.
+fn hands(known: &GlanceKnown) -> bool
+    ensures { result ≡ hands known.now }
+{
+    !(known.is_done && (known.is_shown && refreshes(known)))
+}
+
+fn heeds(known: &GlanceKnown) -> bool
+    ensures { result ≡ heeds known.now }
+{
+    known.is_other && known.waits
+}
+
+/// Whether a store was opened whose files may be others than those that are watched.
+fn watches_anew(known: &GlanceKnown) -> bool
+    ensures { result ≡ watches_anew known.now }
+{
+    known.is_done && (opens(known) || (!refreshes(known) && !known.has_same_files))
+}

@@ -1,0 +1,36 @@
+//! What is done in turn by who writes what waits, by who wants to know that it is on the disk, and by who looks at the files of a store
+//! that is open.
+//!
+//! Nothing is kept here: each call is told what is known, and what was done last, and says what comes next.
+#![tactic(auto)]
+
+ghost use Rattle.dconf_rounds.specs.Rounds.{NothingDueIsPassedOver};
+ghost use Rattle.dconf_rounds.specs.Glances.{NothingNewIsMissed};
+ghost use Rattle.dconf_rounds.specs.Syncs.{YesMeansAllIsThere};
+
+mod glances;
+mod rounds;
+mod syncs;
+
+pub use glances::{Glance, GlanceKnown, glance_after, glance_number};
+pub use rounds::{Known, Task, task_after, task_number};
+pub use syncs::{SyncKnown, SyncTask, sync_after, sync_number};
+
+/// The thread does all that is due before it rests, in one order, and each once. It gives up what waits only at the program's end, after
+/// one more try has failed by a fault that lasts; and else it ends with nothing that waits.
+pub fn nothing_due_is_passed_over()
+    ensures { NothingDueIsPassedOver }
+{}
+
+/// Whoever asks is told yes exactly if all that waited then is settled, its turn to look came, and what was there already is on the
+/// disk. The files were looked at since.
+pub fn yes_means_all_is_there()
+    ensures { YesMeansAllIsThere }
+{}
+
+/// A look at the files keeps a store open only while both profiles are the ones that were read, for sure. It does all that is due before it
+/// is over: what is new is handed out, what others changed while changes waited is heeded, and the files of a store that was opened
+/// are watched.
+pub fn nothing_new_is_missed()
+    ensures { NothingNewIsMissed }
+{}

@@ -1,0 +1,150 @@
+//! What the thread does next that writes what waits, tells, and watches the files. All moments are of one clock; 0 is none.
+ghost use Rattle.std.specs.Prelude.{◌≡◌};
+ghost use Rattle.dconf_rounds.specs.Rounds.{ending, has_failed, is_left, leaves, looks_first, task_after, task_number, watches, writes};
+
+/// A task of a round, in the order in which they come.
+#[derive(Clone, Copy)]
+pub enum Task {
+    /// Tells what others left it to tell.
+    Tell,
+    /// Watches the files, or looks at them, if it is time.
+    Watch,
+    /// Looks at the files before it writes: what is there already needs no turn.
+    Look,
+    /// Writes what waits, or goes on waiting for its turn.
+    Write,
+    /// Nothing waits any longer: leaves the line for the turn, and forgets when it was to try again.
+    Leave,
+    /// The round is over: it rests until something happens.
+    Rest,
+    /// It is over for good: nothing waits.
+    End,
+    /// The same, but what waits is given up.
+    GiveUp,
+}
+
+/// What the thread knows.
+#[repr(C)]
+#[derive(Clone, Copy)]
+pub struct Known {
+    /// When a write is tried again that failed, or was not its turn.
+    pub again: u64,
+    pub moment: u64,
+    /// Which try was the last that failed by a fault that lasts; 0: none did.
+    pub failed: u64,
+    /// How many tries there were when the program began to end.
+    pub last_try: u64,
+    /// The program ends, or nobody holds what the thread works for.
+    pub ends: bool,
+    /// Nobody does, and the program goes on.
+    pub is_let_go: bool,
+    /// Something waits to be written.
+    pub waits: bool,
+    /// It is in line for its turn to write.
+    pub is_in_line: bool,
+    pub has_untold: bool,
+    /// Somebody wants to be told of what others change.
+    pub is_to_watch: bool,
+    /// Somebody wants a write to be tried now.
+    pub is_asked: bool,
+    /// Of something that waits nobody knows whether it changes anything.
+    pub asks: bool,
+    /// What others change is told without a look at the files.
+    pub is_watched: bool,
+}
+
+/// What comes next, once the first `done` tasks of the round were done, or were not due.
+pub fn task_after(done: u32, known: &Known) -> Task
+    ensures { result ≡ task_after done known.now }
+{
+    if done < 1 && known.has_untold {
+        return Task::Tell;
+    }
+    if done < 2 && watches(known) {
+        return Task::Watch;
+    }
+    if done < 3 && looks_first(known) {
+        return Task::Look;
+    }
+    if done < 4 && writes(known) {
+        return Task::Write;
+    }
+    if done < 5 && leaves(known) {
+        return Task::Leave;
+    }
+    ending(known)
+}
+
+/// The same as a number: 1 tell, 2 watch, 3 look, 4 write, 5 leave, 6 rest, 7 end, 8 give up.
+pub fn task_number(done: u32, known: &Known) -> u32
+    ensures { result ≡ task_number (task_after done known.now) }
+{
+    match task_after(done, known) {
+        Task::Tell => 1,
+        Task::Watch => 2,
+        Task::Look => 3,
+        Task::Write => 4,
+        Task::Leave => 5,
+        Task::Rest => 6,
+        Task::End => 7,
+        Task::GiveUp => 8,
+    }
+}
+
+fn watches(known: &Known) -> bool
+    ensures { result ≡ watches known.now }
+{
+    known.is_to_watch && !known.ends
+}
+
+/// Before a write, unless the newest files are known: what others set before is older than what waits, and is seen first.
+fn looks_first(known: &Known) -> bool
+    ensures { result ≡ looks_first known.now }
+{
+    writes(known) && (known.asks || !known.is_watched)
+}
+
+/// Something waits; and it is in line already, or asked for, or its moment has come.
+fn writes(known: &Known) -> bool
+    ensures { result ≡ writes known.now }
+{
+    known.waits && (known.is_in_line || (known.is_asked || known.again <= known.moment))
+}
+
+fn leaves(known: &Known) -> bool
+    ensures { result ≡ leaves known.now }
+{
+    !known.waits && (known.is_in_line || known.again != 0)
+}
+
+/// How the round ends. A thread that is in line for its turn has what it works for, where nobody else has that: it is kept until then.
+fn ending(known: &Known) -> Task
+    ensures { result ≡ ending known.now }
+{
+    if !known.ends {
+        return Task::Rest;
+    }
+    if !known.waits && !is_left(known) {
+        return Task::End;
+    }
+    if !has_failed(known) {
+        return Task::Rest;
+    }
+    if known.waits {
+        return Task::GiveUp;
+    }
+    Task::End
+}
+
+fn is_left(known: &Known) -> bool
+    ensures { result ≡ is_left known.now }
+{
+    known.is_in_line && known.is_let_go
+}
+
+/// Whether a later try than those of then has failed by a fault that lasts.
+fn has_failed(known: &Known) -> bool
+    ensures { result ≡ has_failed known.now }
+{
+    known.last_try < known.failed
+}

@@ -1,0 +1,82 @@
+//! What whoever wants to know that all is on the disk does next.
+ghost use Rattle.std.specs.Prelude.{◌≡◌};
+ghost use Rattle.dconf_rounds.specs.Syncs.{looks, sync_after, sync_number};
+
+/// What comes next, in this order.
+#[derive(Clone, Copy)]
+pub enum SyncTask {
+    /// Writes what waits, since no other thread does.
+    Write,
+    /// Waits until all that waits now is settled. It answers whether it is.
+    Await,
+    /// Takes its turn to look at the files. It answers whether it has it.
+    Take,
+    /// Looks at the files.
+    Look,
+    /// Brings to the disk what was there already when it was set. It answers whether it is there.
+    Settle,
+    /// It is over: all is there.
+    Yes,
+    /// It is over: not yet.
+    No,
+}
+
+/// What is known.
+#[repr(C)]
+#[derive(Clone, Copy)]
+pub struct SyncKnown {
+    /// Another thread writes what waits.
+    pub has_writer: bool,
+    /// There is a store.
+    pub has_store: bool,
+    /// The files were looked at since it was asked for.
+    pub has_looked: bool,
+    /// What was set was there already: nobody knows yet that it is on the disk.
+    pub is_to_settle: bool,
+}
+
+/// What comes next, once the first `done` tasks were done, or were not due; `is_so` is the answer to the last one.
+pub fn sync_after(done: u32, is_so: bool, known: &SyncKnown) -> SyncTask
+    ensures { result ≡ sync_after done is_so known.now }
+{
+    if done < 1 && !known.has_writer {
+        return SyncTask::Write;
+    }
+    if done < 2 {
+        return SyncTask::Await;
+    }
+    if done != 4 && !is_so {
+        return SyncTask::No;
+    }
+    if done < 3 {
+        return SyncTask::Take;
+    }
+    if done < 4 && looks(known) {
+        return SyncTask::Look;
+    }
+    if done < 5 && known.is_to_settle {
+        return SyncTask::Settle;
+    }
+    SyncTask::Yes
+}
+
+/// The same as a number: 1 write, 2 await, 3 take, 4 look, 5 settle, 6 yes, 7 no.
+pub fn sync_number(done: u32, is_so: bool, known: &SyncKnown) -> u32
+    ensures { result ≡ sync_number (sync_after done is_so known.now) }
+{
+    match sync_after(done, is_so, known) {
+        SyncTask::Write => 1,
+        SyncTask::Await => 2,
+        SyncTask::Take => 3,
+        SyncTask::Look => 4,
+        SyncTask::Settle => 5,
+        SyncTask::Yes => 6,
+        SyncTask::No => 7,
+    }
+}
+
+fn looks(known: &SyncKnown) -> bool
+    ensures { result ≡ looks known.now }
+{
+    known.has_store && !known.has_looked
+}

@@ -1,0 +1,163 @@
+//! What is done in turn by who writes what waits, by who wants to know that it is on the disk, and by who looks at the files.
+use dconf_rounds::{GlanceKnown, Known, SyncKnown, glance_number, sync_number, task_number};
+use std::test::Fail;
+
+/// Nothing is due.
+const IDLE: Known = Known {
+    again: 0,
+    moment: 9,
+    failed: 0,
+    last_try: 0,
+    ends: false,
+    is_let_go: false,
+    waits: false,
+    is_in_line: false,
+    has_untold: false,
+    is_to_watch: false,
+    is_asked: false,
+    asks: false,
+    is_watched: true,
+};
+
+fn tasks_are_due() -> bool {
+    let busy = Known {
+        waits: true,
+        has_untold: true,
+        is_to_watch: true,
+        asks: true,
+        ..IDLE
+    };
+    let later = Known {
+        again: 10,
+        waits: true,
+        ..IDLE
+    };
+    let in_line = Known {
+        is_in_line: true,
+        ..later
+    };
+    let asked = Known {
+        is_asked: true,
+        is_watched: false,
+        ..later
+    };
+    let settled = Known { again: 10, ..IDLE };
+    task_number(0, &IDLE) == 6
+        && task_number(0, &busy) == 1
+        && task_number(1, &busy) == 2
+        && task_number(2, &busy) == 3
+        && task_number(3, &busy) == 4
+        && task_number(4, &busy) == 6
+        && task_number(0, &later) == 6
+        && task_number(0, &in_line) == 4
+        && task_number(0, &asked) == 3
+        && task_number(0, &settled) == 5
+        && task_number(5, &settled) == 6
+}
+
+fn threads_end() -> bool {
+    let ending = Known {
+        ends: true,
+        is_to_watch: true,
+        ..IDLE
+    };
+    let waiting = Known {
+        waits: true,
+        ..ending
+    };
+    let failed = Known {
+        failed: 3,
+        last_try: 2,
+        ..waiting
+    };
+    let line = Known {
+        is_in_line: true,
+        ..ending
+    };
+    let left = Known {
+        is_let_go: true,
+        ..line
+    };
+    task_number(0, &ending) == 7
+        && task_number(0, &waiting) == 4
+        && task_number(4, &waiting) == 6
+        && task_number(4, &failed) == 8
+        && task_number(5, &line) == 7
+        && task_number(5, &left) == 6
+}
+
+fn syncs_are_answered() -> bool {
+    let alone = SyncKnown {
+        has_writer: false,
+        has_store: true,
+        has_looked: false,
+        is_to_settle: false,
+    };
+    let beside = SyncKnown {
+        has_writer: true,
+        ..alone
+    };
+    let settling = SyncKnown {
+        has_looked: true,
+        is_to_settle: true,
+        ..beside
+    };
+    sync_number(0, true, &alone) == 1
+        && sync_number(0, true, &beside) == 2
+        && sync_number(1, false, &alone) == 2
+        && sync_number(2, false, &beside) == 7
+        && sync_number(2, true, &beside) == 3
+        && sync_number(3, false, &beside) == 7
+        && sync_number(3, true, &beside) == 4
+        && sync_number(4, false, &beside) == 6
+        && sync_number(3, true, &settling) == 5
+        && sync_number(5, false, &settling) == 7
+        && sync_number(5, true, &settling) == 6
+}
+
+fn looks_end() -> bool {
+    let same = GlanceKnown {
+        first: 0,
+        second: 0,
+        is_open: true,
+        is_done: true,
+        is_shown: true,
+        is_other: false,
+        waits: true,
+        has_same_files: true,
+    };
+    let unsure = GlanceKnown { second: 2, ..same };
+    let other = GlanceKnown { first: 1, ..unsure };
+    let shut = GlanceKnown {
+        is_open: false,
+        ..same
+    };
+    let failed = GlanceKnown {
+        is_done: false,
+        ..other
+    };
+    let changed = GlanceKnown {
+        is_shown: false,
+        is_other: true,
+        ..same
+    };
+    glance_number(0, &same) == 1
+        && glance_number(0, &unsure) == 3
+        && glance_number(0, &other) == 2
+        && glance_number(0, &shut) == 2
+        && glance_number(1, &same) == 7
+        && glance_number(1, &changed) == 4
+        && glance_number(4, &changed) == 5
+        && glance_number(5, &changed) == 7
+        && glance_number(3, &unsure) == 4
+        && glance_number(4, &unsure) == 7
+        && glance_number(4, &other) == 6
+        && glance_number(2, &failed) == 4
+        && glance_number(4, &failed) == 8
+}
+
+#[test]
+fn tasks_come_in_their_order(rt: HostRuntime) -> Result<(), Fail> {
+    assert!(rt; tasks_are_due() && threads_end() && syncs_are_answered() && looks_end());
+    Ok(())
+}
