@@ -547,10 +547,8 @@ enum {
     DCONFDB_ENTRY_WAITS
 };
 
+/* Of one edit WAITS says that something else is seen by it, which is told, and EMPTY that it is left out. */
 uint32_t dconfdb_entry(const DconfdbNewEdit *edits, size_t count);
-
-/* Whether something else is seen by an edit that waits: that is told. */
-bool dconfdb_is_news(const DconfdbNewEdit *edit);
 
 /* Whether all that a change asks for is there already, so that nothing is to be written: the user has it, and no other edit of its keys
  * waits. */
@@ -918,33 +916,83 @@ typedef struct {
 /* The task that is due after that one. */
 uint32_t dconfdb_glance_after(uint32_t task, const DconfdbGlance *known);
 
-/* The pause before a write is tried again, by the one before it; 0 before the first. */
-uint64_t dconfdb_pause_after(uint64_t pause);
-
 /* How many milliseconds there are until the first of two moments. False, and `wait` as it was, where neither is one. */
 bool dconfdb_sleep_until(uint64_t again, uint64_t look, uint64_t now, uint64_t *wait);
 
-/* Whether the program's end goes on waiting. */
-bool dconfdb_exit_goes_on(uint64_t now, uint64_t end, uint64_t moved);
-
-/* How long it is waited until all is written. */
+/* How long it is waited until all is written: {0, each, 0} at first. */
 typedef struct {
     uint64_t end, each, latest;
 } DconfdbPatience;
 
-/* From now on: so long, and as long again after each turn of another program, up to a minute. */
-void dconfdb_patience_begin(DconfdbPatience *patience, uint64_t now, uint64_t each);
+/* What was written meanwhile. */
+typedef struct {
+    uint64_t settled; /* how many changes are */
+    uint64_t added;   /* how many there were when the wait began */
+    uint64_t failed;  /* which try was the last that failed by a fault that lasts; 0: none did */
+    uint64_t tries;   /* how many there were when the wait began */
+    uint64_t moved;   /* when the thread that writes did, or was to try again; UINT64_MAX: nobody minds */
+} DconfdbProgress;
 
-/* Another program had a turn. */
+/* It begins now: so long; or another program had a turn: as long again, up to a minute. */
 void dconfdb_patience_renew(DconfdbPatience *patience, uint64_t now);
 
-/* Whether it is waited on: fewer changes are settled than there were when the wait began, no later try than those of then has failed
- * by a fault that lasts (0: none has), and the time isn't over. */
-bool dconfdb_patience_goes_on(const DconfdbPatience *patience, uint64_t settled, uint64_t added, uint64_t failed, uint64_t tries,
-                              uint64_t now);
+/* Whether it is waited on: not all is settled, no later try has failed by a fault that lasts, the time isn't over, and the thread moved
+ * within two seconds. */
+bool dconfdb_patience_goes_on(const DconfdbPatience *patience, const DconfdbProgress *progress, uint64_t now);
 
-/* Whether a fault lasts, by which nothing could be written since that moment. `tries_again`: somebody will. */
-bool dconfdb_fault_is_lasting(bool is_momentary, bool tries_again, uint64_t since, uint64_t now);
+/* A fault that was met, and is there still: all bits 0 if there is none. */
+typedef struct {
+    uint64_t since, pause; /* since when it is there, and the pause before what failed is tried again */
+    bool is_there, is_said;
+} DconfdbFailing;
+
+/* What is said of it now. */
+enum {
+    DCONFDB_FAULT_UNSAID, /* nothing: there is none, or it isn't minded yet */
+    DCONFDB_FAULT_SAY,    /* it is said, once, as it lasts */
+    DCONFDB_FAULT_SAID,   /* it lasts, and was said */
+    DCONFDB_FAULT_OVER
+};
+
+/* It was tried again: the fault is there or not. It lasts if it is there for a second and a half, or ten seconds if it mostly passes in a
+ * moment (`is_momentary`); or if nobody tries again of themselves. */
+uint32_t dconfdb_failing_met(DconfdbFailing *failing, bool is_there, bool is_momentary, bool tries_again, uint64_t now);
+
+/* Who looks at files that nobody watches. */
+enum {
+    DCONFDB_LOOKER_READS,
+    DCONFDB_LOOKER_FAILED, /* it read, and the look failed */
+    DCONFDB_LOOKER_TELLS   /* it is about to tell of a change */
+};
+
+/* When the next look is due, if this one is made, which was due in that moment; of TELLS, how long it is waited for it. 0: none is made. */
+uint64_t dconfdb_next_look(uint32_t looker, uint64_t due, uint64_t now, bool has_store, bool has_opened, bool is_at_work);
+
+/* Whether what was begun in one process is at work in this one: it has not ended, and this is no child of that by fork(). */
+bool dconfdb_is_at_work(bool has_ended, uint32_t begun_in, uint32_t process);
+
+/* What is known of what is told. */
+typedef struct {
+    size_t taken;     /* how many paths were taken for the next notice */
+    bool is_first;    /* nobody has seen anything before */
+    bool ends;        /* the program ends */
+    bool is_other;    /* what is the newest is another than before */
+    bool has_edits;   /* edits waited then, or wait now */
+    bool is_found;    /* the paths that are seen otherwise are known; else no memory is left */
+    bool has_path;    /* here is another one; else those were all */
+    bool is_listened; /* somebody listens to it; or, of all, to what they begin with */
+} DconfdbTelling;
+
+/* What is done with a path. */
+enum {
+    DCONFDB_TELL_NOTHING,
+    DCONFDB_TELL_TAKE,        /* take it for the next notice */
+    DCONFDB_TELL_THEN_TAKE,   /* tell what was taken, which are as many as one notice may have, and then take it */
+    DCONFDB_TELL_WHAT_IS_TAKEN,
+    DCONFDB_TELL_ALL          /* as if everything were seen otherwise */
+};
+
+uint32_t dconfdb_tell_next(const DconfdbTelling *known);
 
 /* ---- changes that wait. Each key and each edit has a number; an edit's is 1 or more, and greater than those of older ones. */
 

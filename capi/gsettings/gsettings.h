@@ -10,6 +10,7 @@
 #include "locked.h"
 #include "order.h"
 #include "place.h"
+#include "warned.h"
 #include "watch.h"
 
 #include <gio/gio.h>
@@ -63,8 +64,8 @@ void change_add(Change *change, const char *path, GVariant *value);
 void change_free(Change *change);
 
 /* What becomes of the change, by the proved call, beside what waits and the newest snapshot, if there is one. Resets of
- * what may not be changed are left out. */
-uint32_t change_entry(Change *change, const Waiting *waiting, const DconfdbSnapshot *now);
+ * what may not be changed are left out; where nobody is at work that is all. */
+uint32_t change_entry(Change *change, const Waiting *waiting, const DconfdbSnapshot *now, bool is_at_work);
 
 /* The paths of the edits by which something else is seen, each with `value`: to be told. */
 GTree *change_tree(const Change *change);
@@ -134,10 +135,8 @@ typedef struct {
     DconfdbStore *store; /* NULL: it isn't opened yet, or could not be. Changed with `lock` held, too */
     Profiles seen;       /* as they were then */
     guint last_look;     /* the number of the last look at the files that succeeded */
-    gint64 failing;      /* since when nothing can be written, by no fault of a change; 0: it can */
-    gint64 pause;        /* before the next try */
-    bool has_warned;     /* of that */
-    GHashTable *told;    /* the faults that were reported and are there still; NULL: none */
+    DconfdbFailing failing; /* by no fault of a change: since when nothing can be written */
+    Warned told;         /* the faults of files that were reported and are there still */
 
     /* Read with `turn` or `lock` held, changed with both. */
     bool has_opened;      /* the first opening is over; it may have failed */
@@ -248,6 +247,9 @@ typedef struct {
 
 Patience patience_of(const DconfdbBackend *self, gint64 each);
 
+/* Whether it goes on, by what was written: `failed` and `settled` are from now, the others from when the wait began. */
+bool patience_goes_on(const DconfdbPatience *time, guint64 settled, guint64 added, guint64 failed, guint64 tries);
+
 /* To be called now and then: it is renewed if there was a turn since the last call. */
 void patience_renew(Patience *patience, const DconfdbBackend *self);
 
@@ -256,11 +258,14 @@ void patience_renew(Patience *patience, const DconfdbBackend *self);
 /* Whether this is a child of fork(): it has no such thread, and its parent writes what waits; so it sets nothing. `lock` may be let go. */
 static inline bool is_forked(const DconfdbBackend *self)
 {
-    return getpid() != self->process;
+    return !dconfdb_is_at_work(false, (uint32_t)self->process, (uint32_t)getpid());
 }
 
 /* Whether it sets, writes and watches: it is no such child, and hasn't ended. */
-bool is_at_work(const DconfdbBackend *self);
+static inline bool is_at_work(const DconfdbBackend *self)
+{
+    return dconfdb_is_at_work(self->has_ended, (uint32_t)self->process, (uint32_t)getpid());
+}
 
 /* What is known of what waits; also before a write begins. */
 void know_what_waits(const DconfdbBackend *self, DconfdbRound *known);

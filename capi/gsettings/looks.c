@@ -24,53 +24,14 @@ void warn_of(Notice *notice, const char *text)
     g_ptr_array_add(notice->faults, g_strdup(text));
 }
 
-static void add_fault(GHashTable **faults, const DconfdbError *fault)
+static void keep(void *notice, const char *text)
 {
-    if (!*faults)
-        *faults = g_hash_table_new_full(g_str_hash, g_str_equal, g_free, NULL);
-    g_hash_table_add(*faults, g_strdup(fault->text));
+    warn_of(notice, text);
 }
 
-/* The faults of the store's files. */
-static void add_faults(const DconfdbStore *store, GHashTable **faults)
-{
-    DconfdbError error;
-    DconfdbSnapshot *now = dconfdb_store_snapshot((DconfdbStore *)store);
-    begin_error(&error);
-    if (dconfdb_store_profile_fault(store, &error))
-        add_fault(faults, &error);
-    for (size_t i = 0; i < dconfdb_snapshot_databases(now); i++) {
-        if (dconfdb_snapshot_fault(now, i, &error))
-            add_fault(faults, &error);
-    }
-    dconfdb_snapshot_unref(now);
-}
-
-/* Those of these faults that were not told yet. */
-static void warn_of_new(const DconfdbBackend *self, Notice *notice, GHashTable *faults)
-{
-    GHashTableIter at;
-    gpointer text;
-    g_hash_table_iter_init(&at, faults);
-    while (g_hash_table_iter_next(&at, &text, NULL)) {
-        if (!self->told || !g_hash_table_contains(self->told, text))
-            warn_of(notice, text);
-    }
-}
-
-/* What is to be warned of: each fault once, as long as it is there. `error` is that of a look that failed, or
- * NULL. */
 void warn_once(DconfdbBackend *self, Notice *notice, const DconfdbError *error)
 {
-    GHashTable *faults = NULL;
-    if (error)
-        add_fault(&faults, error);
-    if (self->store)
-        add_faults(self->store, &faults);
-    if (faults)
-        warn_of_new(self, notice, faults);
-    g_clear_pointer(&self->told, g_hash_table_unref);
-    self->told = faults;
+    warned_renew(&self->told, self->store, error, keep, notice);
 }
 
 /* One that can't be looked at isn't there. */

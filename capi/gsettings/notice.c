@@ -8,8 +8,8 @@
 #include <stdlib.h>
 #include <string.h>
 
-/* GSettings ends the program where one notice has more than 255 keys of a schema. */
-enum { MOST_KEYS = 255 };
+/* As many as one notice may have, and one more. */
+enum { NOTICE_ROOM = 256 };
 
 enum { FEW_KEYS = 4 };
 
@@ -97,55 +97,73 @@ static bool is_told(Told *told, const Notice *notice)
 
 /* ---- who is told */
 
-/* Those that somebody listens to, without their first slash, as GSettings wants them below `/`. */
-static void send_changed(DconfdbBackend *self, const char *paths)
+/* Those that were taken. */
+static void send_taken(DconfdbBackend *self, DconfdbTelling *telling, const char **items)
 {
-    const char *items[MOST_KEYS + 1];
-    for (const char *at = paths; *at;) {
-        guint count = 0;
-        for (; *at && count < MOST_KEYS; at += strlen(at) + 1) {
-            if (is_subscribed(self, at))
-                items[count++] = at + 1;
-        }
-        items[count] = NULL;
-        if (count > 0)
-            g_settings_backend_keys_changed(&self->parent, "/", items, NULL);
+    items[telling->taken] = NULL;
+    telling->taken = 0;
+    g_settings_backend_keys_changed(&self->parent, "/", items, NULL);
+}
+
+/* The keys, without their first slash, as GSettings wants them below `/`. */
+static void send_changed(DconfdbBackend *self, DconfdbTelling *telling, const char *paths)
+{
+    const char *items[NOTICE_ROOM];
+    telling->has_path = true;
+    for (const char *at = paths; telling->has_path; at += strlen(at) + 1) {
+        telling->has_path = *at != 0;
+        telling->is_listened = !telling->has_path || is_subscribed(self, at);
+        uint32_t next = dconfdb_tell_next(telling);
+        if (next == DCONFDB_TELL_ALL)
+            g_settings_backend_path_changed(&self->parent, "/", NULL);
+        if (next == DCONFDB_TELL_THEN_TAKE || next == DCONFDB_TELL_WHAT_IS_TAKEN)
+            send_taken(self, telling, items);
+        if (next == DCONFDB_TELL_TAKE || next == DCONFDB_TELL_THEN_TAKE)
+            items[telling->taken++] = at + 1;
     }
 }
 
-/* Keys, and directories as a whole, of which it changed whether they may be written. Which keys a directory has, only GSettings knows. */
-static void send_writable(DconfdbBackend *self, const char *paths)
+/* Which keys a directory has, only GSettings knows. */
+static void send_writable_of(DconfdbBackend *self, const char *path)
 {
-    for (const char *at = paths; *at; at += strlen(at) + 1) {
-        if (g_str_has_suffix(at, "/"))
-            g_settings_backend_path_writable_changed(&self->parent, at);
-        else if (is_subscribed(self, at))
-            g_settings_backend_writable_changed(&self->parent, at);
+    if (g_str_has_suffix(path, "/"))
+        g_settings_backend_path_writable_changed(&self->parent, path);
+    else
+        g_settings_backend_writable_changed(&self->parent, path);
+}
+
+/* Keys, and directories as a whole, of which it changed whether they may be written: each is a notice of its own. */
+static void send_writable(DconfdbBackend *self, DconfdbTelling *telling, const char *paths)
+{
+    telling->has_path = true;
+    for (const char *at = paths; telling->has_path; at += strlen(at) + 1) {
+        telling->has_path = *at != 0;
+        telling->is_listened = g_str_has_suffix(at, "/") || is_subscribed(self, at);
+        uint32_t next = dconfdb_tell_next(telling);
+        if (next == DCONFDB_TELL_ALL)
+            send_writable_of(self, "/");
+        if (next == DCONFDB_TELL_TAKE)
+            send_writable_of(self, at);
     }
 }
 
-/* Without memory all is told: once too often, and not too seldom. */
-static void send(DconfdbBackend *self, const Notice *notice)
+static void send(DconfdbBackend *self, const Notice *notice, DconfdbTelling *telling)
 {
     Told told;
-    if (is_told(&told, notice)) {
-        send_changed(self, told.paths);
+    telling->is_found = is_told(&told, notice);
+    send_changed(self, telling, telling->is_found ? told.paths : "");
+    if (telling->is_found)
         seen_free(&told);
-    } else {
-        g_settings_backend_path_changed(&self->parent, "/", NULL);
-    }
-    if (seen_relocked(&told, notice->before, notice->after, NULL)) {
-        send_writable(self, told.paths);
+    telling->is_found = seen_relocked(&told, notice->before, notice->after, NULL);
+    send_writable(self, telling, telling->is_found ? told.paths : "");
+    if (telling->is_found)
         seen_free(&told);
-    } else {
-        g_settings_backend_path_writable_changed(&self->parent, "/");
-    }
 }
 
-/* Whether something may be seen otherwise. */
-static bool is_news(const Notice *notice)
+/* Whether anything is told, whatever is found. */
+static bool is_news(const DconfdbTelling *telling)
 {
-    return !notice->is_first && (notice->before != notice->after || notice->edited);
+    return dconfdb_tell_next(telling) != DCONFDB_TELL_NOTHING;
 }
 
 static bool has_ended(DconfdbBackend *self)
@@ -167,11 +185,13 @@ static void warn(const char *fault, bool ends)
 
 void notice_tell(DconfdbBackend *self, Notice *notice)
 {
-    bool is = is_news(notice), ends = (is || notice->faults) && has_ended(self);
-    if (is && !ends)
-        send(self, notice);
+    DconfdbTelling telling = {
+        .is_first = notice->is_first, .is_other = notice->before != notice->after, .has_edits = notice->edited != NULL};
+    telling.ends = (is_news(&telling) || notice->faults) && has_ended(self);
+    if (is_news(&telling))
+        send(self, notice, &telling);
     for (guint i = 0; notice->faults && i < notice->faults->len; i++)
-        warn(notice->faults->pdata[i], ends);
+        warn(notice->faults->pdata[i], telling.ends);
     g_clear_pointer(&notice->faults, g_ptr_array_unref);
     g_clear_pointer(&notice->edited, g_array_unref);
     g_strfreev(notice->odd);

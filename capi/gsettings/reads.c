@@ -67,20 +67,6 @@ static GVariant *take_lent(Source *source, Reads *reads, const char *key)
     return lent_value(g_steal_pointer(&source->now), reads, key);
 }
 
-static DconfdbSnapshot *snapshot_of(DconfdbBackend *self)
-{
-    look_if_unwatched(self);
-    lock_opened(self);
-    DconfdbSnapshot *now = self->now ? dconfdb_snapshot_ref(self->now) : NULL;
-    g_mutex_unlock(&self->lock);
-    return now;
-}
-
-static GVariant *read_default(DconfdbBackend *self, const char *key)
-{
-    return lent_value(snapshot_of(self), dconfdb_snapshot_read_default, key);
-}
-
 /* Since only who reads knows the type that is asked for, it is kept of which keys a value of another type was passed over: where
  * their default changes, it is told. */
 static void remember_odd(DconfdbBackend *self, const char *key, const GVariantType *expected)
@@ -96,16 +82,16 @@ static bool fits(GVariant *value, const GVariantType *expected)
     return !value || g_variant_is_of_type(value, expected);
 }
 
-/* What is seen beside an edit that waits, or of another type than the one that is stored: as the proved call has it. */
-static GVariant *read_beside(DconfdbBackend *self, Source *source, const char *key, const GVariantType *expected)
+/* Where the setting is found, or its default (`of_default`), as the proved call has it. */
+static uint32_t found_of(const Source *source, bool of_default, bool may, bool edit_fits, bool stored_fits)
 {
-    GVariant *stored = lent_value(source->now ? dconfdb_snapshot_ref(source->now) : NULL, dconfdb_snapshot_read, key);
-    bool may = source->now && dconfdb_snapshot_is_writable(source->now, key);
-    bool edit_fits = fits(source->value, expected), stored_fits = fits(stored, expected);
     DconfdbKnown known = {source->is_edited, source->value != NULL, source->has_user, may, edit_fits, stored_fits};
-    uint32_t found = dconfdb_found(false, false, &known);
-    if (!edit_fits || !stored_fits)
-        remember_odd(self, key, expected);
+    return dconfdb_found(false, of_default, &known);
+}
+
+/* What is there; `stored` is what is stored, if that was read. */
+static GVariant *take_found(Source *source, uint32_t found, GVariant *stored, const char *key)
+{
     GVariant *value = found == DCONFDB_FOUND_STORED ? g_steal_pointer(&stored)
         : found == DCONFDB_FOUND_EDIT               ? g_steal_pointer(&source->value)
                                                     : take_lent(source, dconfdb_snapshot_read_default, key);
@@ -114,18 +100,29 @@ static GVariant *read_beside(DconfdbBackend *self, Source *source, const char *k
     return value;
 }
 
+/* What is seen beside an edit that waits, or of another type than the one that is stored. */
+static GVariant *read_beside(DconfdbBackend *self, Source *source, const char *key, const GVariantType *expected)
+{
+    GVariant *stored = lent_value(source->now ? dconfdb_snapshot_ref(source->now) : NULL, dconfdb_snapshot_read, key);
+    bool may = source->now && dconfdb_snapshot_is_writable(source->now, key);
+    bool edit_fits = fits(source->value, expected), stored_fits = fits(stored, expected);
+    if (!edit_fits || !stored_fits)
+        remember_odd(self, key, expected);
+    return take_found(source, found_of(source, false, may, edit_fits, stored_fits), stored, key);
+}
+
 GVariant *dconfdb_backend_read(GSettingsBackend *backend, const char *key, const GVariantType *expected,
                                       gboolean default_value)
 {
     DconfdbBackend *self = backend_of(backend);
-    if (default_value)
-        return read_default(self, key);
     Source source = source_of(self, key);
+    if (default_value)
+        return take_found(&source, found_of(&source, true, false, false, false), NULL, key);
     if (G_UNLIKELY(source.is_edited))
         return read_beside(self, &source, key, expected);
     /* Nearly all reads end here: what is stored is seen, if it is of that type. */
     GVariant *value = take_lent(&source, dconfdb_snapshot_read, key);
-    if (G_LIKELY(fits(value, expected)))
+    if (G_LIKELY(found_of(&source, false, false, true, fits(value, expected)) == DCONFDB_FOUND_STORED))
         return value;
     g_variant_unref(value);
     source = source_of(self, key);
@@ -152,7 +149,7 @@ gboolean dconfdb_backend_get_writable(GSettingsBackend *backend, const char *nam
     DconfdbBackend *self = backend_of(backend);
     look_if_unwatched(self);
     lock_opened(self);
-    bool is = self->now && !is_forked(self) && seen_is_writable(self->now, name);
+    bool is = self->now && is_at_work(self) && seen_is_writable(self->now, name);
     g_mutex_unlock(&self->lock);
     return is;
 }

@@ -11,9 +11,7 @@ enum { LONGEST_WRITE = 10000000 };
 /* `lock` is held. */
 static uint32_t entry_of(const DconfdbBackend *self, Change *change)
 {
-    if (!is_at_work(self))
-        return DCONFDB_ENTRY_REFUSED;
-    return change_entry(change, &self->waiting, self->now);
+    return change_entry(change, &self->waiting, self->now, is_at_work(self));
 }
 
 /* `lock` is held. True: there is no worker, and it is to be written here. */

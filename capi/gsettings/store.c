@@ -6,9 +6,8 @@
 #include <string.h>
 #include <time.h>
 
-/* In microseconds: how long who catches up waits; how often who reads looks at the files; and how often a mutex is tried. */
-enum { LONGEST_CATCH_UP = 200000 };
-enum { BETWEEN_LOOKS = 10000, AFTER_A_FAULT = 1000000, TRY = 1000 };
+/* In microseconds: how often a mutex is tried. */
+enum { TRY = 1000 };
 
 bool mutex_lock_until(GMutex *mutex, gint64 end)
 {
@@ -66,15 +65,22 @@ static gint64 coarse_time(void)
     return (gint64)now.tv_sec * G_USEC_PER_SEC + now.tv_nsec / 1000;
 }
 
-/* Whether this thread is to look, if that is no first opening; then one is again after so long. */
+/* `lock` is held. When the next look is due, if this one is to be made; or 0. */
+static gint64 next_look(const DconfdbBackend *self, uint32_t looker, gint64 now)
+{
+    uint64_t due = (uint64_t)atomic_load(&self->looks);
+    return (gint64)dconfdb_next_look(looker, due, (uint64_t)now, self->place.folder != NULL, self->has_opened, is_at_work(self));
+}
+
+/* Whether this thread is to look. */
 static bool is_to_peek(DconfdbBackend *self, gint64 now)
 {
     g_mutex_lock(&self->lock);
-    bool is = self->place.folder && self->has_opened && !self->has_ended && now >= atomic_load(&self->looks);
-    if (is)
-        atomic_store(&self->looks, now + BETWEEN_LOOKS);
+    gint64 next = next_look(self, DCONFDB_LOOKER_READS, now);
+    if (next != 0)
+        atomic_store(&self->looks, next);
     g_mutex_unlock(&self->lock);
-    return is;
+    return next != 0;
 }
 
 /* `turn` is held, and given back. A handler would run amid what the caller does, if this thread told. */
@@ -83,7 +89,7 @@ static void look_quietly(DconfdbBackend *self)
     Notice notice = {.faults = NULL};
     /* A file that can't be read is read again and again. */
     if (!look(self, &notice))
-        atomic_store(&self->looks, coarse_time() + AFTER_A_FAULT);
+        atomic_store(&self->looks, (gint64)dconfdb_next_look(DCONFDB_LOOKER_FAILED, 0, (uint64_t)coarse_time(), true, true, true));
     g_mutex_unlock(&self->turn);
     if (notice.before != notice.after || notice.faults)
         worker_tells(self, &notice);
@@ -94,7 +100,7 @@ static void look_quietly(DconfdbBackend *self)
 void store_peek(DconfdbBackend *self)
 {
     gint64 now = coarse_time();
-    /* Nearly all reads end here, without a lock. */
+    /* Nearly all reads end here, without a lock: before that moment the proved call says no, too. */
     if (G_LIKELY(now < atomic_load_explicit(&self->looks, memory_order_relaxed)))
         return;
     if (is_to_peek(self, now) && g_mutex_trylock(&self->turn))
@@ -120,9 +126,9 @@ static bool shows_amid_write(DconfdbBackend *self)
 void store_catch_up(DconfdbBackend *self)
 {
     g_mutex_lock(&self->lock);
-    bool is = self->place.folder && self->has_opened && is_at_work(self);
+    gint64 end = next_look(self, DCONFDB_LOOKER_TELLS, g_get_monotonic_time());
     g_mutex_unlock(&self->lock);
-    gint64 end = g_get_monotonic_time() + LONGEST_CATCH_UP;
+    bool is = end != 0;
     while (is && !g_mutex_trylock(&self->turn)) {
         is = !shows_amid_write(self) && g_get_monotonic_time() < end;
         if (is)
@@ -137,7 +143,7 @@ void store_end(DconfdbBackend *self)
     Notice *notice;
     while ((notice = g_queue_pop_head(&self->untold)) != NULL)
         notice_tell_and_free(self, notice);
-    g_clear_pointer(&self->told, g_hash_table_unref);
+    warned_end(&self->told);
     dconfdb_snapshot_unref(self->now);
     dconfdb_store_close(self->store);
     for (int i = 0; i < 2; i++)
@@ -149,7 +155,7 @@ void store_leave(DconfdbBackend *self)
 {
     g_mutex_init(&self->turn);
     self->store = NULL;
-    self->told = NULL;
+    self->told = (Warned){NULL};
     self->has_worker = false;
     self->wakes = -1;
     self->is_watching = true; /* its reads look at nothing, as its parent's store isn't its own */

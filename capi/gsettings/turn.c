@@ -6,14 +6,14 @@
 
 #include <errno.h>
 
-/* In microseconds: after how long it is warned of, and between two tries where no thread can be had. */
+/* In microseconds: when the worker is to ask whether it is warned of, and between two tries where no thread can be had. */
 enum { LONG = 10000000, PAUSE = 50000 };
 
 struct Wait {
     DconfdbBackend *backend;
     FolderLock lock;
-    gint64 began;
-    bool has_warned, has_thread;
+    DconfdbFailing failing; /* others have their turn */
+    bool has_thread;
     pthread_t thread;
     int fault;
     bool is_over; /* the thread's; guarded by `lock` of the backend, as is `fault` until then */
@@ -61,9 +61,8 @@ static bool is_over(DconfdbBackend *self, Wait *wait, gint64 end)
 /* When the program ends, it says by itself what isn't written. */
 static void warn(DconfdbBackend *self, Wait *wait)
 {
-    if (wait->has_warned || g_get_monotonic_time() < wait->began + LONG)
+    if (dconfdb_failing_met(&wait->failing, true, true, true, (uint64_t)g_get_monotonic_time()) != DCONFDB_FAULT_SAY)
         return;
-    wait->has_warned = true;
     g_mutex_lock(&self->lock);
     bool ends = self->has_ended;
     g_mutex_unlock(&self->lock);
@@ -77,7 +76,6 @@ Turn turn_take(DconfdbBackend *self, gint64 end)
     if (!wait) {
         wait = self->wait = g_new0(Wait, 1);
         wait->backend = self;
-        wait->began = g_get_monotonic_time();
     }
     if (is_over(self, wait, end))
         return (Turn){&wait->lock, wait->fault};
@@ -92,7 +90,7 @@ gint64 turn_next(const DconfdbBackend *self)
         return 0;
     if (!wait->has_thread)
         return g_get_monotonic_time() + PAUSE;
-    return wait->has_warned ? 0 : wait->began + LONG;
+    return wait->failing.is_said ? 0 : (gint64)wait->failing.since + LONG;
 }
 
 void turn_give(DconfdbBackend *self)
@@ -123,9 +121,15 @@ static DconfdbFileTime changed_at(const DconfdbBackend *self)
 
 Patience patience_of(const DconfdbBackend *self, gint64 each)
 {
-    Patience patience = {.changed = changed_at(self)};
-    dconfdb_patience_begin(&patience.time, (uint64_t)g_get_monotonic_time(), (uint64_t)each);
+    Patience patience = {.time = {.each = (uint64_t)each}, .changed = changed_at(self)};
+    dconfdb_patience_renew(&patience.time, (uint64_t)g_get_monotonic_time());
     return patience;
+}
+
+bool patience_goes_on(const DconfdbPatience *time, guint64 settled, guint64 added, guint64 failed, guint64 tries)
+{
+    DconfdbProgress progress = {settled, added, failed, tries, UINT64_MAX};
+    return dconfdb_patience_goes_on(time, &progress, (uint64_t)g_get_monotonic_time());
 }
 
 void patience_renew(Patience *patience, const DconfdbBackend *self)

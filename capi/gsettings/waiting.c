@@ -37,33 +37,39 @@ static bool is_alone(const Edit *edit)
     return edit->change->most == 1;
 }
 
+static bool may_be_made(const Edit *edit, const DconfdbSnapshot *now, bool is_at_work)
+{
+    bool may = now && dconfdb_snapshot_is_writable(now, edit->path);
+    return dconfdb_may_be_made((const uint8_t *)edit->path, strlen(edit->path), edit->value != NULL, is_at_work, may);
+}
+
 /* What is known of the edit's key by the newest snapshot. */
-static DconfdbNewEdit known_by_now(const Edit *edit, const DconfdbSnapshot *now)
+static DconfdbNewEdit known_by_now(const Edit *edit, const DconfdbSnapshot *now, bool is_at_work)
 {
     return (DconfdbNewEdit){.sets = edit->value != NULL,
-                            .may = now && dconfdb_snapshot_is_writable(now, edit->path),
+                            .may = may_be_made(edit, now, is_at_work),
                             .is_same = now && dconfdb_snapshot_has_edit(now, &edit->asked)};
 }
 
 /* The same where that edit is the newest of it that waits. */
-static DconfdbNewEdit known_beside(const Edit *edit, const Edit *waits, const DconfdbSnapshot *now)
+static DconfdbNewEdit known_beside(const Edit *edit, const Edit *waits, const DconfdbSnapshot *now, bool is_at_work)
 {
     return (DconfdbNewEdit){.sets = edit->value != NULL,
-                            .may = now && dconfdb_snapshot_is_writable(now, edit->path),
+                            .may = may_be_made(edit, now, is_at_work),
                             .is_same = are_alike(&waits->asked, &edit->asked),
                             .waits = true,
                             .is_alone = is_alone(waits),
                             .is_taken = waits->change->is_taken};
 }
 
-uint32_t change_entry(Change *change, const Waiting *waiting, const DconfdbSnapshot *now)
+uint32_t change_entry(Change *change, const Waiting *waiting, const DconfdbSnapshot *now, bool is_at_work)
 {
     for (size_t i = 0; i < change->count; i++) {
         Edit *edit = &change->edits[i];
         edit->key = key_of(waiting, edit);
         const Edit *newest = newest_of(waiting, edit->key);
-        change->known[i] = newest ? known_beside(edit, newest, now) : known_by_now(edit, now);
-        edit->is_left_out = !change->known[i].may;
+        change->known[i] = newest ? known_beside(edit, newest, now, is_at_work) : known_by_now(edit, now, is_at_work);
+        edit->is_left_out = dconfdb_entry(&change->known[i], 1) == DCONFDB_ENTRY_EMPTY;
     }
     return dconfdb_entry(change->known, change->count);
 }
@@ -215,12 +221,12 @@ static GArray *edited_of(const Waiting *waiting)
     return all;
 }
 
-/* Asked once more, by the newest snapshot. */
+/* Asked once more, by the newest snapshot. Who does is at work. */
 static bool is_there_already(const Waiting *waiting, Change *change, const DconfdbSnapshot *now)
 {
     for (size_t i = 0; i < change->count; i++) {
         const Edit *edit = &change->edits[i];
-        change->known[i] = known_by_now(edit, now);
+        change->known[i] = known_by_now(edit, now, true);
         change->known[i].waits = edit->before > 0 || newest_of(waiting, edit->key) != edit;
     }
     return dconfdb_is_there(change->known, change->count);

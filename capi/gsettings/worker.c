@@ -15,8 +15,7 @@
 #include <time.h>
 #include <unistd.h>
 
-/* In microseconds: how long the program's end waits for a write, and for a thread that writes nothing; and how
- * often it asks. */
+/* In microseconds: how long the program's end waits for a write, and for a lock; and how often it asks. */
 enum { LONGEST_END = 5000000, LONGEST_REST = 2000000, TICK = 5000 };
 enum { NANOSECONDS = 1000, MILLISECOND = 1000, SECOND = 1000000000 };
 
@@ -199,11 +198,6 @@ static void *work(void *data)
 
 /* ---- `lock` is held */
 
-bool is_at_work(const DconfdbBackend *self)
-{
-    return !self->has_ended && !is_forked(self);
-}
-
 bool worker_is_here(const DconfdbBackend *self)
 {
     return self->has_worker && is_at_work(self);
@@ -315,7 +309,8 @@ static bool has_done_here(DconfdbBackend *self)
  * a lock that the worker then waits for. So nothing here waits without a bound, or takes memory. */
 void worker_end(DconfdbBackend *self)
 {
-    gint64 now = g_get_monotonic_time(), moved = now;
+    gint64 now = g_get_monotonic_time();
+    DconfdbProgress progress = {.added = 1, .moved = (uint64_t)now}; /* of which nothing is known without `lock` but that it moved */
     Patience patience = patience_of(self, LONGEST_END);
     if (!mutex_lock_until(&self->lock, now + LONGEST_REST))
         return; /* this very thread has it */
@@ -325,14 +320,14 @@ void worker_end(DconfdbBackend *self)
     g_mutex_unlock(&self->lock);
     if (has_worker)
         worker_wake(self);
-    while (has_worker && dconfdb_exit_goes_on((uint64_t)now, patience.time.end, (uint64_t)moved)) {
+    while (has_worker && dconfdb_patience_goes_on(&patience.time, &progress, (uint64_t)now)) {
         is_over = is_this ? has_done_here(self) : has_done(self);
         if (is_over)
             break;
         patience_renew(&patience, self);
         now = g_get_monotonic_time();
         if (g_atomic_int_get(&self->is_writing))
-            moved = now;
+            progress.moved = (uint64_t)now;
     }
     if (!is_over || g_atomic_int_get(&self->has_given_up))
         say_what_waits(self);
@@ -341,9 +336,9 @@ void worker_end(DconfdbBackend *self)
 /* `lock` is held, and let go of meanwhile: until the thread is over, or a later write than these has failed. */
 static void await_over(DconfdbBackend *self, guint64 tries)
 {
-    DconfdbPatience patience;
-    dconfdb_patience_begin(&patience, (uint64_t)g_get_monotonic_time(), LONGEST_END);
-    while (dconfdb_patience_goes_on(&patience, self->is_over, 1, self->failed, tries, (uint64_t)g_get_monotonic_time()))
+    DconfdbPatience patience = {.each = LONGEST_END};
+    dconfdb_patience_renew(&patience, (uint64_t)g_get_monotonic_time());
+    while (patience_goes_on(&patience, self->is_over, 1, self->failed, tries))
         g_cond_wait_until(&self->settles, &self->lock, (gint64)patience.end);
 }
 

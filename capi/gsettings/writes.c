@@ -9,12 +9,8 @@
 enum { LONGEST_SYNC = 10000000 };
 enum { BETWEEN_TURNS = 500000, MILLISECOND = 1000 };
 
-/* Of what goes on, once. */
-static void warn_of_waiting(DconfdbBackend *self, Notice *notice, const DconfdbError *fault)
+static void warn_of_waiting(Notice *notice, const DconfdbError *fault)
 {
-    if (self->has_warned)
-        return;
-    self->has_warned = true;
     char *text = g_strdup_printf("%s; what was set is not on the disk yet", fault->text);
     warn_of(notice, text);
     g_free(text);
@@ -24,26 +20,21 @@ static void warn_of_waiting(DconfdbBackend *self, Notice *notice, const DconfdbE
 static gint64 wait_again(DconfdbBackend *self, Notice *notice, const DconfdbError *fault, bool tries_again)
 {
     gint64 now = g_get_monotonic_time();
-    if (self->failing == 0)
-        self->failing = now;
-    self->pause = (gint64)dconfdb_pause_after((uint64_t)self->pause);
-    bool lasts = dconfdb_fault_is_lasting(is_momentary(fault), tries_again, (uint64_t)self->failing, (uint64_t)now);
-    if (lasts)
-        warn_of_waiting(self, notice, fault);
+    uint32_t said = dconfdb_failing_met(&self->failing, true, is_momentary(fault), tries_again, (uint64_t)now);
+    if (said == DCONFDB_FAULT_SAY)
+        warn_of_waiting(notice, fault);
     notice->waits_again = true;
     g_mutex_lock(&self->lock);
-    if (lasts)
+    if (said != DCONFDB_FAULT_UNSAID)
         self->failed = self->tries;
     hand_newest(self, notice);
     g_mutex_unlock(&self->lock);
-    return now + self->pause;
+    return now + (gint64)self->failing.pause;
 }
 
 /* `turn` is held. Nothing fails any longer. */
 static void end_failing(DconfdbBackend *self)
 {
-    self->failing = self->pause = 0;
-    self->has_warned = false;
     g_mutex_lock(&self->lock);
     self->settled += self->overtaken;
     self->overtaken = self->failed = 0;
@@ -61,7 +52,7 @@ static gint64 write_it(DconfdbBackend *self, const Turn *turn, Notice *notice, b
         warn_of(notice, refusal.text);
     if (!done)
         return wait_again(self, notice, &fault, tries_again);
-    if (self->failing != 0)
+    if (dconfdb_failing_met(&self->failing, false, false, false, 0) == DCONFDB_FAULT_OVER)
         end_failing(self);
     if (refusal.code == DCONFDB_ERROR_NONE)
         warn_once(self, notice, NULL);
@@ -191,7 +182,7 @@ static bool await_settled(DconfdbBackend *self, Patience *patience, guint64 trie
 {
     g_mutex_lock(&self->lock);
     guint64 added = self->added;
-    while (dconfdb_patience_goes_on(&patience->time, self->settled, added, self->failed, tries, (uint64_t)g_get_monotonic_time()))
+    while (patience_goes_on(&patience->time, self->settled, added, self->failed, tries))
         await_news(self, patience);
     bool is_settled = self->settled >= added;
     g_mutex_unlock(&self->lock);

@@ -57,7 +57,7 @@ size_t bit_of(const Written *one, const Written *other, size_t from, size_t to, 
 /* Says how many bytes a struct takes of which all fields are found. Nothing is written after it. */
 size_t ends(const Written *room);
 
-/* ---- what is found: of a database (database.c), of a turn to change a file (turn.c), of what waits (waits.c), of what others do
+/* ---- what is found: of a database (database.c), of a turn to change a file (turn.c), of what waits (waits.c), of faults (faults.c), of what others do
  * (others.c), of where a store is (place.c), and of lines (lines.c) */
 
 /* Of so many texts a path is made. */
@@ -68,6 +68,7 @@ extern uint8_t file[]; /* a database */
 void finds_database(void);
 void finds_turns(void);
 void finds_waits(void);
+void finds_faults(void);
 void finds_others(void);
 void finds_places(void);
 void finds_lines(void);

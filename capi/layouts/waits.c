@@ -9,7 +9,7 @@ uint32_t dconfdb_found(bool of_user, bool of_default, const void *known);
 uint32_t dconfdb_round_after(uint32_t task, const void *known);
 uint32_t dconfdb_glance_after(uint32_t task, const void *known);
 uint32_t dconfdb_sync_after(uint32_t task, bool yes, const void *known);
-void dconfdb_patience_begin(void *patience, uint64_t now, uint64_t each);
+void dconfdb_patience_renew(void *patience, uint64_t now);
 void dconfdb_queue_begin(void *queue, const void *edits, size_t count, void *step);
 void dconfdb_queue_answered(void *queue, void *edits, size_t count, uint32_t answer, size_t at, void *step);
 void dconfdb_wait_begin(void *wait, uint32_t longest, void *step);
@@ -187,7 +187,10 @@ static void finds_glance(void)
 static void finds_patience(void)
 {
     Written patience = room_of("DconfdbPatience");
-    dconfdb_patience_begin(patience.bytes, 7, 11);
+    const uint64_t each = 11;
+    memset(patience.bytes, 0, 3 * WORD);
+    memcpy(patience.bytes + WORD, &each, WORD);
+    dconfdb_patience_renew(patience.bytes, 7);
     finds_word(&patience, "end", 18);
     finds_word(&patience, "each", 11);
     finds_word(&patience, "latest", 60000007);

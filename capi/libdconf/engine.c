@@ -12,24 +12,20 @@
 
 /* ---- the store */
 
-static void warn_once(Engine *self, const char *text)
+static void keep(void *texts, const char *text)
 {
-    g_mutex_lock(&self->lock);
-    gboolean is_new = g_hash_table_add(self->warned, g_strdup(text));
-    g_mutex_unlock(&self->lock);
-    if (is_new)
-        g_warning("%s", text);
+    g_ptr_array_add(texts, g_strdup(text));
 }
 
-static void warn_of_faults(Engine *self, const DconfdbStore *store, const DconfdbSnapshot *now)
+/* Of the store's files, and of what failed: each fault once as long as it is there. */
+static void warn_of_faults(Engine *self, const DconfdbStore *store, const DconfdbError *error)
 {
-    DconfdbError error = DCONFDB_ERROR_INIT;
-    if (dconfdb_store_profile_fault(store, &error))
-        warn_once(self, error.text);
-    for (size_t i = 0; i < dconfdb_snapshot_databases(now); i++) {
-        if (dconfdb_snapshot_fault(now, i, &error))
-            warn_once(self, error.text);
-    }
+    g_autoptr(GPtrArray) texts = g_ptr_array_new_with_free_func(g_free);
+    g_mutex_lock(&self->lock);
+    warned_renew(&self->warned, store, error, keep, texts);
+    g_mutex_unlock(&self->lock);
+    for (guint i = 0; i < texts->len; i++)
+        g_warning("%s", (const char *)texts->pdata[i]);
 }
 
 /* The environment is read when the client is made, and not again: the program may change it. */
@@ -38,7 +34,7 @@ static bool find_place(Engine *self)
     DconfdbError error = DCONFDB_ERROR_INIT;
     StorePlace place;
     if (!place_find(NULL, &place, &error)) {
-        warn_once(self, error.text);
+        warn_of_faults(self, NULL, &error);
         return false;
     }
     g_mutex_lock(&self->lock);
@@ -66,7 +62,7 @@ static DconfdbStore *open_store(Engine *self)
     const StorePlace *place = engine_place(self);
     DconfdbStore *store = place ? place_open(place, &error) : NULL, *unused = store;
     if (!store && place)
-        warn_once(self, error.text);
+        warn_of_faults(self, NULL, &error);
     g_mutex_lock(&self->lock);
     if (!self->store)
         self->store = g_steal_pointer(&unused);
@@ -112,13 +108,12 @@ static bool refresh(Engine *self, DconfdbStore *store)
     bool is_done = dconfdb_store_refresh(store, &has_changed, &error);
     end_look(self);
     if (!is_done)
-        warn_once(self, error.text);
-    if (!is_done || !has_changed)
-        return is_done;
-    DconfdbSnapshot *now = dconfdb_store_snapshot(store);
-    warn_of_faults(self, store, now);
-    dconfdb_snapshot_unref(now);
-    return true;
+        warn_of_faults(self, store, &error);
+    /* A look that finds nothing new finds the same faults. */
+    bool had_failed = g_atomic_int_compare_and_exchange(&self->has_failed, is_done, !is_done);
+    if (is_done && (has_changed || had_failed))
+        warn_of_faults(self, store, NULL);
+    return is_done;
 }
 
 bool engine_refresh(Engine *self)
@@ -134,11 +129,6 @@ DconfdbSnapshot *engine_look(Engine *self)
         return NULL;
     refresh(self, store);
     return dconfdb_store_snapshot(store);
-}
-
-void engine_warn_once(Engine *self, const gchar *text)
-{
-    warn_once(self, text);
 }
 
 DconfdbSnapshot *engine_newest(Engine *self)
@@ -196,12 +186,11 @@ Engine *engine_new(DConfClient *client)
     g_mutex_init(&self->turn);
     g_mutex_init(&self->lock);
     g_cond_init(&self->looked);
-    self->warned = g_hash_table_new_full(g_str_hash, g_str_equal, g_free, NULL);
     self->watched = g_hash_table_new_full(g_str_hash, g_str_equal, g_free, NULL);
     self->moments = g_hash_table_new_full(g_str_hash, g_str_equal, g_free, g_free);
     DconfdbSnapshot *now = engine_look(self);
     if (now)
-        warn_of_faults(self, self->store, now);
+        warn_of_faults(self, self->store, NULL);
     dconfdb_snapshot_unref(now);
     return self;
 }
@@ -222,7 +211,7 @@ static void clear(gpointer data)
     g_mutex_clear(&self->turn);
     g_mutex_clear(&self->lock);
     g_cond_clear(&self->looked);
-    g_hash_table_unref(self->warned);
+    warned_end(&self->warned);
     g_hash_table_unref(self->watched);
     g_hash_table_unref(self->moments);
     g_clear_pointer(&self->waiting, dconf_changeset_unref);

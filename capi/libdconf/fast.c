@@ -5,12 +5,13 @@
 #include "order.h"
 #include "threads.h"
 
-static gboolean flush(Engine *self, DconfdbError *fault)
+/* Gives the pause before it is tried again; 0: it is written. */
+static guint64 flush(Engine *self, gboolean tries_again, DconfdbError *fault)
 {
     g_mutex_lock(&self->turn);
-    gboolean is_done = write_waiting(self, fault);
+    guint64 pause = write_waiting(self, tries_again, fault) ? 0 : self->failing.pause;
     g_mutex_unlock(&self->turn);
-    return is_done;
+    return pause;
 }
 
 static gboolean ends(Engine *self)
@@ -29,7 +30,7 @@ static void *write_behind(void *data)
     guint64 pause = 0;
     pthread_setname_np(pthread_self(), "dconf");
     do {
-        pause = flush(self, &fault) ? 0 : dconfdb_pause_after(pause);
+        pause = flush(self, TRUE, &fault);
         if (pause > 0)
             g_usleep(pause);
     } while (!ends(self));
@@ -52,7 +53,7 @@ static void begin_thread(Engine *self)
         pthread_detach(thread);
         return;
     }
-    flush(self, &fault);
+    flush(self, FALSE, &fault);
     g_mutex_lock(&self->lock);
     self->has_thread = FALSE;
     g_mutex_unlock(&self->lock);
@@ -156,6 +157,6 @@ gboolean engine_change_fast(Engine *self, DConfChangeset *changes, GError **erro
 void engine_sync(Engine *self)
 {
     DconfdbError fault = DCONFDB_ERROR_INIT;
-    if (!flush(self, &fault))
+    if (flush(self, FALSE, &fault) != 0)
         g_warning("what was changed is not on the disk yet, and goes on waiting: %s", fault.text);
 }

@@ -3,7 +3,9 @@
 #define LIBDCONF_H
 
 #include "dconfdb.h"
+#include "dconfdb_calls.h"
 #include "place.h"
+#include "warned.h"
 
 #include <dconf.h>
 
@@ -15,12 +17,13 @@ typedef struct {
     GWeakRef client;
     GMainContext *context; /* signals come in it */
 
-    GMutex turn; /* held while the store is changed, which may take long */
+    GMutex turn; /* held while the store is changed, which may take long. It guards: */
+    DconfdbFailing failing; /* what waits can't be written */
 
     GMutex lock;             /* held for moments. It guards: */
     StorePlace place;        /* no folder: none was found yet. It stays the same */
     DconfdbStore *store;     /* NULL: it could not be opened yet. It stays the same */
-    GHashTable *warned;      /* the faults that were logged */
+    Warned warned;           /* the faults that were logged, and are there still */
     DConfChangeset *waiting; /* fast changes that nobody writes yet; NULL: none */
     DConfChangeset *flying;  /* fast changes that a thread writes */
     GHashTable *moments;     /* of each path in the two when it was set last, by order_clock() */
@@ -28,6 +31,7 @@ typedef struct {
     gboolean is_busy;        /* its file is being replaced: nobody looks at the files, which would wait for the disk */
     gboolean is_to_look;     /* somebody wanted to, meanwhile */
     guint looks;             /* how many threads look at the files */
+    gint has_failed;         /* the last look; atomic */
     GCond looked;            /* none does */
     gboolean has_thread;     /* one writes what waits */
     GHashTable *watched;     /* paths, and how often each is watched */
@@ -55,9 +59,6 @@ DconfdbSnapshot *engine_newest(Engine *self);
 
 /* The same without a look where they are watched, and nothing has been told of them since they were looked at: for who reads. */
 DconfdbSnapshot *engine_current(Engine *self);
-
-/* Logs a warning, unless it was logged before. */
-void engine_warn_once(Engine *self, const gchar *text);
 
 /* Looks at the files. False: the store can't be opened, or the files can't be read now, or this client replaces the user's: a look
  * is still to be made. */

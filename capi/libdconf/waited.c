@@ -174,13 +174,12 @@ static void put_back(Engine *self, DConfChangeset *taken, GHashTable *unmade)
     dconf_changeset_unref(taken);
 }
 
-/* Of what goes on waiting, once, unless it passes in a moment, or others write. */
-static void warn_of_waiting(Engine *self, const DconfdbError *fault)
+/* `turn` is held. Of what goes on waiting, once as long as it does so. */
+static void warn_of_waiting(Engine *self, gboolean tries_again, const DconfdbError *fault)
 {
-    if (fault->code == DCONFDB_ERROR_BUSY || is_momentary(fault))
-        return;
-    g_autofree gchar *text = g_strdup_printf("%s; what was changed is not on the disk yet, and goes on waiting", fault->text);
-    engine_warn_once(self, text);
+    uint64_t now = (uint64_t)g_get_monotonic_time();
+    if (dconfdb_failing_met(&self->failing, true, is_momentary(fault), tries_again, now) == DCONFDB_FAULT_SAY)
+        g_warning("%s; what was changed is not on the disk yet, and goes on waiting", fault->text);
 }
 
 /* `turn` is held: what waited is written, or refused. */
@@ -206,7 +205,7 @@ static void tell_unmade(Engine *self, GHashTable *unmade)
 }
 
 /* False: it could not be written, by no fault of its own, and goes on waiting. What is refused is taken back. */
-gboolean write_waiting(Engine *self, DconfdbError *fault)
+gboolean write_waiting(Engine *self, gboolean tries_again, DconfdbError *fault)
 {
     DConfChangeset *taken = take_waiting(self);
     if (!taken)
@@ -217,13 +216,14 @@ gboolean write_waiting(Engine *self, DconfdbError *fault)
     if (refusal.code != DCONFDB_ERROR_NONE)
         g_warning("failed to commit changes to dconf: %s", refusal.text);
     if (is_done) {
+        dconfdb_failing_met(&self->failing, false, false, false, 0);
         end_flying(self);
         notice_others(self);
         set_writing(self, NULL);
         dconf_changeset_unref(taken);
     } else {
         put_back(self, taken, unmade);
-        warn_of_waiting(self, fault);
+        warn_of_waiting(self, tries_again, fault);
     }
     tell_unmade(self, unmade);
     return is_done;

@@ -129,7 +129,7 @@ static gboolean write_in_turn(Engine *self, DConfChangeset *changes, Edits *edit
 {
     DconfdbError fault = DCONFDB_ERROR_INIT;
     g_mutex_lock(&self->turn);
-    gboolean is_done = write_waiting(self, &fault) && write_now(self, changes, edits, tag, &fault);
+    gboolean is_done = write_waiting(self, TRUE, &fault) && write_now(self, changes, edits, tag, &fault);
     g_mutex_unlock(&self->turn);
     return is_done || refuse(&fault, error);
 }

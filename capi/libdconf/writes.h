@@ -50,7 +50,8 @@ void turn_end(Engine *self, const Turn *turn, FolderLock *lock);
 /* The store; or the fault that it can't be opened. */
 DconfdbStore *store_of(Engine *self, DconfdbError *fault);
 
-/* What waited (waited.c). False: it could not be written, by no fault of its own, and goes on waiting. What is refused is taken back. */
-gboolean write_waiting(Engine *self, DconfdbError *fault);
+/* What waited (waited.c). False: it could not be written, by no fault of its own, and goes on waiting. What is refused is taken back.
+ * `tries_again`: a thread does. */
+gboolean write_waiting(Engine *self, gboolean tries_again, DconfdbError *fault);
 
 #endif

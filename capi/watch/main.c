@@ -5,6 +5,7 @@
 #include "lists.h"
 #include "place.h"
 #include "seen.h"
+#include "warned.h"
 #include "watch.h"
 
 #include <errno.h>
@@ -31,7 +32,7 @@ typedef struct {
     DconfdbStore *store;
     DconfdbSnapshot *before; /* what was told last */
     bool is_old;             /* another profile may name other databases: the store is to be opened anew */
-    char said_of_profile[512], said_of_look[512];
+    Warned warned;           /* the faults that were said, and are there still */
 } Watching;
 
 /* ---- words on stderr */
@@ -41,27 +42,11 @@ static void warn(const char *text)
     fprintf(stderr, "error: %s\n", text);
 }
 
-/* The same fault is said once, until there is another one, or none. */
-static void warn_once(char (*said)[512], const char *text)
+/* Each fault once, as long as it is there: that of a look that failed, and of files that are bad, of which what can be read counts. */
+static void say(void *it, const char *text)
 {
-    if (*text && strcmp(*said, text) != 0)
-        warn(text);
-    snprintf(*said, sizeof *said, "%s", text);
-}
-
-/* The files that are bad, of which what can be read counts. */
-static void warn_of_faults(Watching *watch, const DconfdbSnapshot *now)
-{
-    DconfdbError fault = DCONFDB_ERROR_INIT;
-    const DconfdbSnapshot *before = watch->before;
-    dconfdb_store_profile_fault(watch->store, &fault);
-    warn_once(&watch->said_of_profile, fault.text);
-    for (size_t i = 0; i < dconfdb_snapshot_databases(now); i++) {
-        DconfdbError old = DCONFDB_ERROR_INIT;
-        bool was = before && i < dconfdb_snapshot_databases(before) && dconfdb_snapshot_fault(before, i, &old);
-        if (dconfdb_snapshot_fault(now, i, &fault) && !(was && strcmp(old.text, fault.text) == 0))
-            warn(fault.text);
-    }
+    (void)it;
+    warn(text);
 }
 
 /* ---- what is told */
@@ -164,14 +149,13 @@ static bool look(Watching *watch)
     bool is_done = watch->is_old ? open_anew(watch, &error) : dconfdb_store_refresh(watch->store, NULL, &error);
     DconfdbSnapshot *now = is_done ? dconfdb_store_snapshot(watch->store) : NULL;
     if (now && tell(watch, now, &error)) {
-        warn_of_faults(watch, now);
-        warn_once(&watch->said_of_look, "");
+        warned_renew(&watch->warned, watch->store, NULL, say, NULL);
         dconfdb_snapshot_unref(watch->before);
         watch->before = now;
         return true;
     }
     dconfdb_snapshot_unref(now);
-    warn_once(&watch->said_of_look, error.text);
+    warned_renew(&watch->warned, watch->store, &error, say, NULL);
     return false;
 }
 
@@ -242,14 +226,14 @@ static int start(Watching *watch)
     if (!has_named_profile(watch))
         return 1;
     watch->is_old = false;
-    DconfdbSnapshot *now = dconfdb_store_snapshot(watch->store);
-    warn_of_faults(watch, now);
-    watch->before = now;
+    warned_renew(&watch->warned, watch->store, NULL, say, NULL);
+    watch->before = dconfdb_store_snapshot(watch->store);
     return watch_until_interrupted(watch);
 }
 
 static void end(Watching *watch)
 {
+    warned_end(&watch->warned);
     dconfdb_snapshot_unref(watch->before);
     dconfdb_store_close(watch->store);
     watch_free(watch->names);

@@ -1,3 +1,4 @@
 pub mod Rounds
 pub mod Syncs
 pub mod Glances
+pub mod Telling

@@ -4,6 +4,10 @@ use Rattle.dconf_rounds.specs.declared.rounds.Known.{Known}
 use Rattle.dconf_rounds.specs.declared.rounds.Task.{Task}
 use Rattle.dconf_rounds.specs.declared.rounds.Task.TheVariants.{Tell, Watch, Look, Write, Leave, Rest, End, GiveUp}
 
+-- it has not ended, and is in the process that began it
+abbrev pub is_at_work : Bool → ℕ → ℕ → Bool
+is_at_work has_ended begun_in process = not has_ended && (begun_in == process)
+
 -- ---- what is due
 
 abbrev pub watches : Known → Bool

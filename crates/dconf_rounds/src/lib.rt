@@ -1,5 +1,5 @@
-//! What is done in turn by who writes what waits, by who wants to know that it is on the disk, and by who looks at the files of a store
-//! that is open.
+//! What is done in turn by who writes what waits, by who wants to know that it is on the disk, by who looks at the files of a store that is
+//! open, and by who tells what is seen otherwise.
 //!
 //! Nothing is kept here: each call is told what is known, and what was done last, and says what comes next.
 #![tactic(auto)]
@@ -7,14 +7,17 @@
 ghost use Rattle.dconf_rounds.specs.Rounds.{NothingDueIsPassedOver};
 ghost use Rattle.dconf_rounds.specs.Glances.{NothingNewIsMissed};
 ghost use Rattle.dconf_rounds.specs.Syncs.{YesMeansAllIsThere};
+ghost use Rattle.dconf_rounds.specs.Telling.{WhatIsHeardIsTold};
 
 mod glances;
 mod rounds;
 mod syncs;
+mod telling;
 
 pub use glances::{Glance, GlanceKnown, glance_after, glance_number};
-pub use rounds::{Known, Task, task_after, task_number};
+pub use rounds::{Known, Task, is_at_work, task_after, task_number};
 pub use syncs::{SyncKnown, SyncTask, sync_after, sync_number};
+pub use telling::{TellKnown, Telling, tell_next, telling_number};
 
 /// The thread does all that is due before it rests, in one order, and each once. It gives up what waits only at the program's end, after
 /// one more try has failed by a fault that lasts; and else it ends with nothing that waits.
@@ -33,4 +36,10 @@ pub fn yes_means_all_is_there()
 /// are watched.
 pub fn nothing_new_is_missed()
     ensures { NothingNewIsMissed }
+{}
+
+/// Each path that is seen otherwise, and that somebody listens to, is told, in notices of 255 at most; all is, where nobody knows what is
+/// seen otherwise. Nobody is told of what is seen first, or when the program ends.
+pub fn what_is_heard_is_told()
+    ensures { WhatIsHeardIsTold }
 {}

@@ -1,6 +1,6 @@
 //! What the thread does next that writes what waits, tells, and watches the files. All moments are of one clock; 0 is none.
 ghost use Rattle.std.specs.Prelude.{◌≡◌};
-ghost use Rattle.dconf_rounds.specs.Rounds.{ending, has_failed, is_left, leaves, looks_first, task_after, task_number, watches, writes};
+ghost use Rattle.dconf_rounds.specs.Rounds.{ending, has_failed, is_at_work, is_left, leaves, looks_first, task_after, task_number, watches, writes};
 
 /// A task of a round, in the order in which they come.
 #[derive(Clone, Copy)]
@@ -51,6 +51,14 @@ pub struct Known {
     pub asks: bool,
     /// What others change is told without a look at the files.
     pub is_watched: bool,
+}
+
+/// Whether what was begun in one process is at work in this one: it has not ended, and this is no child of that process by fork(), which has
+/// none of its threads.
+pub fn is_at_work(has_ended: bool, begun_in: u32, process: u32) -> bool
+    ensures { result ≡ is_at_work has_ended begun_in process }
+{
+    !has_ended && begun_in == process
 }
 
 /// What comes next, once the first `done` tasks of the round were done, or were not due.

@@ -1,3 +1,4 @@
 pub mod TableLaws
 pub mod PatienceLaws
+pub mod FaultLaws
 pub mod WrongMachines

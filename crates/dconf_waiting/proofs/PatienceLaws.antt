@@ -1,29 +1,41 @@
 -- Every wait ends: no turn of another program moves its end beyond the minute.
-use Rattle.std.proofs.Common.{ℕ, ◌≡◌, ◌+◌, ◌≤◌, min, List, [], ◌∷◌, ap, sym, subst, arith}
+use Rattle.std.proofs.Common.{ℕ, ◌≡◌, ◌+◌, ◌≤◌, ◌<◌, Bool, true, false, cond, min, List, [], ◌∷◌, refl, ap, sym, subst, arith, eqb}
+use Rattle.std.proofs.lemmas.Bool.{eqb-true}
 use Rattle.std.proofs.Math.Nat.{min-le_left, min-le_right}
 use Rattle.dconf_waiting.specs.declared.patience.Patience.{Patience}
-use Rattle.dconf_waiting.specs.Patiences.{later_by, patience_from}
-use Rattle.dconf_waiting.specs.WaitingLaws.{RanPatience, EveryWaitEnds}
+use Rattle.dconf_waiting.specs.Patiences.{later_by, latest_of, renewed, unbegun}
+use Rattle.dconf_waiting.specs.WaitingLaws.{patience_after, EveryWaitEnds}
 
--- neither is beyond that moment
+-- it has begun, and neither is beyond that moment
 record IsWithin (most : ℕ) (p : Patience) : Type 0 where
   end : p.end ≤ most
   latest : p.latest ≤ most
+  has_begun : 0 < p.latest
 
-renewed : (most now : ℕ) (p after : Patience) → after ≡ record p { end = min (later_by now p.each) p.latest } → IsWithin most p → IsWithin most after
-renewed most now p after e w =
-    let below : min (later_by now p.each) p.latest ≤ p.latest = min-le_right (later_by now p.each) p.latest in
-    let end_is : after.end ≡ min (later_by now p.each) p.latest = ap (λ (x : Patience). x.end) e in
-    let latest_is : after.latest ≡ p.latest = ap (λ (x : Patience). x.latest) e in
+latest_is : (p : Patience) (now : ℕ) → 0 < p.latest → latest_of p now ≡ p.latest
+latest_is p now begun = by (eqb p.latest 0) refl
+  where
+    by : (b : Bool) → eqb p.latest 0 ≡ b → cond b (later_by now 60000000) p.latest ≡ p.latest
+    by true e =
+        let none : p.latest ≡ 0 = eqb-true p.latest 0 e in
+        absurd (omega arith)
+    by false e = refl
+
+renewed_within : (most now : ℕ) (p : Patience) → IsWithin most p → IsWithin most (renewed p now)
+renewed_within most now p w =
+    let same : latest_of p now ≡ p.latest = latest_is p now w.has_begun in
+    let below : min (later_by now p.each) (latest_of p now) ≤ latest_of p now = min-le_right (later_by now p.each) (latest_of p now) in
     let latest : p.latest ≤ most = w.latest in
-    record { end = subst (λ x. x ≤ most) (sym end_is) (omega arith); latest = subst (λ x. x ≤ most) (sym latest_is) latest }
+    let begun : 0 < p.latest = w.has_begun in
+    record { end = omega arith; latest = omega arith; has_begun = omega arith }
 
-within : (most : ℕ) (turns : List ℕ) (p after : Patience) → RanPatience turns p after → IsWithin most p → after.end ≤ most
-within most [] p after h w = subst (λ (x : Patience). x.end ≤ most) (sym h) w.end
-within most (now ∷ more) p after h w = within most more h.0 after h.2 (renewed most now p h.0 h.1 w)
+within : (most : ℕ) (turns : List ℕ) (p : Patience) → IsWithin most p → (patience_after turns p).end ≤ most
+within most [] p w = w.end
+within most (now ∷ more) p w = within most more (renewed p now) (renewed_within most now p w)
 
 pub every_wait_ends : EveryWaitEnds
-every_wait_ends began each turns after h =
+every_wait_ends began each turns =
     let latest : min (began + 60000000) 18446744073709551615 ≤ began + 60000000 = min-le_left (began + 60000000) 18446744073709551615 in
     let end : min (later_by began each) (later_by began 60000000) ≤ later_by began 60000000 = min-le_right (later_by began each) (later_by began 60000000) in
-    within (began + 60000000) turns (patience_from began each) after h (record { end = omega arith; latest = latest })
+    let begun : 0 < later_by began 60000000 = omega arith in
+    within (began + 60000000) turns (renewed (unbegun each) began) (record { end = omega arith; latest = latest; has_begun = begun })

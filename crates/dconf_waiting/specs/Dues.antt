@@ -1,9 +1,5 @@
--- When what waits is written.
-use Rattle.std.specs.Prelude.{ℕ, ◌≡◌, ◌≢◌, ◌≤◌, ◌⊎◌, ◌*◌, Bool, IsTrue, min, max}
-
--- It is in line for its turn, or its moment has come.
-abbrev pub IsDue : Bool → ℕ → ℕ → Type 0
-IsDue is_in_line again now = IsTrue is_in_line ⊎ (again ≤ now)
+-- When what failed is tried again, and when who rests is to wake.
+use Rattle.std.specs.Prelude.{ℕ, ◌≡◌, ◌≢◌, ◌≤◌, ◌⊎◌, ◌*◌, min, max}
 
 -- twice the pause before, from 50 milliseconds to two seconds
 abbrev pub next_pause : ℕ → ℕ

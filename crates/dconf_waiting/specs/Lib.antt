@@ -2,4 +2,6 @@ pub mod Newest
 pub mod Fates
 pub mod Patiences
 pub mod Dues
+pub mod Faults
+pub mod Fresh
 pub mod WaitingLaws

@@ -1,20 +1,19 @@
 -- How long somebody waits until what waits is written, in microseconds.
-use Rattle.std.specs.Prelude.{ℕ, ◌≡◌, ◌+◌, min, Bool, true, false}
+use Rattle.std.specs.Prelude.{ℕ, ◌≡◌, ◌+◌, min, if◌then◌else◌, ◌==◌}
 use Rattle.dconf_waiting.specs.declared.patience.Patience.{Patience}
 
 -- the moment so long after that one, on a clock of 64 bits
 abbrev pub later_by : ℕ → ℕ → ℕ
 later_by now time = min (now + time) 18446744073709551615
 
--- so long, and for a minute at most
-abbrev pub patience_from : ℕ → ℕ → Patience
-patience_from now each = record { end = min (later_by now each) (later_by now 60000000); each = each; latest = later_by now 60000000 }
+-- for a minute at most, from when it began
+abbrev pub latest_of : Patience → ℕ → ℕ
+latest_of p now = if p.latest == 0 then later_by now 60000000 else p.latest
 
--- another program had a turn: as long again, but not beyond that minute
-abbrev pub IsRenewed : Patience → ℕ → Patience → Type 0
-IsRenewed p now after = after ≡ record p { end = min (later_by now p.each) p.latest }
+-- it begins now, or another program had a turn: so long, but not beyond that minute
+abbrev pub renewed : Patience → ℕ → Patience
+renewed p now = record p { end = min (later_by now p.each) (latest_of p now); latest = latest_of p now }
 
--- from when on a fault lasts: ten seconds, if it is mostly so for a moment
-abbrev pub longest : Bool → ℕ
-longest true = 10000000
-longest false = 1500000
+-- it has not begun
+abbrev pub unbegun : ℕ → Patience
+unbegun each = record { end = 0; each = each; latest = 0 }

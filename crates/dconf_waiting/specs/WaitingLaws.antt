@@ -6,7 +6,7 @@ use Rattle.dconf_waiting.specs.declared.fate.WaitingEdit.{WaitingEdit}
 use Rattle.dconf_waiting.specs.declared.patience.Patience.{Patience}
 use Rattle.dconf_waiting.specs.Newest.{found, IsPut}
 use Rattle.dconf_waiting.specs.Fates.{fate_of, is_overtaken}
-use Rattle.dconf_waiting.specs.Patiences.{IsRenewed, patience_from}
+use Rattle.dconf_waiting.specs.Patiences.{renewed, unbegun}
 
 -- ---- the newest edit of a key
 
@@ -53,10 +53,10 @@ NothingIsLost = (is_written is_refused : Bool) (edit newest : WaitingEdit) → I
 
 -- ---- how long somebody waits
 
--- other programs had turns in these moments
-abbrev pub RanPatience : List ℕ → Patience → Patience → Type 0
-RanPatience [] p after = after ≡ p
-RanPatience (now ∷ more) p after = (next : Patience) × IsRenewed p now next × RanPatience more next after
+-- it began in the first of these moments, and other programs had turns in the others
+abbrev pub patience_after : List ℕ → Patience → Patience
+patience_after [] p = p
+patience_after (now ∷ more) p = patience_after more (renewed p now)
 
 abbrev pub EveryWaitEnds : Type 0
-EveryWaitEnds = (began each : ℕ) (turns : List ℕ) (after : Patience) → RanPatience turns (patience_from began each) after → after.end ≤ began + 60000000
+EveryWaitEnds = (began each : ℕ) (turns : List ℕ) → (patience_after (began ∷ turns) (unbegun each)).end ≤ began + 60000000

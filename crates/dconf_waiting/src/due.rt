@@ -1,25 +1,15 @@
-//! When what waits is written, and how long who asks for that waits for it. All moments are of one clock, in microseconds; 0 is none.
-ghost use Rattle.std.specs.Prelude.{ℕ, ◌≡◌, ◌≤◌, ◌<◌, ◌+◌, ◌*◌, ◌↔◌, ◌⊎◌, IsTrue, IsSome, IfSome, IfNone, Some};
-ghost use Rattle.dconf_waiting.specs.Dues.{IsDue, IsFirstOf, next_pause};
+//! When what failed is tried again, and when who rests is to wake. All moments are of one clock, in microseconds; 0 is none.
+ghost use Rattle.std.specs.Prelude.{ℕ, ◌≡◌, ◌≤◌, ◌<◌, ◌+◌, ◌*◌, ◌⊎◌, IsSome, IfSome, IfNone, Some};
+ghost use Rattle.dconf_waiting.specs.Dues.{IsFirstOf, next_pause};
 
-/// The first pause before a write that failed is tried again, and the longest.
+/// The first pause before what failed is tried again, and the longest.
 const SHORTEST_PAUSE: u64 = 50_000;
 
 const LONGEST_PAUSE: u64 = 2_000_000;
 
-/// How long the program's end waits for a thread that neither writes nor is to try again.
-const LONGEST_REST: u64 = 2_000_000;
-
 const MILLISECOND: u64 = 1_000;
 
-/// Whether a write begins now: something waits, and it is in line for its turn already, or no later moment was said.
-pub fn is_to_write(waits: bool, is_in_line: bool, again: u64, now: u64) -> bool
-    ensures { IsTrue result ↔ (IsTrue waits × IsDue is_in_line again now) }
-{
-    waits && (is_in_line || again <= now)
-}
-
-/// The pause before a write is tried again, by the one before it: twice that, from 50 milliseconds to two seconds.
+/// The pause before it is tried again, by the one before it: twice that, from 50 milliseconds to two seconds.
 pub fn pause_after(pause: u64) -> u64
     ensures { result ≡ next_pause pause }
 {
@@ -47,11 +37,4 @@ fn first_of(one: u64, other: u64) -> Option<u64>
         return Some(other);
     }
     Some(one)
-}
-
-/// Whether the program's end goes on waiting: the time isn't over, and the thread wrote, or was to try again, within two seconds.
-pub fn exit_goes_on(now: u64, end: u64, moved: u64) -> bool
-    ensures { IsTrue result ↔ ((now < end) × (now < moved + 2000000)) }
-{
-    now < end && now.saturating_sub(moved) < LONGEST_REST
 }

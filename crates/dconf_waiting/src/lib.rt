@@ -1,21 +1,27 @@
-//! Changes that wait to be written: which edit of a key is the newest, what becomes of each change when a write was tried, and how long
-//! somebody waits for that.
+//! Changes that wait to be written: which edit of a key is the newest, what becomes of each change when a write was tried, how long
+//! somebody waits for that, what is said of a fault meanwhile, and how new what is read is.
 //!
 //! Nothing is kept here: what is known is lent by the caller, who does as it is told. The module of GSettings and libdconf go by the same
 //! calls, and write by the `Queue` of dconf_steps.
 #![tactic(auto)]
 
+ghost use Rattle.dconf_waiting.specs.Faults.{EachFaultIsSaidOnce};
+ghost use Rattle.dconf_waiting.specs.Fresh.{NoReadIsTooOld};
 ghost use Rattle.dconf_waiting.specs.WaitingLaws.{EveryWaitEnds, NothingIsLost, TheNewestIsFound};
 
 mod due;
+mod failing;
 mod fate;
+mod fresh;
 mod newest;
 mod patience;
 
-pub use due::{exit_goes_on, is_to_write, pause_after, sleep_until};
+pub use due::{pause_after, sleep_until};
+pub use failing::{Failing, Word};
 pub use fate::{Fate, WaitingEdit, fate_number, fate_of, is_overtaken};
+pub use fresh::{Looker, next_look};
 pub use newest::{found, put};
-pub use patience::{Patience, Progress, is_lasting, writer_goes_on};
+pub use patience::{Patience, Progress};
 
 /// Of each key the newest edit that waits is found; and if it goes, the one before it.
 pub fn the_newest_is_found()
@@ -31,4 +37,14 @@ pub fn nothing_is_lost()
 /// Whoever waits until all is written waits for a minute at most, whatever other programs do meanwhile.
 pub fn every_wait_ends()
     ensures { EveryWaitEnds }
+{}
+
+/// A fault is said once as long as it is there, as soon as it lasts; and once it is over it is forgotten.
+pub fn each_fault_is_said_once()
+    ensures { EachFaultIsSaidOnce }
+{}
+
+/// Where nobody watches the files, what is read was looked at less than ten milliseconds ago; and after a look that failed, a second.
+pub fn no_read_is_too_old()
+    ensures { NoReadIsTooOld }
 {}

@@ -1,14 +1,12 @@
 //! How long somebody waits until what waits is written. All moments are of one clock, in microseconds.
-ghost use Rattle.std.specs.Prelude.{◌≡◌, ◌≤◌, ◌<◌, ◌+◌, ◌⊎◌, ◌↔◌, IsTrue, false};
-ghost use Rattle.dconf_waiting.specs.Patiences.{IsRenewed, longest, patience_from};
+ghost use Rattle.std.specs.Prelude.{◌≡◌, ◌≤◌, ◌<◌, ◌+◌, ◌↔◌, IsTrue};
+ghost use Rattle.dconf_waiting.specs.Patiences.{renewed};
 
 /// How long is waited at most while other programs have their turns.
 const LONGEST_CROWD: u64 = 60_000_000;
 
-/// From when on a fault is one that lasts, if it is mostly so for a moment, and of any other.
-const LONGEST_MOMENT: u64 = 10_000_000;
-
-const LONGEST_FAULT: u64 = 1_500_000;
+/// How long the program's end waits for a thread that neither writes nor is to try again.
+const LONGEST_REST: u64 = 2_000_000;
 
 /// How long it is waited: so long, and as long again after each turn that another program has, but not for ever.
 #[repr(C)]
@@ -18,7 +16,7 @@ pub struct Patience {
     pub end: u64,
     /// So long after a turn.
     pub each: u64,
-    /// When it is over, whoever has turns.
+    /// When it is over, whoever has turns; 0: it has not begun.
     pub latest: u64,
 }
 
@@ -34,6 +32,8 @@ pub struct Progress {
     pub failed: u64,
     /// How many tries there were when somebody began to wait.
     pub tries: u64,
+    /// When the thread that writes was seen to write last, or was to try again; the last moment of all if nobody minds that.
+    pub moved: u64,
 }
 
 impl Progress {
@@ -53,51 +53,24 @@ impl Progress {
 }
 
 impl Patience {
-    /// From now on.
-    pub fn begin(now: u64, each: u64) -> Patience
-        ensures { result ≡ patience_from now each }
-    {
-        let latest = now.saturating_add(LONGEST_CROWD);
-        Patience {
-            end: now.saturating_add(each).min(latest),
-            each,
-            latest,
-        }
-    }
-
-    /// Another program had a turn.
+    /// It begins now, or another program had a turn.
     pub fn renew(&mut self, now: u64)
-        ensures { IsRenewed self.old now self.new }
+        ensures { self.new ≡ renewed self.old now }
     {
+        if self.latest == 0 {
+            self.latest = now.saturating_add(LONGEST_CROWD);
+        }
         self.end = now.saturating_add(self.each).min(self.latest);
     }
 
-    /// Whether it is waited on: something that waited then isn't settled, no later try has failed by a fault that lasts, and the time
-    /// isn't over.
-    pub fn goes_on(&self, progress: Progress, now: u64) -> bool
-        ensures { IsTrue result ↔ ((progress.settled < progress.added) × (progress.failed ≤ progress.tries) × (now < self.now.end)) }
+    /// Whether it is waited on: something that waited then isn't settled, no later try has failed by a fault that lasts, the time isn't
+    /// over, and the thread that writes wrote, or was to try again, within two seconds.
+    pub fn goes_on(&self, progress: &Progress, now: u64) -> bool
+        ensures { IsTrue result ↔ ((progress.now.settled < progress.now.added) × (progress.now.failed ≤ progress.now.tries) × (now < self.now.end) × (now < progress.now.moved + 2000000)) }
     {
-        !progress.is_settled() && !progress.has_failed() && now < self.end
+        !progress.is_settled()
+            && !progress.has_failed()
+            && now < self.end
+            && now.saturating_sub(progress.moved) < LONGEST_REST
     }
-}
-
-/// Whether who writes what waits goes on: the program doesn't end, or something waits, and no try since then has failed by a fault that
-/// lasts.
-pub fn writer_goes_on(ends: bool, waits: bool, progress: Progress) -> bool
-    ensures { IsTrue result ↔ ((ends ≡ false) ⊎ (IsTrue waits × (progress.failed ≤ progress.tries))) }
-{
-    !ends || (waits && !progress.has_failed())
-}
-
-/// Whether a fault lasts, by which nothing could be written since that moment: nobody tries again by themselves, or it does so for longer
-/// than such a fault mostly does.
-pub fn is_lasting(is_momentary: bool, tries_again: bool, since: u64, now: u64) -> bool
-    ensures { IsTrue result ↔ ((tries_again ≡ false) ⊎ (since + longest is_momentary ≤ now)) }
-{
-    let longest = if is_momentary {
-        LONGEST_MOMENT
-    } else {
-        LONGEST_FAULT
-    };
-    !tries_again || (now >= since && now - since >= longest)
 }

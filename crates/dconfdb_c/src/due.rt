@@ -1,16 +1,10 @@
-//! When what waits is written, and how long who asks for that waits for it.
-ghost use Rattle.std.specs.Prelude.{ℕ, ◌≡◌, ◌≤◌, ◌<◌, ◌+◌, ◌*◌, ◌↔◌, ◌⊎◌, IsTrue, false};
-ghost use Rattle.dconf_waiting.specs.Dues.{IsFirstOf, next_pause};
+//! When who rests is to wake, when who reads is to look at the files, and what is said of a fault.
+ghost use Rattle.std.specs.Prelude.{ℕ, ◌≡◌, ◌≤◌, ◌<◌, ◌+◌, ◌*◌, ◌⊎◌, IsTrue, false};
+ghost use Rattle.dconf_waiting.specs.Dues.{IsFirstOf};
+ghost use Rattle.dconf_waiting.specs.Faults.{failing_after, word_number, word_of};
+ghost use Rattle.dconf_waiting.specs.Fresh.{may_look, next_look, numbered};
 
-use dconf_waiting::{exit_goes_on, pause_after, sleep_until};
-
-/// The pause before a write is tried again, by the one before it; 0 before the first.
-#[unsafe(no_mangle)]
-pub extern "C" fn dconfdb_pause_after(pause: u64) -> u64
-    ensures { result ≡ next_pause pause }
-{
-    pause_after(pause)
-}
+use dconf_waiting::{Failing, next_look, sleep_until};
 
 /// How many milliseconds there are until the first of two moments, rounded up. False, and `wait` as
 /// it was, where neither is one.
@@ -28,11 +22,34 @@ pub extern "C" fn dconfdb_sleep_until(again: u64, look: u64, now: u64, wait: &mu
     }
 }
 
-/// Whether the program's end goes on waiting: the time isn't over, and something moved within two
-/// seconds.
+/// Something was tried that fails for a fault, which is there or not. Gives what is said of it: 0 nothing, 1 say it, 2 it is said and lasts,
+/// 3 it is over; and `failing.pause` is the pause before the next try.
 #[unsafe(no_mangle)]
-pub extern "C" fn dconfdb_exit_goes_on(now: u64, end: u64, moved: u64) -> bool
-    ensures { IsTrue result ↔ ((now < end) × (now < moved + 2000000)) }
+pub extern "C" fn dconfdb_failing_met(
+    failing: &mut Failing,
+    is_there: bool,
+    is_momentary: bool,
+    tries_again: bool,
+    now: u64,
+) -> u32
+    ensures said { result ≡ word_number (word_of failing.old is_there is_momentary tries_again now) }
+    ensures after { failing.new ≡ failing_after failing.old is_there is_momentary tries_again now }
 {
-    exit_goes_on(now, end, moved)
+    failing.met(is_there, is_momentary, tries_again, now)
+}
+
+/// When the next look is due, if this one is made; or 0. Of 0 who reads, of 1 who did and whose look failed; and of who is about to tell
+/// of a change, how long it waits for the newest.
+#[unsafe(no_mangle)]
+pub extern "C" fn dconfdb_next_look(
+    looker: u32,
+    due: u64,
+    now: u64,
+    has_store: bool,
+    has_opened: bool,
+    is_at_work: bool,
+) -> u64
+    ensures { result ≡ next_look (numbered looker) due now (may_look has_store has_opened is_at_work) }
+{
+    next_look(looker, due, now, has_store, has_opened, is_at_work)
 }

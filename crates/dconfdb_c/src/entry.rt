@@ -1,11 +1,11 @@
 //! What becomes of a change that is asked for, and what a fault means to it.
 ghost use Rattle.std.specs.Prelude.{◌≡◌};
 ghost use Rattle.std.specs.List.{list_all};
-ghost use Rattle.dconf_verdicts.specs.Entries.{entry_number, entry_of, is_news, is_there};
+ghost use Rattle.dconf_verdicts.specs.Entries.{entry_number, entry_of, is_there};
 ghost use Rattle.dconf_verdicts.specs.Faults.{class_of, fault_of, is_momentary, kind_of, number_of, verdict_number, verdict_of};
 
 use dconf_verdicts::{
-    NewEdit, class_number, entry_number, is_momentary, is_news, is_there, verdict_number,
+    NewEdit, class_number, entry_number, is_momentary, is_there, verdict_number,
 };
 
 /// What becomes of a change: 0 it is refused, 1 nothing is left of it, 2 it renews the one that waits,
@@ -15,14 +15,6 @@ pub extern "C" fn dconfdb_entry(edits: &[NewEdit]) -> u32
     ensures { result ≡ entry_number (entry_of edits.now) }
 {
     entry_number(edits)
-}
-
-/// Whether something else is seen by an edit that waits: that is told.
-#[unsafe(no_mangle)]
-pub extern "C" fn dconfdb_is_news(edit: &NewEdit) -> bool
-    ensures { result ≡ is_news edit.now }
-{
-    is_news(*edit)
 }
 
 /// Whether all that a change asks for is there already, so that nothing is to be written.

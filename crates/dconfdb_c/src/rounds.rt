@@ -1,10 +1,23 @@
-//! What is done next by who writes what waits, by who wants to know that it is on the disk, and by who looks at an open store's files.
+//! What is done next by who writes what waits, by who wants to know that it is on the disk, by who looks at an open store's files, and by
+//! who tells what is seen otherwise.
 ghost use Rattle.std.specs.Prelude.{◌≡◌};
 ghost use Rattle.dconf_rounds.specs.Glances.{glance_after, glance_number};
-ghost use Rattle.dconf_rounds.specs.Rounds.{task_after, task_number};
+ghost use Rattle.dconf_rounds.specs.Rounds.{is_at_work, task_after, task_number};
 ghost use Rattle.dconf_rounds.specs.Syncs.{sync_after, sync_number};
+ghost use Rattle.dconf_rounds.specs.Telling.{tell_next, telling_number};
 
-use dconf_rounds::{GlanceKnown, Known, SyncKnown, glance_number, sync_number, task_number};
+use dconf_rounds::{
+    GlanceKnown, Known, SyncKnown, TellKnown, glance_number, is_at_work, sync_number, task_number,
+    telling_number,
+};
+
+/// Whether what was begun in one process is at work in this one: it has not ended, and this is no child of that process by fork().
+#[unsafe(no_mangle)]
+pub extern "C" fn dconfdb_is_at_work(has_ended: bool, begun_in: u32, process: u32) -> bool
+    ensures { result ≡ is_at_work has_ended begun_in process }
+{
+    is_at_work(has_ended, begun_in, process)
+}
 
 /// What the thread that writes does next, once the first `done` tasks of a round were done, or were not due: 1 it tells, 2 watches, 3
 /// looks, 4 writes, 5 leaves the line, 6 rests, 7 ends, 8 ends and gives up what waits.
@@ -32,4 +45,13 @@ pub extern "C" fn dconfdb_glance_after(done: u32, known: &GlanceKnown) -> u32
     ensures { result ≡ glance_number (glance_after done known.now) }
 {
     glance_number(done, known)
+}
+
+/// What whoever tells does with the next path that is seen otherwise: 0 nothing, 1 takes it for the next notice, 2 tells what was taken, and
+/// then takes it, 3 tells what was taken, 4 tells all.
+#[unsafe(no_mangle)]
+pub extern "C" fn dconfdb_tell_next(known: &TellKnown) -> u32
+    ensures { result ≡ telling_number (tell_next known.now) }
+{
+    telling_number(known)
 }

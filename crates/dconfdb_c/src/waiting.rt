@@ -1,13 +1,11 @@
 //! Changes that wait to be written: which edit of a key is the newest, what becomes of each change, and how
 //! long it is waited for.
-ghost use Rattle.std.specs.Prelude.{◌≡◌, ◌≤◌, ◌<◌, ◌+◌, ◌⊎◌, ◌↔◌, IsTrue, false};
+ghost use Rattle.std.specs.Prelude.{◌≡◌, ◌≤◌, ◌<◌, ◌+◌, ◌↔◌, IsTrue};
 ghost use Rattle.dconf_waiting.specs.Newest.{IsPut, found};
 ghost use Rattle.dconf_waiting.specs.Fates.{edit_with, fate_number, fate_of, is_overtaken};
-ghost use Rattle.dconf_waiting.specs.Patiences.{IsRenewed, longest, patience_from};
+ghost use Rattle.dconf_waiting.specs.Patiences.{renewed};
 
-use dconf_waiting::{
-    Patience, Progress, WaitingEdit, fate_number, found, is_lasting, is_overtaken, put,
-};
+use dconf_waiting::{Patience, Progress, WaitingEdit, fate_number, found, is_overtaken, put};
 
 /// The number of the newest edit of a key; 0 if none waits.
 #[unsafe(no_mangle)]
@@ -47,54 +45,23 @@ pub extern "C" fn dconfdb_waiting_fate(
     fate_number(is_written, is_refused, is_overtaken)
 }
 
-/// How long it is waited, from now on: so long, and as long again after each turn of another program,
-/// up to a minute.
-#[unsafe(no_mangle)]
-pub extern "C" fn dconfdb_patience_begin(patience: &mut Patience, now: u64, each: u64)
-    ensures { patience.new ≡ patience_from now each }
-{
-    *patience = Patience::begin(now, each);
-}
-
-/// Another program had a turn.
+/// How long it is waited: it begins now, or another program had a turn: so long, and as long again after each turn, up to a minute.
 #[unsafe(no_mangle)]
 pub extern "C" fn dconfdb_patience_renew(patience: &mut Patience, now: u64)
-    ensures { IsRenewed patience.old now patience.new }
+    ensures { patience.new ≡ renewed patience.old now }
 {
     patience.renew(now);
 }
 
-/// Whether it is waited on: fewer changes are settled than there were when the wait began, no later try
-/// than those of then has failed by a fault that lasts, and the time isn't over.
+/// Whether it is waited on: fewer changes are settled than there were when the wait began, no later try than those of then has failed
+/// by a fault that lasts, the time isn't over, and the thread that writes moved within two seconds.
 #[unsafe(no_mangle)]
 pub extern "C" fn dconfdb_patience_goes_on(
     patience: &Patience,
-    settled: u64,
-    added: u64,
-    failed: u64,
-    tries: u64,
+    progress: &Progress,
     now: u64,
 ) -> bool
-    ensures { IsTrue result ↔ ((settled < added) × (failed ≤ tries) × (now < patience.now.end)) }
+    ensures { IsTrue result ↔ ((progress.now.settled < progress.now.added) × (progress.now.failed ≤ progress.now.tries) × (now < patience.now.end) × (now < progress.now.moved + 2000000)) }
 {
-    let progress = Progress {
-        settled,
-        added,
-        failed,
-        tries,
-    };
     patience.goes_on(progress, now)
-}
-
-/// Whether a fault lasts, by which nothing could be written since that moment.
-#[unsafe(no_mangle)]
-pub extern "C" fn dconfdb_fault_is_lasting(
-    is_momentary: bool,
-    tries_again: bool,
-    since: u64,
-    now: u64,
-) -> bool
-    ensures { IsTrue result ↔ ((tries_again ≡ false) ⊎ (since + longest is_momentary ≤ now)) }
-{
-    is_lasting(is_momentary, tries_again, since, now)
 }

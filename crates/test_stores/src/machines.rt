@@ -3,7 +3,7 @@ use crate::questions::TableOf;
 use crate::times::{COUNTED, KEPT, NOTED, OVERTAKEN};
 use crate::turns::TURNS;
 use dconf_steps::{NextStep, NoticeRecord, QueueRecord, QueuedEdit, RefreshRecord, WaitRecord};
-use dconf_waiting::{exit_goes_on, is_to_write, pause_after, sleep_until};
+use dconf_waiting::{next_look, pause_after, sleep_until};
 use std::alloc::AllocError;
 use std::fmt::Write;
 use std::test::Fail;
@@ -190,22 +190,22 @@ y n:5 p:20005 y:20006 | 0 1 2 1 2.0
 o y y:2 o:3 y:4 y:5 | 0 0 1 2 0 1 2.0
 ";
 
-/// Whether what waits is written when it is due, and is waited for as long as that is promised.
+/// Whether what failed is tried again, who rests wakes, and who reads looks when it is due: 0 reads, 1 has failed, 2 tells.
 fn are_due() -> bool {
-    is_to_write(true, false, 5, 5)
-        && is_to_write(true, true, 9, 5)
-        && !is_to_write(true, false, 6, 5)
-        && !is_to_write(false, true, 0, 5)
-        && pause_after(0) == 50_000
+    pause_after(0) == 50_000
         && pause_after(50_000) == 100_000
         && pause_after(u64::MAX) == 2_000_000
         && sleep_until(0, 0, 5).is_none()
         && sleep_until(0, 1_006, 5) == Some(2)
         && sleep_until(1_005, 9_000, 5) == Some(1)
         && sleep_until(1, 9_000, 5) == Some(0)
-        && exit_goes_on(5, 6, 5)
-        && !exit_goes_on(6, 6, 5)
-        && !exit_goes_on(2_000_005, 9_000_000, 5)
+        && next_look(0, 5, 5, true, true, true) == 10_005
+        && next_look(0, 6, 5, true, true, true) == 0
+        && next_look(1, 6, 5, true, true, true) == 1_000_005
+        && next_look(2, 6, 5, true, true, true) == 200_005
+        && next_look(2, 6, 5, false, true, true) == 0
+        && next_look(2, 6, 5, true, false, true) == 0
+        && next_look(0, 5, 5, true, true, false) == 0
 }
 
 #[test]

@@ -1,5 +1,8 @@
 //! What is done in turn by who writes what waits, by who wants to know that it is on the disk, and by who looks at the files.
-use dconf_rounds::{GlanceKnown, Known, SyncKnown, glance_number, sync_number, task_number};
+use dconf_rounds::{
+    GlanceKnown, Known, SyncKnown, TellKnown, glance_number, is_at_work, sync_number, task_number,
+    telling_number,
+};
 use std::test::Fail;
 
 /// Nothing is due.
@@ -156,8 +159,70 @@ fn looks_end() -> bool {
         && glance_number(4, &failed) == 8
 }
 
+fn notices_are_told() -> bool {
+    let heard = TellKnown {
+        taken: 254,
+        is_first: false,
+        ends: false,
+        is_other: true,
+        has_edits: false,
+        is_found: true,
+        has_path: true,
+        is_listened: true,
+    };
+    let full = TellKnown {
+        taken: 255,
+        ..heard
+    };
+    let edited = TellKnown {
+        is_other: false,
+        has_edits: true,
+        ..heard
+    };
+    let same = TellKnown {
+        is_other: false,
+        ..heard
+    };
+    let first = TellKnown {
+        is_first: true,
+        ..heard
+    };
+    let ending = TellKnown {
+        ends: true,
+        ..heard
+    };
+    let lost = TellKnown {
+        is_found: false,
+        ..heard
+    };
+    let unheard = TellKnown {
+        is_listened: false,
+        ..heard
+    };
+    let last = TellKnown {
+        has_path: false,
+        ..heard
+    };
+    let none = TellKnown { taken: 0, ..last };
+    telling_number(&heard) == 1
+        && telling_number(&full) == 2
+        && telling_number(&edited) == 1
+        && telling_number(&same) == 0
+        && telling_number(&first) == 0
+        && telling_number(&ending) == 0
+        && telling_number(&lost) == 4
+        && telling_number(&unheard) == 0
+        && telling_number(&last) == 3
+        && telling_number(&none) == 0
+}
+
+fn work_is_known() -> bool {
+    is_at_work(false, 7, 7) && !is_at_work(true, 7, 7) && !is_at_work(false, 7, 8)
+}
+
 #[test]
 fn tasks_come_in_their_order(rt: HostRuntime) -> Result<(), Fail> {
     assert!(rt; tasks_are_due() && threads_end() && syncs_are_answered() && looks_end());
+    assert!(rt; notices_are_told() && work_is_known());
     Ok(())
 }

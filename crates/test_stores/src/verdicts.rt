@@ -5,8 +5,7 @@ use dconf_verdicts::{
     verdict_number,
 };
 use dconf_waiting::{
-    Patience, Progress, WaitingEdit, fate_number, found, is_lasting, is_overtaken, put,
-    writer_goes_on,
+    Failing, Patience, Progress, WaitingEdit, fate_number, found, is_overtaken, put,
 };
 use std::test::Fail;
 
@@ -108,6 +107,7 @@ fn waits_end() -> bool {
         added: 2,
         failed: 0,
         tries: 3,
+        moved: u64::MAX,
     };
     let done = Progress {
         settled: 2,
@@ -117,22 +117,50 @@ fn waits_end() -> bool {
         failed: 4,
         ..progress
     };
-    let mut patience = Patience::begin(5, 10_000_000);
+    let resting = Progress {
+        moved: 5,
+        ..progress
+    };
+    let mut patience = Patience {
+        end: 0,
+        each: 10_000_000,
+        latest: 0,
+    };
+    patience.renew(5);
     let before = patience.end;
     patience.renew(58_000_000);
     before == 10_000_005
         && patience.end == 60_000_005
-        && patience.goes_on(progress, 60_000_004)
-        && !patience.goes_on(progress, 60_000_005)
-        && !patience.goes_on(done, 6)
-        && !patience.goes_on(failed, 6)
-        && writer_goes_on(false, false, failed)
-        && writer_goes_on(true, true, progress)
-        && !writer_goes_on(true, true, failed)
-        && !writer_goes_on(true, false, progress)
-        && is_lasting(false, true, 5, 1_500_005)
-        && !is_lasting(true, true, 5, 1_500_005)
-        && is_lasting(true, false, 5, 6)
+        && patience.goes_on(&progress, 60_000_004)
+        && !patience.goes_on(&progress, 60_000_005)
+        && !patience.goes_on(&done, 6)
+        && !patience.goes_on(&failed, 6)
+        && patience.goes_on(&resting, 2_000_004)
+        && !patience.goes_on(&resting, 2_000_005)
+}
+
+/// What is said: 0 nothing, 1 the fault, 2 nothing, though it lasts, 3 that it is over.
+fn faults_are_said() -> bool {
+    let mut failing = Failing {
+        since: 0,
+        pause: 0,
+        is_there: false,
+        is_said: false,
+    };
+    let silent = failing.met(false, false, true, 4) == 0
+        && failing.met(true, false, true, 5) == 0
+        && failing.met(true, true, true, 9_000_005) == 0
+        && failing.met(true, true, true, 10_000_004) == 0;
+    let paused = failing.since == 5 && failing.pause == 200_000;
+    let said = failing.met(true, true, true, 10_000_005) == 1
+        && failing.met(true, false, true, 10_000_006) == 2
+        && failing.met(false, false, true, 10_000_007) == 3;
+    silent
+        && paused
+        && said
+        && failing.pause == 0
+        && failing.met(true, false, false, 9) == 1
+        && failing.met(true, false, true, 10) == 0
 }
 
 /// The calls, by their numbers.
@@ -222,6 +250,6 @@ fn changes_and_faults_are_judged(rt: HostRuntime) -> Result<(), Fail> {
 
 #[test]
 fn changes_wait(rt: HostRuntime) -> Result<(), Fail> {
-    assert!(rt; the_newest_is_found() && fates_are_told() && waits_end());
+    assert!(rt; the_newest_is_found() && fates_are_told() && waits_end() && faults_are_said());
     Ok(())
 }

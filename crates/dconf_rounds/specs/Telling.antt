@@ -1,0 +1,52 @@
+-- Who is told that something is seen otherwise than before, path by path.
+use Rattle.std.specs.Prelude.{ℕ, ◌≡◌, ◌<◌, Bool, true, false, not, ◌&&◌, ◌||◌, if◌then◌else◌, ◌==◌, nat_lt}
+use Rattle.dconf_rounds.specs.declared.telling.TellKnown.{TellKnown}
+use Rattle.dconf_rounds.specs.declared.telling.Telling.{Telling}
+use Rattle.dconf_rounds.specs.declared.telling.Telling.TheVariants.{Nothing, Take, TellAndTake, Tell, All}
+
+-- nobody has seen anything before, or the program ends, or nothing can be seen otherwise
+abbrev pub is_silent : TellKnown → Bool
+is_silent k = k.is_first || (k.ends || not (k.is_other || k.has_edits))
+
+-- at most 255 paths are in one notice, and only those that somebody listens to; and without memory all are told
+abbrev pub tell_next : TellKnown → Telling
+tell_next k =
+    if is_silent k then Nothing else if not k.is_found then All else if not k.is_listened then Nothing else
+    if not k.has_path then (if k.taken == 0 then Nothing else Tell) else if nat_lt k.taken 255 then Take else TellAndTake
+
+abbrev pub telling_number : Telling → ℕ
+telling_number Nothing = 0
+telling_number Take = 1
+telling_number TellAndTake = 2
+telling_number Tell = 3
+telling_number All = 4
+
+-- ---- the law
+
+abbrev pub is_taken : Telling → Bool
+is_taken Take = true
+is_taken TellAndTake = true
+is_taken _ = false
+
+abbrev pub is_sent : Telling → Bool
+is_sent Tell = true
+is_sent TellAndTake = true
+is_sent _ = false
+
+abbrev pub is_all : Telling → Bool
+is_all All = true
+is_all _ = false
+
+pub record IsGoodTelling (k : TellKnown) : Type 0 where
+  -- each path that somebody listens to is told, unless nobody is told of anything
+  pub heard : is_taken (tell_next k) ≡ (not (is_silent k) && (k.is_found && (k.is_listened && k.has_path)))
+  -- and nothing is left out because nobody knows what it is
+  pub lost : is_all (tell_next k) ≡ (not (is_silent k) && not k.is_found)
+  -- no notice is empty, or has more than 255
+  pub some : is_sent (tell_next k) ≡ true → 0 < k.taken
+  pub short : tell_next k ≡ Take → k.taken < 255
+  -- what was taken is told at last
+  pub rest : is_silent k ≡ false → k.is_found ≡ true → k.is_listened ≡ true → k.has_path ≡ false → 0 < k.taken → tell_next k ≡ Tell
+
+abbrev pub WhatIsHeardIsTold : Type 0
+WhatIsHeardIsTold = (k : TellKnown) → IsGoodTelling k

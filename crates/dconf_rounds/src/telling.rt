@@ -1,0 +1,88 @@
+//! Who is told that something is seen otherwise than before, path by path.
+ghost use Rattle.std.specs.Prelude.{◌≡◌};
+ghost use Rattle.dconf_rounds.specs.Telling.{is_silent, tell_next, telling_number};
+
+/// What has a notice ends the program where there are more keys of a schema in one.
+const MOST_KEYS: usize = 255;
+
+/// What comes next.
+#[derive(Clone, Copy)]
+pub enum Telling {
+    /// Nothing is told: nobody is to be, or nobody listens to the path.
+    Nothing,
+    /// The path is taken for the next notice.
+    Take,
+    /// What was taken is told, and then the path is taken for another notice.
+    TellAndTake,
+    /// What was taken is told: that was all.
+    Tell,
+    /// All is told, since nobody knows what is seen otherwise.
+    All,
+}
+
+/// What is known.
+#[repr(C)]
+#[derive(Clone, Copy)]
+pub struct TellKnown {
+    /// How many paths were taken for the next notice.
+    pub taken: usize,
+    /// Nobody has seen anything before.
+    pub is_first: bool,
+    /// The program ends.
+    pub ends: bool,
+    /// What is the newest is another than before.
+    pub is_other: bool,
+    /// Edits waited then, or wait now.
+    pub has_edits: bool,
+    /// The paths that are seen otherwise were found; else no memory is left.
+    pub is_found: bool,
+    /// Here is another one; else those were all.
+    pub has_path: bool,
+    /// Somebody listens to it; or, of all, to what they begin with.
+    pub is_listened: bool,
+}
+
+/// What comes next.
+pub fn tell_next(known: &TellKnown) -> Telling
+    ensures { result ≡ tell_next known.now }
+{
+    if is_silent(known) {
+        return Telling::Nothing;
+    }
+    if !known.is_found {
+        return Telling::All;
+    }
+    if !known.is_listened {
+        return Telling::Nothing;
+    }
+    if !known.has_path {
+        return if known.taken == 0 {
+            Telling::Nothing
+        } else {
+            Telling::Tell
+        };
+    }
+    if known.taken < MOST_KEYS {
+        return Telling::Take;
+    }
+    Telling::TellAndTake
+}
+
+/// The same as a number: 0 nothing, 1 take, 2 tell and take, 3 tell, 4 all.
+pub fn telling_number(known: &TellKnown) -> u32
+    ensures { result ≡ telling_number (tell_next known.now) }
+{
+    match tell_next(known) {
+        Telling::Nothing => 0,
+        Telling::Take => 1,
+        Telling::TellAndTake => 2,
+        Telling::Tell => 3,
+        Telling::All => 4,
+    }
+}
+
+fn is_silent(known: &TellKnown) -> bool
+    ensures { result ≡ is_silent known.now }
+{
+    known.is_first || (known.ends || !(known.is_other || known.has_edits))
+}

@@ -1,0 +1,62 @@
+-- What is said of a fault while it lasts.
+use Rattle.std.specs.Prelude.{ℕ, ◌≡◌, ◌↔◌, Bool, true, false, not, ◌&&◌, ◌||◌, if◌then◌else◌, nat_le}
+use Rattle.dconf_waiting.specs.declared.failing.Failing.{Failing}
+use Rattle.dconf_waiting.specs.declared.failing.Word.{Word}
+use Rattle.dconf_waiting.specs.declared.failing.Word.TheVariants.{Nothing, Say, Said, Over}
+use Rattle.dconf_waiting.specs.Dues.{next_pause}
+use Rattle.dconf_waiting.specs.Patiences.{later_by}
+
+-- from when on a fault lasts: ten seconds, if it is mostly so for a moment; and else a second and a half
+abbrev pub longest : Bool → ℕ
+longest true = 10000000
+longest false = 1500000
+
+abbrev pub no_fault : Failing
+no_fault = record { since = 0; pause = 0; is_there = false; is_said = false }
+
+abbrev pub since_of : Failing → ℕ → ℕ
+since_of f now = if f.is_there then f.since else now
+
+-- nobody tries again of themselves, or it is there for so long
+abbrev pub lasts : Failing → Bool → Bool → ℕ → Bool
+lasts f is_momentary tries_again now = not tries_again || nat_le (later_by (since_of f now) (longest is_momentary)) now
+
+abbrev pub word_of : Failing → Bool → Bool → Bool → ℕ → Word
+word_of f is_there is_momentary tries_again now =
+    if not is_there then (if f.is_there then Over else Nothing) else
+    if not (lasts f is_momentary tries_again now) then Nothing else if f.is_said then Said else Say
+
+abbrev pub is_said_after : Failing → Bool → Bool → ℕ → Bool
+is_said_after f is_momentary tries_again now = f.is_said || lasts f is_momentary tries_again now
+
+abbrev pub failing_after : Failing → Bool → Bool → Bool → ℕ → Failing
+failing_after f is_there is_momentary tries_again now =
+    if not is_there then no_fault else
+    record { since = since_of f now; pause = next_pause f.pause; is_there = true; is_said = is_said_after f is_momentary tries_again now }
+
+abbrev pub word_number : Word → ℕ
+word_number Nothing = 0
+word_number Say = 1
+word_number Said = 2
+word_number Over = 3
+
+-- ---- the law
+
+abbrev pub is_word : Word → Bool
+is_word Say = true
+is_word Said = true
+is_word _ = false
+
+pub record IsSaidOnce (f : Failing) (is_there is_momentary tries_again : Bool) (now : ℕ) : Type 0 where
+  -- what lasts is said now, or was
+  pub minded : is_word (word_of f is_there is_momentary tries_again now) ≡ (is_there && lasts f is_momentary tries_again now)
+  -- what is said now was not said before, and is remembered
+  pub once : word_of f is_there is_momentary tries_again now ≡ Say
+      → (f.is_said ≡ false) × ((failing_after f is_there is_momentary tries_again now).is_said ≡ true)
+  -- as long as it is there
+  pub kept : f.is_said ≡ true → is_there ≡ true → (failing_after f is_there is_momentary tries_again now).is_said ≡ true
+  -- and no longer
+  pub over : is_there ≡ false → failing_after f is_there is_momentary tries_again now ≡ no_fault
+
+abbrev pub EachFaultIsSaidOnce : Type 0
+EachFaultIsSaidOnce = (f : Failing) (is_there is_momentary tries_again : Bool) (now : ℕ) → IsSaidOnce f is_there is_momentary tries_again now

@@ -1,0 +1,122 @@
+//! What is said of a fault while it lasts, and when what failed by it is tried again. All moments are of one clock, in microseconds.
+ghost use Rattle.std.specs.Prelude.{◌≡◌};
+ghost use Rattle.dconf_waiting.specs.Faults.{failing_after, is_said_after, lasts, longest, since_of, word_number, word_of};
+
+use crate::due::pause_after;
+
+/// From when on a fault is one that lasts, if it is mostly so for a moment, and of any other.
+const LONGEST_MOMENT: u64 = 10_000_000;
+
+const LONGEST_FAULT: u64 = 1_500_000;
+
+/// A fault that was met, and is there still; all zeros: there is none.
+#[repr(C)]
+#[derive(Clone, Copy)]
+pub struct Failing {
+    /// Since when it is there.
+    pub since: u64,
+    /// The pause before the next try.
+    pub pause: u64,
+    pub is_there: bool,
+    /// It was said.
+    pub is_said: bool,
+}
+
+/// What is said now.
+#[derive(Clone, Copy)]
+pub enum Word {
+    /// There is no fault; or it isn't minded yet.
+    Nothing,
+    /// The fault.
+    Say,
+    /// It lasts, and was said.
+    Said,
+    /// It is over.
+    Over,
+}
+
+impl Failing {
+    /// It was tried, and is there or not. `tries_again`: somebody will, of themselves. Gives what is said as a number: 0 nothing, 1 say it, 2
+    /// it is said, 3 it is over.
+    pub fn met(&mut self, is_there: bool, is_momentary: bool, tries_again: bool, now: u64) -> u32
+        ensures said { result ≡ word_number (word_of self.old is_there is_momentary tries_again now) }
+        ensures after { self.new ≡ failing_after self.old is_there is_momentary tries_again now }
+    {
+        let word = self.word(is_there, is_momentary, tries_again, now);
+        *self = self.after(is_there, is_momentary, tries_again, now);
+        match word {
+            Word::Nothing => 0,
+            Word::Say => 1,
+            Word::Said => 2,
+            Word::Over => 3,
+        }
+    }
+
+    /// What is said of it. It is said once, as soon as it lasts, and then not until it is over.
+    pub fn word(&self, is_there: bool, is_momentary: bool, tries_again: bool, now: u64) -> Word
+        ensures { result ≡ word_of self.now is_there is_momentary tries_again now }
+    {
+        if !is_there {
+            return if self.is_there {
+                Word::Over
+            } else {
+                Word::Nothing
+            };
+        }
+        if !self.lasts(is_momentary, tries_again, now) {
+            return Word::Nothing;
+        }
+        if self.is_said {
+            return Word::Said;
+        }
+        Word::Say
+    }
+
+    fn after(&self, is_there: bool, is_momentary: bool, tries_again: bool, now: u64) -> Failing
+        ensures { result ≡ failing_after self.now is_there is_momentary tries_again now }
+    {
+        if !is_there {
+            return Failing {
+                since: 0,
+                pause: 0,
+                is_there: false,
+                is_said: false,
+            };
+        }
+        Failing {
+            since: self.since(now),
+            pause: pause_after(self.pause),
+            is_there: true,
+            is_said: self.is_said_after(is_momentary, tries_again, now),
+        }
+    }
+
+    fn is_said_after(&self, is_momentary: bool, tries_again: bool, now: u64) -> bool
+        ensures { result ≡ is_said_after self.now is_momentary tries_again now }
+    {
+        self.is_said || self.lasts(is_momentary, tries_again, now)
+    }
+
+    /// Whether it lasts: nobody tries again by themselves, or it is there for longer than such a fault mostly is.
+    fn lasts(&self, is_momentary: bool, tries_again: bool, now: u64) -> bool
+        ensures { result ≡ lasts self.now is_momentary tries_again now }
+    {
+        !tries_again || self.since(now).saturating_add(longest(is_momentary)) <= now
+    }
+
+    fn since(&self, now: u64) -> u64
+        ensures { result ≡ since_of self.now now }
+    {
+        if self.is_there { self.since } else { now }
+    }
+}
+
+fn longest(is_momentary: bool) -> u64
+    ensures { result ≡ longest is_momentary }
+{
+    if is_momentary {
+        LONGEST_MOMENT
+    } else {
+        LONGEST_FAULT
+    }
+}
