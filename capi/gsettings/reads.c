@@ -67,8 +67,8 @@ static GVariant *take_lent(Source *source, Reads *reads, const char *key)
     return lent_value(g_steal_pointer(&source->now), reads, key);
 }
 
-/* Since only who reads knows the type that is asked for, it is kept of which keys a value of another type was passed over: where
- * their default changes, it is told. */
+/* Since only who reads knows the type that is asked for, it is kept which keys are found elsewhere than by who asks for any: a value of
+ * another type was passed over. Where their default changes, it is told. */
 static void remember_odd(DconfdbBackend *self, const char *key, const GVariantType *expected)
 {
     g_mutex_lock(&self->lock);
@@ -105,10 +105,10 @@ static GVariant *read_beside(DconfdbBackend *self, Source *source, const char *k
 {
     GVariant *stored = lent_value(source->now ? dconfdb_snapshot_ref(source->now) : NULL, dconfdb_snapshot_read, key);
     bool may = source->now && dconfdb_snapshot_is_writable(source->now, key);
-    bool edit_fits = fits(source->value, expected), stored_fits = fits(stored, expected);
-    if (!edit_fits || !stored_fits)
+    uint32_t found = found_of(source, false, may, fits(source->value, expected), fits(stored, expected));
+    if (found != found_of(source, false, may, true, true))
         remember_odd(self, key, expected);
-    return take_found(source, found_of(source, false, may, edit_fits, stored_fits), stored, key);
+    return take_found(source, found, stored, key);
 }
 
 GVariant *dconfdb_backend_read(GSettingsBackend *backend, const char *key, const GVariantType *expected,

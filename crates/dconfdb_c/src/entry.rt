@@ -4,9 +4,7 @@ ghost use Rattle.std.specs.List.{list_all};
 ghost use Rattle.dconf_verdicts.specs.Entries.{entry_number, entry_of, is_there};
 ghost use Rattle.dconf_verdicts.specs.Faults.{class_of, fault_of, is_momentary, kind_of, number_of, verdict_number, verdict_of};
 
-use dconf_verdicts::{
-    NewEdit, class_number, entry_number, is_momentary, is_there, verdict_number,
-};
+use dconf_verdicts::{NewEdit, class_number, entry_number, is_momentary, is_there, verdict_number};
 
 /// What becomes of a change: 0 it is refused, 1 nothing is left of it, 2 it renews the one that waits,
 /// 3 it waits, though nothing is seen otherwise, 4 it waits.
