@@ -25,6 +25,18 @@ typedef struct {
     Made *made;
 } Batch;
 
+/* Whether something else is seen by an edit that waits: that is told. */
+static inline bool edit_is_news(const DconfdbNewEdit *edit)
+{
+    return dconfdb_entry(edit, 1) == DCONFDB_ENTRY_WAITS;
+}
+
+/* Whether nothing is left of an edit: it takes away what may not be written. */
+static inline bool edit_is_left_out(const DconfdbNewEdit *edit)
+{
+    return dconfdb_entry(edit, 1) == DCONFDB_ENTRY_EMPTY;
+}
+
 /* With room for so many edits. */
 Batch batch_new(size_t most);
 

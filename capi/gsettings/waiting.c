@@ -69,7 +69,7 @@ uint32_t change_entry(Change *change, const Waiting *waiting, const DconfdbSnaps
         edit->key = key_of(waiting, edit);
         const Edit *newest = newest_of(waiting, edit->key);
         change->known[i] = newest ? known_beside(edit, newest, now, is_at_work) : known_by_now(edit, now, is_at_work);
-        edit->is_left_out = dconfdb_entry(&change->known[i], 1) == DCONFDB_ENTRY_EMPTY;
+        edit->is_left_out = edit_is_left_out(&change->known[i]);
     }
     return dconfdb_entry(change->known, change->count);
 }
