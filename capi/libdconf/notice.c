@@ -135,45 +135,59 @@ static bool changed_by_others(Told *told, const DconfdbSnapshot *before, const D
 
 /* ---- who is told of it */
 
-static void send_changed(Engine *self, const char *paths)
+static void send_writable_of(Engine *self, const char *path)
 {
-    const gchar *prefix;
+    static const gchar *const itself[] = {"", NULL};
+    send(self, path, NULL, NULL, FALSE);
+    send(self, path, itself, "", FALSE);
+}
+
+/* All in one notice, if somebody listens to what they begin with. */
+static void send_changed(Engine *self, DconfdbTelling *telling, const char *paths)
+{
+    const gchar *prefix = "";
     DConfChangeset *changed = dconf_changeset_new();
     for (const char *at = paths; *at; at += strlen(at) + 1)
         dconf_changeset_set(changed, at, NULL);
-    if (dconf_changeset_describe(changed, &prefix, NULL, NULL) > 0 && engine_is_watched(self, prefix))
+    telling->has_path = false;
+    telling->taken = dconf_changeset_describe(changed, &prefix, NULL, NULL);
+    telling->is_listened = telling->taken > 0 && engine_is_watched(self, prefix);
+    uint32_t next = dconfdb_tell_next(telling);
+    if (next == DCONFDB_TELL_WHAT_IS_TAKEN)
         notice_changed(self, changed, "", FALSE);
+    else if (next == DCONFDB_TELL_ALL)
+        send_writable_of(self, "/");
     dconf_changeset_unref(changed);
 }
 
 /* Keys, and directories as a whole, of which it changed whether they may be written: their values may be others, too. */
-static void send_writable(Engine *self, const char *paths)
+static void send_writable(Engine *self, DconfdbTelling *telling, const char *paths)
 {
-    static const gchar *const itself[] = {"", NULL};
-    for (const char *at = paths; *at; at += strlen(at) + 1) {
-        if (!engine_is_watched(self, at))
-            continue;
-        send(self, at, NULL, NULL, FALSE);
-        send(self, at, itself, "", FALSE);
+    telling->has_path = true;
+    for (const char *at = paths; telling->has_path; at += strlen(at) + 1) {
+        telling->has_path = *at != 0;
+        telling->is_listened = telling->has_path && engine_is_watched(self, at);
+        uint32_t next = dconfdb_tell_next(telling);
+        if (next == DCONFDB_TELL_TAKE)
+            send_writable_of(self, at);
+        else if (next == DCONFDB_TELL_ALL)
+            send_writable_of(self, "/");
     }
 }
 
 /* Without a snapshot before, all that is there is told, and that it may be written. Without memory all is. */
-static void tell_differences(Engine *self, const DconfdbSnapshot *before, const DconfdbSnapshot *now, DConfChangeset *own)
+static void tell_differences(Engine *self, DconfdbTelling *telling, const DconfdbSnapshot *before, const DconfdbSnapshot *now,
+                             DConfChangeset *own)
 {
     Told told;
-    if (seen_relocked(&told, before, now, NULL)) {
-        send_writable(self, told.paths);
+    telling->is_found = seen_relocked(&told, before, now, NULL);
+    send_writable(self, telling, telling->is_found ? told.paths : "");
+    if (telling->is_found)
         seen_free(&told);
-    } else {
-        send_writable(self, "/\0");
-    }
-    if (changed_by_others(&told, before, now, own)) {
-        send_changed(self, told.paths);
+    telling->is_found = changed_by_others(&told, before, now, own);
+    send_changed(self, telling, telling->is_found ? told.paths : "");
+    if (telling->is_found)
         seen_free(&told);
-    } else {
-        send_writable(self, "/\0");
-    }
 }
 
 void notice_others(Engine *self)
@@ -183,8 +197,9 @@ void notice_others(Engine *self)
     self->told = now ? dconfdb_snapshot_ref(now) : NULL;
     DConfChangeset *own = self->writing ? dconf_changeset_ref(self->writing) : NULL;
     g_mutex_unlock(&self->lock);
-    if (now && before != now)
-        tell_differences(self, before, now, own);
+    DconfdbTelling telling = {.is_other = now && before != now};
+    if (dconfdb_tell_next(&telling) != DCONFDB_TELL_NOTHING)
+        tell_differences(self, &telling, before, now, own);
     g_clear_pointer(&own, dconf_changeset_unref);
     dconfdb_snapshot_unref(before);
     dconfdb_snapshot_unref(now);
