@@ -108,7 +108,7 @@ def on_a_full_disk(both, driver, whose):
         says(program, 'write sync /v/k 1\n')
         fill(filler)
         first = says(program, 'write fast /v/k 2\nread 0 /v/k\n')
-        amid = says(program, 'settle 300\nread 0 /v/k\n')
+        amid = says(program, 'settle 2000\nread 0 /v/k\n')
         filler.unlink()
         later = says(program, 'settle 2500\nread 0 /v/k\n')
         stored = both.ran(whose, [driver], 'read 0 /v/k\n')[1].split('\n')[1]
