@@ -30,7 +30,8 @@ static void put(Warned *warned, const char *text)
 
 static void put_all(Warned *warned, const DconfdbStore *store)
 {
-    DconfdbError error = DCONFDB_ERROR_INIT;
+    DconfdbError error; /* without its text, which is long, and mostly not written */
+    error.size = sizeof error;
     DconfdbSnapshot *now = dconfdb_store_snapshot((DconfdbStore *)store);
     if (dconfdb_store_profile_fault(store, &error))
         put(warned, error.text);
