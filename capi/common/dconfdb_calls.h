@@ -521,12 +521,9 @@ enum {
 /* `above`: whose the folder is. `keeps`: the old file is set aside. `given` is written where it is GIVEN. */
 uint32_t dconfdb_owner_and_bits(const DconfdbOldFile *old, const DconfdbFileOwner *above, bool is_root, bool keeps, DconfdbNewFile *given);
 
-/* The bits of a file that is to have these once it has its group, while it has that or another one: nobody may do more with it. */
-uint32_t dconfdb_bits_for(uint32_t bits, bool has_group);
-
-/* The bits of a lock's file that was just made, by those of its folder, of which it has the group or another one: who may write in the
- * folder may take the lock. */
-uint32_t dconfdb_lock_bits(uint32_t folder, bool has_group);
+/* The permission bits of a file while it has its group or another one: that is to have these once it has its own, and nobody may do more with
+ * it; or, of a lock's file that was just made, by those of its folder: who may write in that may take the lock. */
+uint32_t dconfdb_file_bits(bool of_lock, uint32_t bits, bool has_group);
 
 /* An edit that is asked for, and what is known of its key. */
 typedef struct {
@@ -577,17 +574,17 @@ typedef struct {
 
 /* What for it is asked. */
 enum {
-    DCONFDB_TO_LOOK, /* something is to be there, or not */
-    DCONFDB_TO_OPEN, /* a file, by its name, is to be opened and read */
-    DCONFDB_TO_READ, /* an open file is to be read */
-    DCONFDB_TO_LOCK, /* the lock's file was opened */
-    DCONFDB_TO_HOLD, /* it is locked */
-    DCONFDB_TO_FOLLOW,   /* a link is to be followed that is in this folder */
+    DCONFDB_TO_LOOK,      /* something is to be there, or not */
+    DCONFDB_TO_OPEN,      /* a file, by its name, is to be opened and read */
+    DCONFDB_TO_READ,      /* an open file is to be read */
+    DCONFDB_TO_LOCK,      /* the lock's file was opened */
+    DCONFDB_TO_HOLD,      /* it is locked */
+    DCONFDB_TO_FOLLOW,    /* a link is to be followed that is in this folder */
     DCONFDB_TO_MAKE_ROOM, /* what had the new file's name was removed */
-    DCONFDB_TO_EXCHANGE, /* a file got another name, if that is free, or changed places with what has the other one */
-    DCONFDB_TO_MAKE,     /* a folder was made */
-    DCONFDB_TO_NAME,     /* it got its name, if that was free */
-    DCONFDB_TO_REPLACE   /* the same, or it took the place of an empty folder */
+    DCONFDB_TO_EXCHANGE,  /* a file got another name, if that is free, or changed places with what has the other one */
+    DCONFDB_TO_MAKE,      /* a folder was made */
+    DCONFDB_TO_NAME,      /* it got its name, if that was free */
+    DCONFDB_TO_REPLACE    /* the same, or it took the place of an empty folder */
 };
 
 /* What becomes of it. */

@@ -116,7 +116,7 @@ static void hand_over(int folder, int file)
         return;
     if (made.st_gid != above.st_gid && fchown(file, (uid_t)-1, above.st_gid) == 0)
         made.st_gid = above.st_gid;
-    mode_t bits = dconfdb_lock_bits(above.st_mode, made.st_gid == above.st_gid);
+    mode_t bits = dconfdb_file_bits(true, above.st_mode, made.st_gid == above.st_gid);
     if ((made.st_mode & PERMISSION_BITS) != bits)
         fchmod(file, bits);
 }
@@ -188,7 +188,7 @@ static bool is_for_others(int folder)
     struct stat above;
     if (fstat(folder, &above) != 0)
         return false;
-    return (geteuid() == 0 && above.st_uid != 0) || dconfdb_lock_bits(above.st_mode, true) != READ_AND_WRITE;
+    return (geteuid() == 0 && above.st_uid != 0) || dconfdb_file_bits(true, above.st_mode, true) != READ_AND_WRITE;
 }
 
 static int make_own(int folder, int *file)

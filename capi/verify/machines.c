@@ -86,14 +86,9 @@ uint32_t dconfdb_standing(uint32_t purpose, const DconfdbStood *stood, uint32_t 
     return standing_given(purpose, stood, fault);
 }
 
-uint32_t dconfdb_bits_for(uint32_t bits, bool has_group)
+uint32_t dconfdb_file_bits(bool of_lock, uint32_t bits, bool has_group)
 {
-    return bits_given(bits, has_group);
-}
-
-uint32_t dconfdb_lock_bits(uint32_t folder, bool has_group)
-{
-    return lock_bits_given(folder, has_group);
+    return of_lock ? lock_bits_given(bits, has_group) : bits_given(bits, has_group);
 }
 
 /* ---- a look */
