@@ -76,9 +76,10 @@ static uint32_t write_taken(Batch *batch, DconfdbStore *store, const Turn *turn,
         return DCONFDB_QUEUE_YES;
     if (!has_refused(batch))
         *refusal = *fault;
-    batch->is_closed = says_closed(fault);
+    uint32_t answer = answer_of_fault(fault);
+    batch->is_closed = answer == DCONFDB_QUEUE_CLOSED;
     *at = fault->edit < taken ? batch->numbers[fault->edit] : batch->count;
-    return answer_of_fault(fault);
+    return answer;
 }
 
 static uint32_t ask(const Batch *batch, DconfdbStore *store, size_t number)

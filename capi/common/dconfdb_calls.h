@@ -468,9 +468,9 @@ enum {
 void dconfdb_refresh_begin(DconfdbRefresh *refresh, size_t count, bool has_old, bool in_turn, bool is_lenient, DconfdbNext *step);
 void dconfdb_refresh_answered(DconfdbRefresh *refresh, bool yes, DconfdbNext *step);
 
-/* What a fault of the system answers, by its kind: no, but of a lenient look a file that can't be read by a fault of its own is had, and
+/* What a fault of the system answers, by its errno: no, but of a lenient look a file that can't be read by a fault of its own is had, and
  * counts as nothing. */
-bool dconfdb_refresh_is_had(const DconfdbRefresh *refresh, uint32_t kind);
+bool dconfdb_refresh_is_had(const DconfdbRefresh *refresh, uint32_t fault);
 
 /* ---- files, by what the system says of them */
 
@@ -521,12 +521,9 @@ enum {
 /* `above`: whose the folder is. `keeps`: the old file is set aside. `given` is written where it is GIVEN. */
 uint32_t dconfdb_owner_and_bits(const DconfdbOldFile *old, const DconfdbFileOwner *above, bool is_root, bool keeps, DconfdbNewFile *given);
 
-/* The bits of a file that is to have these once it has its group, while it has that or another one: nobody may do more with it. */
-uint32_t dconfdb_bits_for(uint32_t bits, bool has_group);
-
-/* The bits of a lock's file that was just made, by those of its folder, of which it has the group or another one: who may write in the
- * folder may take the lock. */
-uint32_t dconfdb_lock_bits(uint32_t folder, bool has_group);
+/* The permission bits of a file while it has its group or another one: that is to have these once it has its own, and nobody may do more with
+ * it; or, of a lock's file that was just made, by those of its folder: who may write in that may take the lock. */
+uint32_t dconfdb_file_bits(bool of_lock, uint32_t bits, bool has_group);
 
 /* An edit that is asked for, and what is known of its key. */
 typedef struct {
@@ -554,47 +551,51 @@ uint32_t dconfdb_entry(const DconfdbNewEdit *edits, size_t count);
  * waits. */
 bool dconfdb_is_there(const DconfdbNewEdit *edits, size_t count);
 
-/* What a host says of a call that failed (faults.h has which errno is which). */
+/* What becomes of what waits after a change that was not made, by the header's code of what it failed by, and its errno: an answer to
+ * dconfdb_queue_answered. Nothing is refused but for a fault that stays. */
+uint32_t dconfdb_verdict(uint32_t code, uint32_t fault);
+
+/* The header's code by which a program is told of an errno, of a file or of the lock by which programs take turns. */
+uint32_t dconfdb_error_code(bool of_lock, uint32_t fault);
+
+/* What the system says of what has a name, or is open; of some purposes `fault` alone counts. */
+typedef struct {
+    uint32_t fault; /* the errno by which it could not be done, or looked at; 0: it was */
+    uint32_t mode, user;
+    uint64_t links, size;
+    uint64_t most; /* a file of more bytes isn't read */
+    bool may_map;
+    bool may_stop; /* its head may say that the rest isn't wanted */
+    bool is_named; /* the names still stand for what is open */
+    bool is_root;  /* root asks */
+} DconfdbStood;
+
+/* What for it is asked. */
 enum {
-    DCONFDB_KIND_RIGHTS,
-    DCONFDB_KIND_READ_ONLY,
-    DCONFDB_KIND_NAME,   /* something else has the name, or one above it, or it can't be one */
-    DCONFDB_KIND_KIND,   /* it is no regular file, or is too large to be one */
-    DCONFDB_KIND_DAMAGE, /* its bytes on the disk are damaged */
-    DCONFDB_KIND_SCARCE, /* no more of something is left: descriptors, memory, locks */
-    DCONFDB_KIND_MOMENT, /* it was interrupted, or a server asks for another try */
-    DCONFDB_KIND_FULL,
-    DCONFDB_KIND_DISK,
-    DCONFDB_KIND_MISSING,     /* nothing has the name */
-    DCONFDB_KIND_UNSUPPORTED, /* the file system can't do that */
-    DCONFDB_KIND_WAIT,        /* it would have to wait */
-    DCONFDB_KIND_OTHER
+    DCONFDB_TO_LOOK,      /* something is to be there, or not */
+    DCONFDB_TO_OPEN,      /* a file, by its name, is to be opened and read */
+    DCONFDB_TO_READ,      /* an open file is to be read */
+    DCONFDB_TO_LOCK,      /* the lock's file was opened */
+    DCONFDB_TO_HOLD,      /* it is locked */
+    DCONFDB_TO_FOLLOW,    /* a link is to be followed that is in this folder */
+    DCONFDB_TO_MAKE_ROOM, /* what had the new file's name was removed */
+    DCONFDB_TO_EXCHANGE,  /* a file got another name, if that is free, or changed places with what has the other one */
+    DCONFDB_TO_MAKE,      /* a folder was made */
+    DCONFDB_TO_NAME,      /* it got its name, if that was free */
+    DCONFDB_TO_REPLACE    /* the same, or it took the place of an empty folder */
 };
 
-/* What comes of it. */
+/* What becomes of it. */
 enum {
-    DCONFDB_CLASS_OWN,  /* it is the file's own, and stays: what is read counts as what can be had of it, a change is refused */
-    DCONFDB_CLASS_SOON, /* it passes in a moment, mostly */
-    DCONFDB_CLASS_LATER /* it may pass */
+    DCONFDB_IS_GOOD,    /* it is as it is to be: it is read, or the lock is had, or the link is followed */
+    DCONFDB_IS_NOTHING, /* nothing is there that counts: no file, or no bytes, or no lock of that name any more; or nothing has to be made */
+    DCONFDB_IS_MAPPED,  /* it is mapped, if the file system can do that; or else read */
+    DCONFDB_IS_HEAD,    /* its head is read, and then the rest, if it is wanted */
+    DCONFDB_IS_OTHER,   /* it is done in another way: what has the name loses it, or gets another one */
+    DCONFDB_IS_FAULT    /* it fails by the errno `fault`, which else is 0 */
 };
 
-/* Of who changes a file, or reads it. Each kind has one class. */
-uint32_t dconfdb_fault_class(uint32_t kind, bool changes);
-
-/* Why a change was not made. */
-enum {
-    DCONFDB_CHANGE_LOCKED, /* a key is, or there is no database that could be written */
-    DCONFDB_CHANGE_UNFIT,  /* an edit can't be made */
-    DCONFDB_CHANGE_HOST,   /* the host failed, by a fault of that kind */
-    DCONFDB_CHANGE_MEMORY,
-    DCONFDB_CHANGE_BUSY /* others write, or it is none of these */
-};
-
-/* What becomes of what waits, as dconfdb_queue_answered has it: LOCKED, FAULT, or LATER. Nothing is refused but for a fault that stays. */
-uint32_t dconfdb_verdict(uint32_t fault, uint32_t kind);
-
-/* Whether such a fault passes in a moment, mostly. */
-bool dconfdb_is_momentary(uint32_t fault, uint32_t kind);
+uint32_t dconfdb_standing(uint32_t purpose, const DconfdbStood *stood, uint32_t *fault);
 
 /* What is asked of a change before it is written, in this order, and what came of it. */
 enum {
@@ -663,8 +664,8 @@ enum {
     DCONFDB_ANSWER_UNSURE    /* the system may have done it all the same: nobody knows which file has the name */
 };
 
-/* Each fault of a call has one answer. */
-uint32_t dconfdb_fault_answer(uint32_t call, uint32_t kind);
+/* Each errno of a call has one answer. */
+uint32_t dconfdb_fault_answer(uint32_t call, uint32_t fault);
 
 /* An edit that waits, and what became of it. Of each change the first edit says whether it is refused. */
 typedef struct {
@@ -694,7 +695,10 @@ enum {
     DCONFDB_QUEUE_YES,
     DCONFDB_QUEUE_LOCKED, /* of a write: a key was locked. Of a key: it may not be written */
     DCONFDB_QUEUE_FAULT,  /* the edit `at` has a fault of its own */
-    DCONFDB_QUEUE_LATER   /* nothing was written, by no fault of an edit */
+    DCONFDB_QUEUE_LATER,  /* nothing was written, by no fault of an edit */
+    DCONFDB_QUEUE_CLOSED, /* of a write: nobody who has this program's rights may write there, so no key may be written */
+    DCONFDB_QUEUE_FULL,   /* of a write: the file would be too large; the newest edit that sets something has that fault */
+    DCONFDB_QUEUE_SOON    /* as LATER, but that passes in a moment, mostly */
 };
 
 void dconfdb_queue_begin(DconfdbQueue *queue, const DconfdbQueued *edits, size_t count, DconfdbNext *step);
@@ -702,34 +706,43 @@ void dconfdb_queue_begin(DconfdbQueue *queue, const DconfdbQueued *edits, size_t
 /* It marks edits that are left out, and changes that are refused. */
 void dconfdb_queue_answered(DconfdbQueue *queue, DconfdbQueued *edits, size_t count, uint32_t answer, size_t at, DconfdbNext *step);
 
-/* The wait for a lock that others may have. */
+/* The wait for a lock that others may have, or for a file. */
 typedef struct {
     uint32_t stage, fault;
-    uint64_t longest, tries;
+    uint64_t longest, tries, began, paused;
+    uint32_t tried;
+    bool is_timed;
 } DconfdbWait;
+
+/* What is waited for. */
+enum {
+    DCONFDB_WAIT_FOR_LOCK,    /* so many milliseconds at most */
+    DCONFDB_WAIT_WITHOUT_END, /* for a lock, too */
+    DCONFDB_WAIT_FOR_LEASE    /* that others have on a file, and were asked to give back: for a second */
+};
 
 /* Its steps. */
 enum {
     DCONFDB_WAIT_TRY,
-    DCONFDB_WAIT_PAUSE,
+    DCONFDB_WAIT_PAUSE,  /* for `number` nanoseconds */
     DCONFDB_WAIT_HAD,    /* over */
-    DCONFDB_WAIT_BUSY,   /* over: others had it all the time */
-    DCONFDB_WAIT_STOPPED /* over: a try failed, by the fault `number` */
+    DCONFDB_WAIT_BUSY,   /* over: others had it all the time, which is told by the errno `number` */
+    DCONFDB_WAIT_STOPPED /* over: a try failed, by the errno `number` */
 };
 
-/* The answers to a try. */
+/* Which call was the last of a try. */
 enum {
-    DCONFDB_WAIT_GOT,
-    DCONFDB_WAIT_TAKEN, /* others have it */
-    DCONFDB_WAIT_MOVED, /* its name is another file's by now */
-    DCONFDB_WAIT_FAILED
+    DCONFDB_TRIED_FILE,     /* it opens the file */
+    DCONFDB_TRIED_LOCK,     /* it locks it */
+    DCONFDB_TRIED_NAME,     /* its name was seen to be another file's by now, or was taken from it */
+    DCONFDB_TRIED_LOCK_FILE /* it opens the lock's file */
 };
 
-/* A wait of so many milliseconds at most. */
-void dconfdb_wait_begin(DconfdbWait *wait, uint32_t longest, DconfdbNext *step);
+/* `now`: a moment of a clock of nanoseconds that nobody sets. */
+void dconfdb_wait_begin(DconfdbWait *wait, uint32_t what, uint32_t longest, uint64_t now, DconfdbNext *step);
 
-/* `passed`: the milliseconds since it began, of TAKEN and MOVED. `fault`: of FAILED. Of a pause any answer will do. */
-void dconfdb_wait_answered(DconfdbWait *wait, uint32_t answer, uint64_t passed, uint32_t fault, DconfdbNext *step);
+/* `fault`: the errno of the call, or 0. `at`: when the step began. A pause counts as 50 milliseconds at most. Of a pause any call will do. */
+void dconfdb_wait_answered(DconfdbWait *wait, uint32_t tried, uint32_t fault, uint64_t at, DconfdbNext *step);
 
 /* When whoever is told of changes looks at the files. All moments are of one clock, in microseconds; 0 is none. */
 typedef struct {

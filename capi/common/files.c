@@ -3,7 +3,7 @@
 #define _FILE_OFFSET_BITS 64
 #include "files.h"
 #include "dconfdb_calls.h"
-#include "faults.h"
+#include "stood.h"
 #include "tries.h"
 
 #include <errno.h>
@@ -13,15 +13,8 @@
 #include <sys/stat.h>
 #include <unistd.h>
 
-/* No more than so many bytes are read at once, whatever they begin with, and are never mapped. */
-#ifndef SMALL
-#define SMALL 65536
-#endif
-
+/* What is read of a file first, whose rest may not be wanted. */
 enum { HEAD = 24 };
-
-/* For so many milliseconds a file is waited for that another program has a lease on, which it is asked to give back. */
-enum { LONGEST_LEASE = 1000 };
 
 static DconfdbFileTime time_of(const struct timespec *time)
 {
@@ -43,7 +36,7 @@ int file_look(const char *name, FileState *state)
         return 0;
     }
     *state = missing;
-    return errno == ENOENT ? 0 : errno;
+    return file_fault(DCONFDB_TO_LOOK, errno);
 }
 
 uint64_t file_clock(void)
@@ -77,31 +70,32 @@ static int look_at_head(int file, FileWanted *is_wanted, size_t *len)
 {
     uint64_t room[HEAD / sizeof(uint64_t)]; /* aligned as a file's bytes are */
     FileBytes head = {(uint8_t *)room, 0, false};
-    if (!is_wanted || *len <= SMALL)
-        return 0;
     int fault = fill(file, &head, HEAD);
     if (fault == 0 && !is_wanted(head.at, head.len))
         *len = head.len;
     return fault == 0 && lseek(file, 0, SEEK_SET) != 0 ? errno : fault;
 }
 
-/* The bytes of an open file, of which there is at least one. A small one costs less to read than to map. */
-static int take(int file, bool maps, FileWanted *is_wanted, size_t len, FileBytes *bytes)
+static int read_bytes(int file, size_t len, FileBytes *bytes)
 {
-    maps = maps && len > SMALL;
-    int fault = maps ? 0 : look_at_head(file, is_wanted, &len);
-    if (fault != 0)
-        return fault;
-    if (maps) {
-        void *at = mmap(NULL, len, PROT_READ, MAP_PRIVATE, file, 0);
-        if (at != MAP_FAILED) {
-            *bytes = (FileBytes){at, len, true};
-            return 0;
-        }
-    }
-    /* Also where a file system can't map. */
     bytes->at = malloc(len);
     return bytes->at ? fill(file, bytes, len) : ENOMEM;
+}
+
+/* Read, too, where a file system can't map. */
+static int map_bytes(int file, size_t len, FileBytes *bytes)
+{
+    void *at = mmap(NULL, len, PROT_READ, MAP_PRIVATE, file, 0);
+    if (at == MAP_FAILED)
+        return read_bytes(file, len, bytes);
+    *bytes = (FileBytes){at, len, true};
+    return 0;
+}
+
+static int read_head_first(int file, FileWanted *is_wanted, size_t len, FileBytes *bytes)
+{
+    int fault = look_at_head(file, is_wanted, &len);
+    return fault != 0 ? fault : read_bytes(file, len, bytes);
 }
 
 /* A file that is opened to be read. */
@@ -116,49 +110,45 @@ static uint32_t try_open(void *it, int *fault)
     Opening *opening = it;
     opening->file = openat(opening->folder, opening->name, O_RDONLY | O_CLOEXEC | O_NONBLOCK | O_NOCTTY);
     *fault = opening->file < 0 ? errno : 0;
-    if (*fault == 0)
-        return DCONFDB_WAIT_GOT;
-    return fault_answer(DCONFDB_CALL_OPEN, *fault) == DCONFDB_ANSWER_LEASED ? DCONFDB_WAIT_TAKEN : DCONFDB_WAIT_FAILED;
-}
-
-static int fault_of_kind(const struct stat *found)
-{
-    if (S_ISREG(found->st_mode))
-        return 0;
-    return S_ISDIR(found->st_mode) ? EISDIR : EINVAL;
+    return DCONFDB_TRIED_FILE;
 }
 
 /* Opens a regular file. What has the name is looked at before: a state of later might be that of a newer file, which would never be
- * read; and a pipe or a device is not opened, since who writes into it would notice. What can't be looked at is like nothing else. */
+ * read; and a pipe or a device is not opened, since who writes into it would notice. */
 static int open_file(Opening *opening, FileState *state)
 {
     struct stat found;
-    int fault = 0;
+    uint32_t told;
+    int fault = fstatat(opening->folder, opening->name, &found, 0) != 0 ? errno : 0;
     *state = missing;
-    if (fstatat(opening->folder, opening->name, &found, 0) == 0) {
+    if (fault == 0)
         *state = file_state_of(&found);
-        fault = fault_of_kind(&found);
-    } else {
-        state->is_there = errno != ENOENT;
-    }
-    if (fault == 0 && try_open(opening, &fault) == DCONFDB_WAIT_TAKEN)
-        fault = try_for(LONGEST_LEASE, true, try_open, opening);
-    return fault;
+    else
+        state->is_there = file_fault(DCONFDB_TO_LOOK, fault) != 0;
+    DconfdbStood stood = file_stood(&found, fault);
+    if (dconfdb_standing(DCONFDB_TO_OPEN, &stood, &told) != DCONFDB_IS_GOOD)
+        return (int)told;
+    return try_for(DCONFDB_WAIT_FOR_LEASE, 0, try_open, opening);
 }
 
 /* The bytes and the state of an open file. */
 static int take_file(int file, bool maps, FileWanted *is_wanted, size_t most, FileBytes *bytes, FileState *state)
 {
     struct stat found;
-    if (fstat(file, &found) != 0)
-        return errno;
-    *state = file_state_of(&found);
-    int fault = fault_of_kind(&found);
-    if (fault != 0)
-        return fault;
-    if ((uintmax_t)found.st_size > most)
-        return EOVERFLOW;
-    return found.st_size > 0 ? take(file, maps, is_wanted, (size_t)found.st_size, bytes) : 0;
+    uint32_t told;
+    int fault = fstat(file, &found) != 0 ? errno : 0;
+    DconfdbStood stood = file_stood(&found, fault);
+    stood.most = most;
+    stood.may_map = maps;
+    stood.may_stop = is_wanted != NULL;
+    if (fault == 0)
+        *state = file_state_of(&found);
+    switch (dconfdb_standing(DCONFDB_TO_READ, &stood, &told)) {
+    case DCONFDB_IS_GOOD: return read_bytes(file, (size_t)stood.size, bytes);
+    case DCONFDB_IS_MAPPED: return map_bytes(file, (size_t)stood.size, bytes);
+    case DCONFDB_IS_HEAD: return read_head_first(file, is_wanted, (size_t)stood.size, bytes);
+    default: return (int)told; /* 0 if there are no bytes */
+    }
 }
 
 int file_read(int folder, const char *name, bool maps, FileWanted *is_wanted, size_t most, FileBytes *bytes, FileState *state)
@@ -166,12 +156,11 @@ int file_read(int folder, const char *name, bool maps, FileWanted *is_wanted, si
     Opening opening = {folder, -1, name};
     *bytes = (FileBytes){NULL, 0, false};
     int fault = open_file(&opening, state);
-    if (fault == ENOENT) {
-        state->is_there = false;
-        return 0;
+    if (opening.file < 0) {
+        int told = file_fault(DCONFDB_TO_LOOK, fault);
+        state->is_there = state->is_there && told != 0;
+        return told;
     }
-    if (fault != 0)
-        return fault;
     fault = take_file(opening.file, maps, is_wanted, most, bytes, state);
     close(opening.file);
     if (fault != 0)

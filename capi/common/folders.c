@@ -3,6 +3,7 @@
 #define _GNU_SOURCE
 #define _FILE_OFFSET_BITS 64
 #include "folders.h"
+#include "stood.h"
 
 #include <dirent.h>
 #include <errno.h>
@@ -20,7 +21,7 @@
 #define MOST_TRIES 100
 #endif
 
-enum { OWN = 0700, WRITE_OF_OTHERS = 022 };
+enum { OWN = 0700 };
 
 /* Only gone through, not read. */
 enum { ON_THE_WAY = O_PATH | O_NOFOLLOW | O_CLOEXEC, TO_READ = O_RDONLY | O_DIRECTORY | O_CLOEXEC };
@@ -97,13 +98,11 @@ static int make_unnamed(int above, char *name, size_t size)
 /* What has the name keeps it, but for an empty folder, if the file system has no such rename. */
 static int give_name(int above, const char *unnamed, const char *name)
 {
-    if (renameat2(above, unnamed, above, name, RENAME_NOREPLACE) == 0)
-        return 0;
-    if (errno != EINVAL && errno != ENOSYS)
-        return errno;
-    if (renameat(above, unnamed, above, name) == 0)
-        return 0;
-    return errno == ENOTEMPTY ? EEXIST : errno;
+    uint32_t told;
+    DconfdbStood stood = file_stood(NULL, renameat2(above, unnamed, above, name, RENAME_NOREPLACE) != 0 ? errno : 0);
+    if (dconfdb_standing(DCONFDB_TO_NAME, &stood, &told) != DCONFDB_IS_OTHER)
+        return (int)told;
+    return file_fault(DCONFDB_TO_REPLACE, renameat(above, unnamed, above, name) != 0 ? errno : 0);
 }
 
 /* Makes one of another's, which has its name only once it is his: who is killed before keeps nobody from it. */
@@ -130,10 +129,10 @@ static int make_one(int above, const char *name)
     struct stat found;
     if (fstat(above, &found) != 0)
         return errno;
-    int fault = is_root() && found.st_uid != 0 ? make_theirs(above, &found, name) : mkdirat(above, name, OWN) != 0 ? errno : 0;
-    if (fault != 0)
-        return fault == EEXIST ? 0 : fault;
-    return sync_folder(above);
+    uint32_t told;
+    DconfdbStood stood = file_stood(NULL, 0);
+    stood.fault = (uint32_t)(is_root() && found.st_uid != 0 ? make_theirs(above, &found, name) : mkdirat(above, name, OWN) != 0 ? errno : 0);
+    return dconfdb_standing(DCONFDB_TO_MAKE, &stood, &told) == DCONFDB_IS_GOOD ? sync_folder(above) : (int)told;
 }
 
 /* ---- a path */
@@ -146,25 +145,31 @@ typedef struct {
 
 static int walk(Way way, int from, char *path, int *end);
 
-/* Root follows a link only if nobody else can have put it there. */
-static bool may_follow(int folder)
+/* Whether a link of this folder is followed: 0, or the errno that is told. Root follows one only if nobody else can have put it there. */
+static int fault_of_link(int folder)
 {
     struct stat found;
-    return !is_root() || (fstat(folder, &found) == 0 && found.st_uid == 0 && (found.st_mode & WRITE_OF_OTHERS) == 0);
+    uint32_t told;
+    int fault = fstat(folder, &found) != 0 ? errno : 0;
+    DconfdbStood stood = file_stood(&found, fault);
+    stood.is_root = is_root();
+    dconfdb_standing(DCONFDB_TO_FOLLOW, &stood, &told);
+    return (int)told;
 }
 
 /* Where a link leads, nothing is made. */
 static int follow(Way way, int from, int link, int *to)
 {
-    if (!may_follow(from))
-        return EACCES;
+    int fault = fault_of_link(from);
+    if (fault != 0)
+        return fault;
     if (way.links == MOST_LINKS)
         return ELOOP;
     char *target = malloc(PATH_MAX);
     if (!target)
         return ENOMEM;
     ssize_t len = readlinkat(link, "", target, PATH_MAX - 1);
-    int fault = len < 0 ? errno : 0;
+    fault = len < 0 ? errno : 0;
     if (fault == 0) {
         target[len] = 0;
         fault = walk((Way){false, way.links + 1}, from, target, to);

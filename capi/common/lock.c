@@ -3,15 +3,16 @@
 #define _FILE_OFFSET_BITS 64
 #include "lock.h"
 #include "dconfdb_calls.h"
-#include "faults.h"
 #include "files.h"
 #include "folders.h"
 #include "held.h"
+#include "stood.h"
 #include "tries.h"
 
 #include <errno.h>
 #include <fcntl.h>
 #include <pthread.h>
+#include <stdio.h>
 #include <sys/file.h>
 #include <sys/stat.h>
 #include <unistd.h>
@@ -115,25 +116,60 @@ static void hand_over(int folder, int file)
         return;
     if (made.st_gid != above.st_gid && fchown(file, (uid_t)-1, above.st_gid) == 0)
         made.st_gid = above.st_gid;
-    mode_t bits = dconfdb_lock_bits(above.st_mode, made.st_gid == above.st_gid);
+    mode_t bits = dconfdb_file_bits(true, above.st_mode, made.st_gid == above.st_gid);
     if ((made.st_mode & PERMISSION_BITS) != bits)
         fchmod(file, bits);
 }
 
-static int open_old(int folder, int *file)
+/* What has the lock's name is opened, and what becomes of it. */
+static uint32_t open_old(int folder, int *file, int *fault)
 {
     struct stat found;
+    uint32_t told;
     *file = openat(folder, LOCK_NAME, HOW);
-    if (*file < 0)
-        return errno == ELOOP || errno == EISDIR || errno == ENXIO ? EINVAL : errno;
-    int fault = fstat(*file, &found) != 0 ? errno : S_ISREG(found.st_mode) ? 0 : EINVAL;
-    if (fault != 0)
+    *fault = *file < 0 || fstat(*file, &found) != 0 ? errno : 0;
+    DconfdbStood stood = file_stood(&found, *fault);
+    uint32_t is = dconfdb_standing(DCONFDB_TO_LOCK, &stood, &told);
+    *fault = (int)told;
+    if (is != DCONFDB_IS_GOOD && *file >= 0)
         close(*file);
+    return is;
+}
+
+/* A file gets the lock's name, if that is free. */
+static int name_lock(int folder, const char *other)
+{
+    uint32_t told;
+    DconfdbStood stood = file_stood(NULL, renameat2(folder, other, folder, LOCK_NAME, RENAME_NOREPLACE) != 0 ? errno : 0);
+    if (dconfdb_standing(DCONFDB_TO_NAME, &stood, &told) != DCONFDB_IS_OTHER)
+        return (int)told;
+    int fault = linkat(folder, other, folder, LOCK_NAME, 0) != 0 ? errno : 0;
+    unlinkat(folder, other, 0);
     return fault;
 }
 
-/* What root makes in another's folder has its name only once it is his: who is killed before keeps nobody from it. */
-static int make_theirs(int folder, int *file)
+/* Makes it with another name, where the file system knows no file without one. */
+static int make_renamed(int folder, int *file)
+{
+    char other[64];
+    int fault = EEXIST;
+    for (int n = 0; fault == EEXIST && n < MOST_TRIES; n++) {
+        snprintf(other, sizeof other, LOCK_NAME "-%ld-%d", (long)getpid(), n);
+        *file = openat(folder, other, HOW | O_CREAT | O_EXCL, READ_AND_WRITE);
+        fault = *file < 0 ? errno : 0;
+    }
+    if (fault != 0)
+        return fault;
+    hand_over(folder, *file);
+    fault = name_lock(folder, other);
+    if (fault == 0)
+        return 0;
+    unlinkat(folder, other, 0);
+    close(*file);
+    return fault;
+}
+
+static int make_unnamed(int folder, int *file)
 {
     *file = openat(folder, ".", HOW | O_TMPFILE, READ_AND_WRITE);
     if (*file < 0)
@@ -146,18 +182,17 @@ static int make_theirs(int folder, int *file)
     return fault;
 }
 
-static bool is_anothers(int folder)
+/* Whether it is another's, or others may take it, too. */
+static bool is_for_others(int folder)
 {
-    struct stat found;
-    return geteuid() == 0 && fstat(folder, &found) == 0 && found.st_uid != 0;
+    struct stat above;
+    if (fstat(folder, &above) != 0)
+        return false;
+    return (geteuid() == 0 && above.st_uid != 0) || dconfdb_file_bits(true, above.st_mode, true) != READ_AND_WRITE;
 }
 
-/* Only what is made here is handed over: another file may have a second name elsewhere. Some file systems know no file without a name. */
-static int make_new(int folder, int *file)
+static int make_own(int folder, int *file)
 {
-    int fault = is_anothers(folder) ? make_theirs(folder, file) : EOPNOTSUPP;
-    if (fault == 0 || fault == EEXIST)
-        return fault;
     *file = openat(folder, LOCK_NAME, HOW | O_CREAT | O_EXCL, READ_AND_WRITE);
     if (*file < 0)
         return errno;
@@ -165,13 +200,23 @@ static int make_new(int folder, int *file)
     return 0;
 }
 
+/* What others may take has its name only once they may: who is killed before keeps nobody from it. Only what is made here is handed over:
+ * another file may have a second name elsewhere. A file system that can do none of that has its own made at once. */
+static int make_new(int folder, int *file)
+{
+    static int (*const makes[])(int folder, int *file) = {make_unnamed, make_renamed, make_own};
+    int fault = EOPNOTSUPP;
+    for (size_t i = is_for_others(folder) ? 0 : 2; fault != 0 && fault != EEXIST && i < 3; i++)
+        fault = makes[i](folder, file);
+    return fault;
+}
+
 /* Others may make or remove it meanwhile. */
 static int open_file(int folder, int *file)
 {
     int fault = EEXIST;
     for (int i = 0; fault == EEXIST && i < MOST_TRIES; i++) {
-        fault = open_old(folder, file);
-        if (fault == ENOENT)
+        if (open_old(folder, file, &fault) == DCONFDB_IS_NOTHING)
             fault = make_new(folder, file);
     }
     return fault;
@@ -205,23 +250,21 @@ static bool is_same(const struct stat *one, const struct stat *other)
     return one->st_dev == other->st_dev && one->st_ino == other->st_ino;
 }
 
-/* Whether the names still stand for what was opened: either may be another's after the wait. `links`: how many names the lock's
- * file has. */
-static bool is_named(const char *folder, const FolderLock *lock, nlink_t *links)
+/* What is known of a lock that is held: its names, the folder's and its own, may be another's after the wait. */
+static DconfdbStood held(const char *folder, const FolderLock *lock)
 {
-    struct stat named, opened;
-    if (stat(folder, &named) != 0 || fstat(lock->folder, &opened) != 0 || !is_same(&named, &opened))
-        return false;
-    if (fstatat(lock->folder, LOCK_NAME, &named, AT_SYMLINK_NOFOLLOW) != 0 || fstat(lock->file, &opened) != 0)
-        return false;
-    *links = opened.st_nlink;
-    return is_same(&named, &opened);
+    struct stat named, opened, file = {0};
+    bool has_folder = stat(folder, &named) == 0 && fstat(lock->folder, &opened) == 0 && is_same(&named, &opened);
+    bool has_name = fstatat(lock->folder, LOCK_NAME, &named, AT_SYMLINK_NOFOLLOW) == 0 && fstat(lock->file, &file) == 0 && is_same(&named, &file);
+    DconfdbStood stood = file_stood(&file, 0);
+    stood.is_named = has_folder && has_name;
+    return stood;
 }
 
 /* A lock that is waited for. */
 typedef struct {
     const char *folder;
-    bool has_end, is_open, is_leased; /* `is_leased`: another program has a lease on the lock's file */
+    bool has_end, is_open;
     FolderLock *lock;
 } Awaited;
 
@@ -254,43 +297,41 @@ static void close_awaited(Awaited *awaited)
 
 /* A file with another name may be anybody's, and what is noted in it would be written there, too: it loses the lock's name, while it is
  * locked, so that nobody else has his turn by it. */
-static uint32_t take_name(Awaited *awaited, int *fault)
+static int take_name(const FolderLock *lock)
 {
-    *fault = unlinkat(awaited->lock->folder, LOCK_NAME, 0) != 0 && errno != ENOENT ? errno : 0;
-    close_awaited(awaited);
-    return *fault != 0 ? DCONFDB_WAIT_FAILED : DCONFDB_WAIT_MOVED;
+    return unlinkat(lock->folder, LOCK_NAME, 0) != 0 ? file_fault(DCONFDB_TO_LOOK, errno) : 0;
 }
 
 /* Opens it, if it isn't open, and locks it. */
 static uint32_t take(Awaited *awaited, int *fault)
 {
     *fault = awaited->is_open ? 0 : open_awaited(awaited);
-    awaited->is_leased = *fault != 0 && fault_answer(DCONFDB_CALL_OPEN, *fault) == DCONFDB_ANSWER_LEASED;
     if (*fault != 0)
-        return awaited->is_leased ? DCONFDB_WAIT_TAKEN : DCONFDB_WAIT_FAILED;
+        return DCONFDB_TRIED_LOCK_FILE;
     *fault = lock_it(awaited);
-    if (*fault == 0)
-        return DCONFDB_WAIT_GOT;
-    return fault_answer(DCONFDB_CALL_LOCK, *fault) == DCONFDB_ANSWER_TAKEN ? DCONFDB_WAIT_TAKEN : DCONFDB_WAIT_FAILED;
+    return DCONFDB_TRIED_LOCK;
 }
 
 static uint32_t try_once(Awaited *awaited, int *fault)
 {
-    nlink_t links = 0;
-    uint32_t answer = take(awaited, fault);
-    if (answer != DCONFDB_WAIT_GOT)
-        return answer;
-    if (is_named(awaited->folder, awaited->lock, &links))
-        return links > 1 ? take_name(awaited, fault) : DCONFDB_WAIT_GOT;
+    uint32_t told, tried = take(awaited, fault);
+    if (*fault != 0)
+        return tried;
+    DconfdbStood stood = held(awaited->folder, awaited->lock);
+    uint32_t is = dconfdb_standing(DCONFDB_TO_HOLD, &stood, &told);
+    if (is == DCONFDB_IS_GOOD)
+        return tried;
+    if (is == DCONFDB_IS_OTHER)
+        *fault = take_name(awaited->lock);
     close_awaited(awaited);
-    return DCONFDB_WAIT_MOVED;
+    return DCONFDB_TRIED_NAME;
 }
 
 /* What has moved is tried once more at once: in a wait of no time there is no other try. */
 static uint32_t try_it(void *it, int *fault)
 {
-    uint32_t answer = try_once(it, fault);
-    return answer == DCONFDB_WAIT_MOVED ? try_once(it, fault) : answer;
+    uint32_t tried = try_once(it, fault);
+    return tried == DCONFDB_TRIED_NAME && *fault == 0 ? try_once(it, fault) : tried;
 }
 
 int folder_lock(const char *folder, int milliseconds, FolderLock *lock)
@@ -299,12 +340,11 @@ int folder_lock(const char *folder, int milliseconds, FolderLock *lock)
     Awaited awaited = {.folder = folder, .has_end = milliseconds != WITHOUT_END, .lock = lock};
     int cancels = hold_cancellation();
     pthread_once(&once, heed_forks);
-    int fault = try_for((uint32_t)milliseconds, awaited.has_end, try_it, &awaited);
+    int fault = try_for(awaited.has_end ? DCONFDB_WAIT_FOR_LOCK : DCONFDB_WAIT_WITHOUT_END, (uint32_t)milliseconds, try_it, &awaited);
     if (fault != 0)
         close_awaited(&awaited);
     cancel_as_before(cancels);
-    /* Who has a lease on the file has no lock. */
-    return fault == EWOULDBLOCK && awaited.is_leased ? EBUSY : fault;
+    return fault;
 }
 
 void folder_unlock(FolderLock *lock)

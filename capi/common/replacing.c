@@ -2,7 +2,7 @@
 #define _GNU_SOURCE
 #define _FILE_OFFSET_BITS 64
 #include "replacing.h"
-#include "faults.h"
+#include "stood.h"
 
 #include <errno.h>
 #include <fcntl.h>
@@ -23,7 +23,7 @@ static int give(int file, const struct stat *made, const Replacing *it, mode_t *
     if (geteuid() == 0)
         return (made->st_uid != it->user || made->st_gid != it->group) && fchown(file, it->user, it->group) != 0 ? errno : 0;
     bool has_group = made->st_gid == it->group || fchown(file, (uid_t)-1, it->group) == 0;
-    *mode = dconfdb_bits_for(*mode, has_group);
+    *mode = dconfdb_file_bits(false, *mode, has_group);
     return 0;
 }
 
@@ -57,8 +57,8 @@ static int look_at_old(const Replacing *it, bool keeps, const FileState *read, D
     struct stat found;
     if (fstatat(it->folder, it->name, &found, keeps ? AT_SYMLINK_NOFOLLOW : 0) == 0)
         *old = old_file(&found, read);
-    else if (errno != ENOENT)
-        return errno;
+    else
+        return file_fault(DCONFDB_TO_LOOK, errno);
     return 0;
 }
 
@@ -114,10 +114,10 @@ static int to_other_name(int folder, const char *name, Moves *moves, char **asid
 static int make_room(int folder, const char *new_name)
 {
     char *aside;
-    if (unlinkat(folder, new_name, 0) == 0 || errno == ENOENT)
-        return 0;
-    if (errno != EISDIR)
-        return errno;
+    uint32_t told;
+    DconfdbStood stood = file_stood(NULL, unlinkat(folder, new_name, 0) != 0 ? errno : 0);
+    if (dconfdb_standing(DCONFDB_TO_MAKE_ROOM, &stood, &told) != DCONFDB_IS_OTHER)
+        return (int)told;
     int fault = to_other_name(folder, new_name, by_a_rename, &aside);
     free(aside);
     return fault;
@@ -170,7 +170,7 @@ int replacing_create(Replacing *it, size_t bits)
     int fault = make_room(it->folder, it->new_name);
     if (fault != 0)
         return fault;
-    mode_t at_first = dconfdb_bits_for((uint32_t)bits, it->first_group == it->group);
+    mode_t at_first = dconfdb_file_bits(false, (uint32_t)bits, it->first_group == it->group);
     it->file = openat(it->folder, it->new_name, O_WRONLY | O_CREAT | O_EXCL | O_CLOEXEC, at_first);
     return it->file < 0 ? errno : 0;
 }
@@ -202,7 +202,7 @@ int replacing_sync(Replacing *it, size_t bits, FileState *state)
 int replacing_set_aside(Replacing *it, size_t *cannot)
 {
     int fault = to_other_name(it->folder, it->name, by_a_link, &it->aside);
-    uint32_t answer = fault_answer(DCONFDB_CALL_SET_ASIDE, fault);
+    uint32_t answer = dconfdb_fault_answer(DCONFDB_CALL_SET_ASIDE, (uint32_t)fault);
     it->is_aside = fault == 0;
     *cannot = fault != 0 && answer == DCONFDB_ANSWER_NAMELESS;
     return *cannot || answer == DCONFDB_ANSWER_NOTHING ? 0 : fault;
@@ -219,20 +219,14 @@ static void is_placed(const Replacing *it, FileState *state)
         *state = placed;
 }
 
-/* A file system that knows neither of both answers as to a name that can't be one. */
-static int fault_of_exchange(void)
-{
-    return errno == EINVAL ? EOPNOTSUPP : errno;
-}
-
 /* The new file's other name goes, unless what it is by now may be the old one. */
 int replacing_exchange(Replacing *it, FileState *state)
 {
     if (renameat2(it->folder, it->new_name, it->folder, it->aside, RENAME_NOREPLACE) != 0)
-        return fault_of_exchange();
+        return file_fault(DCONFDB_TO_EXCHANGE, errno);
     if (renameat2(it->folder, it->aside, it->folder, it->name, RENAME_EXCHANGE) != 0) {
-        int fault = fault_of_exchange();
-        if (fault_answer(DCONFDB_CALL_PLACE, fault) != DCONFDB_ANSWER_UNSURE)
+        int fault = file_fault(DCONFDB_TO_EXCHANGE, errno);
+        if (dconfdb_fault_answer(DCONFDB_CALL_PLACE, (uint32_t)fault) != DCONFDB_ANSWER_UNSURE)
             unlinkat(it->folder, it->aside, 0);
         return fault;
     }
@@ -256,7 +250,7 @@ int replacing_sync_folder(const Replacing *it)
 
 int replacing_remove(const Replacing *it)
 {
-    return unlinkat(it->folder, it->new_name, 0) != 0 && errno != ENOENT ? errno : 0;
+    return unlinkat(it->folder, it->new_name, 0) != 0 ? file_fault(DCONFDB_TO_LOOK, errno) : 0;
 }
 
 /* A file is opened only to be synced: nobody waits for a pipe's writer. */
@@ -264,7 +258,7 @@ static int settle_at(int folder, const char *name)
 {
     int fault = 0, file = openat(folder, name, O_RDONLY | O_NONBLOCK | O_NOCTTY | O_CLOEXEC);
     if (file < 0)
-        return errno == ENOENT ? 0 : errno;
+        return file_fault(DCONFDB_TO_LOOK, errno);
     if (fsync(file) != 0)
         fault = errno;
     close(file);
@@ -283,7 +277,7 @@ int folder_settle(const char *folder, const char *name)
 {
     int at = open(folder, O_RDONLY | O_DIRECTORY | O_CLOEXEC);
     if (at < 0)
-        return errno == ENOENT ? 0 : errno;
+        return file_fault(DCONFDB_TO_LOOK, errno);
     int fault = name ? settle_at(at, name) : 0;
     if (fault == 0 && fsync(at) != 0)
         fault = errno;

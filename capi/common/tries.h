@@ -2,14 +2,13 @@
 #ifndef TRIES_H
 #define TRIES_H
 
-#include <stdbool.h>
 #include <stdint.h>
 
-/* A try: what became of it, as dconfdb_wait_answered has it, and 0 or the errno of what failed. */
+/* A try: which call was the last, as dconfdb_wait_answered has it, and 0 or the errno of what failed. */
 typedef uint32_t Tries(void *it, int *fault);
 
-/* Tries at once, and then for so many milliseconds, of which none count if the wait has no end; the last try begins after them. A time in
- * which the machine stood still counts as 50 of them. Gives 0, EWOULDBLOCK if others had it all the time, or what a try failed with. */
-int try_for(uint32_t milliseconds, bool has_end, Tries *tries, void *it);
+/* Waits for that, as dconfdb_wait_begin has it, and tries at once, too. A time in which the machine stood still counts as 50 milliseconds. Gives 0,
+ * or the errno of what failed: of a lock that others had all the time EWOULDBLOCK, and EBUSY where they had a lease on its file. */
+int try_for(uint32_t what, uint32_t milliseconds, Tries *tries, void *it);
 
 #endif

@@ -9,6 +9,7 @@ void dconfdb_turn_answered(void *turn, uint32_t fault, size_t n, void *step);
 void dconfdb_refresh_begin(void *refresh, size_t count, bool has_old, bool in_turn, bool is_lenient, void *step);
 uint32_t dconfdb_same_file(const void *old, const void *now, uint64_t opened, bool is_held);
 uint32_t dconfdb_owner_and_bits(const void *old, const void *above, bool is_root, bool keeps, void *given);
+uint32_t dconfdb_standing(uint32_t purpose, const void *stood, uint32_t *fault);
 void dconfdb_refresh_answered(void *refresh, bool yes, void *step);
 size_t dconfdb_with_left(const uint8_t *left, size_t left_len, const uint8_t *name, size_t name_len, const void *file, bool is_synced, size_t most,
                          uint8_t *room, size_t room_len);
@@ -174,6 +175,50 @@ static void finds_owner(void)
     printf("TAKES(DconfdbOldFile, %d);\n", OLD_SIZE);
 }
 
+/* ---- a file of root's, of 65,537 bytes, with one name, that is read, is a lock, or has links in it */
+
+enum { STOOD_FAULT = 0, STOOD_MODE = 4, STOOD_USER = 8, STOOD_LINKS = 16, STOOD_LEN = 24, STOOD_MOST = 32, STOOD_MAY_MAP = 40, STOOD_MAY_STOP = 41,
+       STOOD_IS_NAMED = 42, STOOD_IS_ROOT = 43, STOOD = 48 };
+enum { TO_READ = 2, TO_HOLD = 4, TO_FOLLOW = 5 };
+
+/* What becomes of it if it is of that user, and this field is another number. */
+static uint32_t stands(uint32_t purpose, uint32_t user, size_t at, size_t width, uint64_t number)
+{
+    static const uint32_t mode = 0100600;
+    static const uint64_t links = 1, len = 65537;
+    _Alignas(16) uint8_t stood[STOOD] = {[STOOD_IS_NAMED] = 1, [STOOD_IS_ROOT] = 1};
+    uint32_t fault;
+    memcpy(stood + STOOD_MODE, &mode, NUMBER);
+    memcpy(stood + STOOD_USER, &user, NUMBER);
+    memcpy(stood + STOOD_LINKS, &links, WORD);
+    memcpy(stood + STOOD_LEN, &len, WORD);
+    memcpy(stood + STOOD_MOST, &len, WORD);
+    memcpy(stood + at, &number, width);
+    return dconfdb_standing(purpose, stood, &fault);
+}
+
+static void finds_stood(void)
+{
+    is_so(stands(TO_READ, 7, STOOD_FAULT, NUMBER, 0) == 0 && stands(TO_READ, 7, STOOD_FAULT, NUMBER, FAULT) == 5, "DconfdbStood");
+    is_so(stands(TO_READ, 7, STOOD_MODE, NUMBER, 040600) == 5 && stands(TO_READ, 7, STOOD_LEN, WORD, 0) == 1, "DconfdbStood");
+    is_so(stands(TO_READ, 7, STOOD_MOST, WORD, 65536) == 5 && stands(TO_READ, 7, STOOD_MAY_MAP, FLAG, 1) == 2, "DconfdbStood");
+    is_so(stands(TO_READ, 7, STOOD_MAY_STOP, FLAG, 1) == 3 && stands(TO_HOLD, 7, STOOD_FAULT, NUMBER, 0) == 0, "DconfdbStood");
+    is_so(stands(TO_HOLD, 7, STOOD_LINKS, WORD, 2) == 4 && stands(TO_HOLD, 7, STOOD_IS_NAMED, FLAG, 0) == 1, "DconfdbStood");
+    is_so(stands(TO_FOLLOW, 7, STOOD_FAULT, NUMBER, 0) == 5 && stands(TO_FOLLOW, 7, STOOD_IS_ROOT, FLAG, 0) == 0, "DconfdbStood");
+    is_so(stands(TO_FOLLOW, 0, STOOD_FAULT, NUMBER, 0) == 0, "DconfdbStood");
+    lies("DconfdbStood", "fault", STOOD_FAULT, NUMBER);
+    lies("DconfdbStood", "mode", STOOD_MODE, NUMBER);
+    lies("DconfdbStood", "user", STOOD_USER, NUMBER);
+    lies("DconfdbStood", "links", STOOD_LINKS, WORD);
+    lies("DconfdbStood", "size", STOOD_LEN, WORD);
+    lies("DconfdbStood", "most", STOOD_MOST, WORD);
+    lies("DconfdbStood", "may_map", STOOD_MAY_MAP, FLAG);
+    lies("DconfdbStood", "may_stop", STOOD_MAY_STOP, FLAG);
+    lies("DconfdbStood", "is_named", STOOD_IS_NAMED, FLAG);
+    lies("DconfdbStood", "is_root", STOOD_IS_ROOT, FLAG);
+    printf("TAKES(DconfdbStood, %d);\n", STOOD);
+}
+
 void finds_turns(void)
 {
     finds_turn();
@@ -182,4 +227,5 @@ void finds_turns(void)
     tries_stamp();
     tries_left();
     finds_owner();
+    finds_stood();
 }

@@ -12,22 +12,28 @@ uint32_t dconfdb_sync_after(uint32_t task, bool yes, const void *known);
 void dconfdb_patience_renew(void *patience, uint64_t now);
 void dconfdb_queue_begin(void *queue, const void *edits, size_t count, void *step);
 void dconfdb_queue_answered(void *queue, void *edits, size_t count, uint32_t answer, size_t at, void *step);
-void dconfdb_wait_begin(void *wait, uint32_t longest, void *step);
-void dconfdb_wait_answered(void *wait, uint32_t answer, uint64_t passed, uint32_t fault, void *step);
+void dconfdb_wait_begin(void *wait, uint32_t what, uint32_t longest, uint64_t now, void *step);
+void dconfdb_wait_answered(void *wait, uint32_t tried, uint32_t fault, uint64_t at, void *step);
 void dconfdb_notice_begin(void *notice);
 void dconfdb_notice_heard(void *notice, uint32_t event, uint64_t now);
 uint64_t dconfdb_notice_answered(void *notice, bool yes, uint64_t now);
 void dconfdb_watched_name(uint32_t found, bool is_last, bool is_busy_above, bool is_busy, uint32_t role, void *name);
 
+/* The first has an end, the second hasn't. */
 static void finds_wait(void)
 {
-    Written wait = room_of("DconfdbWait"), step = room_of("DconfdbNext");
-    dconfdb_wait_begin(wait.bytes, 10, step.bytes);
-    dconfdb_wait_answered(wait.bytes, 3, 0, 28, step.bytes);
+    Written wait = room_of("DconfdbWait"), endless = wait, step = room_of("DconfdbNext");
+    dconfdb_wait_begin(wait.bytes, 0, 10, 70, step.bytes);
+    dconfdb_wait_answered(wait.bytes, 3, 28, 80, step.bytes);
+    dconfdb_wait_begin(endless.bytes, 1, 10, 70, step.bytes);
     finds_number(&wait, "stage", 4);
     finds_number(&wait, "fault", 28);
     finds_word(&wait, "longest", 10);
     finds_word(&wait, "tries", 50);
+    finds_word(&wait, "began", 70);
+    finds_word(&wait, "paused", 0);
+    finds_number(&wait, "tried", 3);
+    takes(&wait, "is_timed", bit_of(&wait, &endless, wait.end, wait.end + 1, 1, 0), FLAG);
     ends(&wait);
 }
 

@@ -31,7 +31,7 @@ bool refuse_lock(const DconfdbStore *store, int fault, DconfdbError *error)
 {
     const char *name = user_file_or_folder(store);
     int wait = store->options.longest_wait;
-    if (fault != EWOULDBLOCK)
+    if (dconfdb_error_code(true, (uint32_t)fault) != DCONFDB_ERROR_BUSY)
         return refuse_lock_file(store, fault, error);
     if (wait == DCONFDB_USUAL_WAIT)
         return refuse(error, DCONFDB_ERROR_BUSY, 0, nowhere, "%s: others have been changing it for ten seconds", name);

@@ -1,8 +1,8 @@
 /* Errors: their fields, texts and names; and the library's version. */
 #define _GNU_SOURCE
 #include "errors.h"
+#include "errnos.h"
 
-#include <errno.h>
 #include <stdarg.h>
 #include <stdio.h>
 #include <string.h>
@@ -70,11 +70,12 @@ static Words words_of(int fault)
 
 bool refuse_file(DconfdbError *error, int fault, const char *name, Place place)
 {
-    if (fault == ENOMEM)
-        return refuse(error, DCONFDB_ERROR_MEMORY, 0, nowhere, "%s: no memory is left", name);
-    if (fault == EOVERFLOW)
-        return refuse(error, DCONFDB_ERROR_FILE_TOO_LARGE, 0, place, "%s: the file is too big", name);
-    return refuse(error, DCONFDB_ERROR_FILE, fault, place, "%s: %s", name, words_of(fault).text);
+    DconfdbErrorCode code = (DconfdbErrorCode)dconfdb_error_code(false, (uint32_t)fault);
+    if (code == DCONFDB_ERROR_MEMORY)
+        return refuse(error, code, 0, nowhere, "%s: no memory is left", name);
+    if (code == DCONFDB_ERROR_FILE_TOO_LARGE)
+        return refuse(error, code, 0, place, "%s: the file is too big", name);
+    return refuse(error, code, fault, place, "%s: %s", name, words_of(fault).text);
 }
 
 bool refuse_outcome(DconfdbError *error, uint32_t outcome, const char *name)

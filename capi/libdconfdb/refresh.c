@@ -4,7 +4,6 @@
 #define _FILE_OFFSET_BITS 64
 #include "store.h"
 #include "errors.h"
-#include "faults.h"
 #include "held.h"
 #include "locked.h"
 #include "texts.h"
@@ -154,7 +153,7 @@ static void read_step(Look *look, DconfdbRefresh *refresh, DconfdbNext *step, Dc
     Asked asked = asked_of(look, at);
     int fault = read_at(look, &asked);
     look->fault.code = DCONFDB_ERROR_NONE;
-    dconfdb_refresh_answered(refresh, fault == 0 || dconfdb_refresh_is_had(refresh, fault_kind(fault)), step);
+    dconfdb_refresh_answered(refresh, fault == 0 || dconfdb_refresh_is_had(refresh, (uint32_t)fault), step);
     if (fault != 0)
         refuse_file(step->kind == DCONFDB_LOOK_FAILED ? error : &look->fault, fault, asked.name, (Place){.database = at});
 }

@@ -1,6 +1,7 @@
 /* What root makes in a folder of another's, who puts other things in its place meanwhile: roots FOLDER. It is linked with --wrap of mkdir,
- * mkdirat and fstatat64. Whatever is done, nothing of root's is given away, and nothing is made where the other one's links lead. As
- * another user than root there is nothing to try. */
+ * mkdirat, fstatat64, openat64, renameat2 and fchown. Whatever is done, nothing of root's is given away, and nothing is made where the other
+ * one's links lead; and where root is killed while it makes a lock, the other one can lock still. As another user than root there is nothing to
+ * try. */
 #define _GNU_SOURCE
 #define _FILE_OFFSET_BITS 64
 #include "try.h"
@@ -8,6 +9,8 @@
 #include <errno.h>
 #include <fcntl.h>
 #include <limits.h>
+#include <signal.h>
+#include <stdarg.h>
 #include <sys/inotify.h>
 #include <sys/stat.h>
 #include <sys/wait.h>
@@ -60,6 +63,47 @@ int __wrap_fstatat64(int folder, const char *path, struct stat *found, int flags
     if (before_look && strcmp(path, "user.user") == 0 && --looks == 0)
         acts(&before_look);
     return __real_fstatat64(folder, path, found, flags);
+}
+
+/* How a lock can be made here: without a name, with another one that is exchanged, or with another one that is linked. */
+enum { BY_NO_NAME, BY_A_RENAME, BY_A_LINK, WAYS };
+static int way;
+static bool kills; /* who gives a file to another */
+
+int __real_openat64(int folder, const char *path, int flags, ...);
+int __wrap_openat64(int folder, const char *path, int flags, ...);
+int __real_renameat2(int folder, const char *name, int other_folder, const char *other, unsigned flags);
+int __wrap_renameat2(int folder, const char *name, int other_folder, const char *other, unsigned flags);
+int __real_fchown(int file, uid_t user, gid_t group);
+int __wrap_fchown(int file, uid_t user, gid_t group);
+
+int __wrap_openat64(int folder, const char *path, int flags, ...)
+{
+    va_list words;
+    va_start(words, flags);
+    mode_t mode = (flags & O_CREAT) != 0 || (flags & O_TMPFILE) == O_TMPFILE ? va_arg(words, mode_t) : 0;
+    va_end(words);
+    if (way != BY_NO_NAME && (flags & O_TMPFILE) == O_TMPFILE) {
+        errno = EOPNOTSUPP;
+        return -1;
+    }
+    return __real_openat64(folder, path, flags, mode);
+}
+
+int __wrap_renameat2(int folder, const char *name, int other_folder, const char *other, unsigned flags)
+{
+    if (way == BY_A_LINK) {
+        errno = EINVAL;
+        return -1;
+    }
+    return __real_renameat2(folder, name, other_folder, other, flags);
+}
+
+int __wrap_fchown(int file, uid_t user, gid_t group)
+{
+    if (kills)
+        raise(SIGKILL);
+    return __real_fchown(file, user, group);
 }
 
 /* ---- what is there at first: u/.config is the other one's, and elsewhere/dconfdb is root's */
@@ -169,6 +213,47 @@ static void tries_others(void)
     TRY(is_of("u/elsewhere/more/user.user", NOBODY) && is_of("u/new/folders/user.user", NOBODY));
 }
 
+/* ---- a lock that root makes is the other one's as soon as it has its name */
+
+static int runs_as(void (*what)(void))
+{
+    int status;
+    pid_t child = fork();
+    TRY(child >= 0);
+    if (child == 0) {
+        what();
+        _exit(0);
+    }
+    TRY(waitpid(child, &status, 0) == child);
+    return status;
+}
+
+static void is_killed(void)
+{
+    kills = true;
+    (void)sets("u/.config/dconfdb");
+}
+
+static void sets_as_other(void)
+{
+    TRY(setgid(NOBODY) == 0 && setuid(NOBODY) == 0 && sets("u/.config/dconfdb"));
+}
+
+static void tries_killed(void)
+{
+    for (way = BY_NO_NAME; way < WAYS; way++) {
+        begins();
+        runs("mkdir u/.config/dconfdb && chown 65534:65534 u/.config/dconfdb");
+        int status = runs_as(is_killed);
+        TRY(WIFSIGNALED(status) && WTERMSIG(status) == SIGKILL && access("u/.config/dconfdb/.lock", F_OK) != 0);
+        TRY(runs_as(sets_as_other) == 0 && is_of("u/.config/dconfdb/.lock", NOBODY));
+        begins();
+        TRY(sets("u/.config/dconfdb") && is_of("u/.config/dconfdb/.lock", NOBODY));
+        runs("test \"$(ls -A u/.config/dconfdb | tr '\\n' ' ')\" = '.lock user.user '");
+    }
+    way = BY_NO_NAME;
+}
+
 /* ---- the user's file is a link to one of root's when it is read, and his own when it is asked whose it is */
 
 static void puts_own(void)
@@ -239,6 +324,7 @@ int main(int argc, char **argv)
     tries_another();
     tries_links();
     tries_others();
+    tries_killed();
     tries_file(false);
     tries_file(true);
     is_lenient = false;

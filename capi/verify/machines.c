@@ -74,20 +74,21 @@ void dconfdb_ending(uint32_t outcome, uint32_t fault, bool is_unsettled, Dconfdb
 
 /* ---- what a fault is, and permission bits */
 
-uint32_t dconfdb_fault_answer(uint32_t call, uint32_t kind)
+uint32_t dconfdb_fault_answer(uint32_t call, uint32_t fault)
 {
-    CHECK(call < CALLS && kind < FAULT_KINDS, "answer: a kind of fault, of a call that has others");
-    return fault_answers[call][kind];
+    CHECK(call < CALLS && fault < FAULTS, "answer: an errno, of a call to which it may be something else");
+    return fault_answers[call][fault];
 }
 
-uint32_t dconfdb_bits_for(uint32_t bits, bool has_group)
+uint32_t dconfdb_standing(uint32_t purpose, const DconfdbStood *stood, uint32_t *fault)
 {
-    return bits_given(bits, has_group);
+    CHECK(purpose <= DCONFDB_TO_REPLACE && __CPROVER_r_ok(stood, sizeof *stood), "answer: a purpose");
+    return standing_given(purpose, stood, fault);
 }
 
-uint32_t dconfdb_lock_bits(uint32_t folder, bool has_group)
+uint32_t dconfdb_file_bits(bool of_lock, uint32_t bits, bool has_group)
 {
-    return lock_bits_given(folder, has_group);
+    return of_lock ? lock_bits_given(bits, has_group) : bits_given(bits, has_group);
 }
 
 /* ---- a look */
@@ -111,9 +112,10 @@ void dconfdb_refresh_answered(DconfdbRefresh *refresh, bool yes, DconfdbNext *st
 }
 
 /* States that nobody can tell apart are one, so it is had if what comes then comes of a yes. */
-bool dconfdb_refresh_is_had(const DconfdbRefresh *refresh, uint32_t kind)
+bool dconfdb_refresh_is_had(const DconfdbRefresh *refresh, uint32_t fault)
 {
+    bool is_own = fault_answers[DCONFDB_CALL_OPEN][fault] == DCONFDB_ANSWER_OWN;
     CHECK(refresh_states[refresh->stage].step.kind == DCONFDB_LOOK_READ, "order: a fault is one of the reading");
-    CHECK(kind < FAULT_KINDS, "answer: a kind of fault");
-    return refresh_states[refresh->stage].after[REFRESH_REFUSED + kind] == refresh_states[refresh->stage].after[true];
+    CHECK(fault < FAULTS, "answer: an errno");
+    return refresh_states[refresh->stage].after[is_own ? REFRESH_OWN_FAULT : REFRESH_OTHER_FAULT] == refresh_states[refresh->stage].after[true];
 }

@@ -55,42 +55,68 @@ void dconfdb_queue_answered(DconfdbQueue *queue, DconfdbQueued *edits, size_t co
 
 /* ---- a wait */
 
-/* What it stopped with is the fault. */
+enum { MILLISECONDS = 1000000, LONGEST_PAUSE = 50000000 };
+
+/* What it stopped with is the fault; who had a lease on the lock's file has no lock. */
 static void wait_tells(const DconfdbWait *wait, DconfdbNext *step)
 {
     uint32_t kind = wait_states[wait->stage].step.kind;
     *step = (DconfdbNext){kind, kind == DCONFDB_WAIT_STOPPED ? wait->fault : wait_states[wait->stage].step.number};
+    if (kind == DCONFDB_WAIT_BUSY && wait->tried == DCONFDB_TRIED_LOCK_FILE)
+        step->number = 16;
     if (at_next)
         at_next(step);
 }
 
-void dconfdb_wait_begin(DconfdbWait *wait, uint32_t longest, DconfdbNext *step)
+void dconfdb_wait_begin(DconfdbWait *wait, uint32_t what, uint32_t longest, uint64_t now, DconfdbNext *step)
 {
     uint32_t at = 0;
+    CHECK(what <= DCONFDB_WAIT_FOR_LEASE, "answer: what is waited for");
+    longest = what == DCONFDB_WAIT_FOR_LOCK ? longest : UINT32_MAX;
     while (at < WAIT_BEGINNINGS && wait_longest[at] != longest)
         at++;
-    GIVEN(at < WAIT_BEGINNINGS);
-    *wait = (DconfdbWait){.stage = wait_first[at]};
+    GIVEN(at < WAIT_BEGINNINGS && what != DCONFDB_WAIT_FOR_LEASE);
+    *wait = (DconfdbWait){.stage = wait_first[at], .began = now, .is_timed = what != DCONFDB_WAIT_WITHOUT_END};
     wait_tells(wait, step);
 }
 
-static unsigned wait_answer(uint32_t answer, uint64_t passed)
+static uint64_t less(uint64_t one, uint64_t other)
+{
+    return one > other ? one - other : 0;
+}
+
+/* The place of a time that passed. */
+static unsigned time_of_wait(DconfdbWait *wait, uint64_t moment)
 {
     unsigned at = 0;
-    if (answer == DCONFDB_WAIT_GOT || answer == DCONFDB_WAIT_FAILED)
-        return answer == DCONFDB_WAIT_GOT ? WAIT_GOT : WAIT_FAILED;
+    if (wait->paused != 0)
+        wait->began += less(less(moment, wait->paused), LONGEST_PAUSE);
+    wait->paused = wait_states[wait->stage].step.kind == DCONFDB_WAIT_PAUSE ? moment : 0;
+    uint64_t passed = wait->is_timed ? less(moment, wait->began) / MILLISECONDS : 0;
     while (at < WAIT_TIMES && wait_passed[at] != passed)
         at++;
     GIVEN(at < WAIT_TIMES);
-    return at + (answer == DCONFDB_WAIT_MOVED ? WAIT_MOVED : WAIT_TAKEN);
+    return at;
 }
 
-void dconfdb_wait_answered(DconfdbWait *wait, uint32_t answer, uint64_t passed, uint32_t fault, DconfdbNext *step)
+static unsigned wait_answer(uint32_t tried, uint32_t fault, unsigned at)
 {
-    CHECK(answer <= DCONFDB_WAIT_FAILED, "answer: one to a try");
+    if (fault == 0)
+        return tried == DCONFDB_TRIED_NAME ? at + WAIT_MOVED : WAIT_GOT;
+    if (tried == DCONFDB_TRIED_NAME)
+        return WAIT_FAILED;
+    uint32_t answer = fault_answers[tried == DCONFDB_TRIED_LOCK ? DCONFDB_CALL_LOCK : DCONFDB_CALL_OPEN][fault];
+    return answer == DCONFDB_ANSWER_LEASED || answer == DCONFDB_ANSWER_TAKEN ? at + WAIT_TAKEN : WAIT_FAILED;
+}
+
+void dconfdb_wait_answered(DconfdbWait *wait, uint32_t tried, uint32_t fault, uint64_t at, DconfdbNext *step)
+{
+    CHECK(tried <= DCONFDB_TRIED_LOCK_FILE && fault < FAULTS, "answer: one to a try");
     if (at_next_answer)
-        at_next_answer(answer, fault);
-    wait->stage = within(wait_states[wait->stage].after[wait_answer(answer, passed)]);
+        at_next_answer(tried, fault);
+    unsigned time = time_of_wait(wait, at);
+    wait->stage = within(wait_states[wait->stage].after[wait_answer(tried, fault, time)]);
     wait->fault = fault;
+    wait->tried = tried;
     wait_tells(wait, step);
 }

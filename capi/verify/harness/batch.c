@@ -19,7 +19,7 @@ static Turn turn;
 static unsigned had, writes, asks, answers;
 static bool is_left, may_be;
 static DconfdbError written;
-static bool is_written, is_closed;
+static bool is_written;
 
 /* ---- GLib's memory ends the program where there is none */
 
@@ -153,22 +153,15 @@ bool locked_change(DconfdbStore *at, const FolderLock *by, const DconfdbEdit *as
     return is_written || fails(error);
 }
 
-/* ---- proved calls: any class and verdict */
-
-uint32_t dconfdb_fault_class(uint32_t kind, bool changes)
-{
-    CHECK(kind <= DCONFDB_KIND_OTHER && changes, "answer: a kind of fault, of a change");
-    is_closed = any_bool();
-    return is_closed ? DCONFDB_CLASS_OWN : DCONFDB_CLASS_OWN + 1;
-}
+/* ---- a proved call: any verdict */
 
 static uint32_t verdict_given;
 
-uint32_t dconfdb_verdict(uint32_t fault, uint32_t kind)
+uint32_t dconfdb_verdict(uint32_t code, uint32_t fault)
 {
-    CHECK(fault == fault_of_change(&written) && kind == fault_kind(written.errnum), "answer: the verdict is of that fault");
+    CHECK(code == (uint32_t)written.code && fault == (uint32_t)written.errnum, "answer: the verdict is of that fault");
     verdict_given = any_u32();
-    GIVEN(verdict_given > DCONFDB_QUEUE_YES && verdict_given <= DCONFDB_QUEUE_LATER);
+    GIVEN(verdict_given > DCONFDB_QUEUE_YES && verdict_given <= DCONFDB_QUEUE_SOON);
     return verdict_given;
 }
 
@@ -216,7 +209,7 @@ int batch_write_taken(void)
     CHECK(is_written || at == (written.edit < was_taken ? numbers[written.edit] : batch.count), "answer: the edit that is at fault");
     bool is_first = !is_written && !any_refused();
     CHECK(is_first ? refusal.code == written.code && refusal.edit == written.edit : refusal.code == DCONFDB_ERROR_NONE && refusal.edit == 77, "answer: the first fault by which one is refused is kept");
-    CHECK(batch.is_closed == (is_written ? was_closed : written.code == DCONFDB_ERROR_FILE && is_closed), "answer: whether nobody may write there");
+    CHECK(batch.is_closed == (is_written ? was_closed : verdict_given == DCONFDB_QUEUE_CLOSED), "answer: whether nobody may write there");
     if (!is_written && was_taken == 1 && written.edit == 0 && numbers[0] == 1)
         REACHED("the second edit is at fault");
     return 0;

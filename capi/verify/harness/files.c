@@ -4,15 +4,15 @@
 #include "world.h"
 
 /* What files.c asks of tries.c, which is not gone through: a try, or two. */
-int try_for(uint32_t milliseconds, bool has_end, Tries *tries, void *it)
+int try_for(uint32_t what, uint32_t milliseconds, Tries *tries, void *it)
 {
     (void)milliseconds;
-    CHECK(has_end, "step: a lease is waited for with an end");
+    CHECK(what == DCONFDB_WAIT_FOR_LEASE, "step: a lease is waited for, with an end");
     int fault = 0;
-    uint32_t answer = tries(it, &fault);
-    if (answer == DCONFDB_WAIT_TAKEN)
-        answer = tries(it, &fault);
-    return answer == DCONFDB_WAIT_TAKEN ? EWOULDBLOCK : fault;
+    CHECK(tries(it, &fault) == DCONFDB_TRIED_FILE, "answer: the file was opened");
+    if (fault == EWOULDBLOCK)
+        CHECK(tries(it, &fault) == DCONFDB_TRIED_FILE, "answer: the file was opened");
+    return fault;
 }
 
 static bool is_wanted(const uint8_t *head, size_t len)

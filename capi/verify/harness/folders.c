@@ -49,7 +49,7 @@ static int make_theirs(int above, const struct stat *found, const char *name)
 
 /* ---- what is checked */
 
-/* harness folder_open: unwind 5, quick */
+/* harness folder_open: unwind 5, with machines.c, quick */
 int folder_open_(void)
 {
     int opened = -1;
@@ -69,7 +69,7 @@ int folder_open_(void)
     return 0;
 }
 
-/* harness folder_make: unwind 5, quick */
+/* harness folder_make: unwind 5, with machines.c, quick */
 int folder_make_(void)
 {
     int fault = folder_make("/a/b");
@@ -80,7 +80,7 @@ int folder_make_(void)
     return 0;
 }
 
-/* harness folder_walk: unwind 6, quick */
+/* harness folder_walk: unwind 6, with machines.c, quick */
 int folder_walk(void)
 {
     Way way = {any_bool(), 0};
@@ -99,7 +99,7 @@ int folder_walk(void)
     return 0;
 }
 
-/* harness folder_follow: unwind 4, quick */
+/* harness folder_follow: unwind 4, with machines.c, quick */
 int folder_follow(void)
 {
     Way way = {any_bool(), any_int()};
@@ -116,7 +116,7 @@ int folder_follow(void)
     return 0;
 }
 
-/* harness folder_make_one: unwind 4, quick */
+/* harness folder_make_one: unwind 4, with machines.c, quick */
 int folder_make_one(void)
 {
     int above = some_file();
@@ -130,7 +130,7 @@ int folder_make_one(void)
     return 0;
 }
 
-/* harness folder_theirs: unwind 5, quick */
+/* harness folder_theirs: unwind 5, with machines.c, quick */
 int folder_theirs(void)
 {
     struct stat found;

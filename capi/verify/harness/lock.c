@@ -58,19 +58,18 @@ int folder_make(const char *name)
 #endif
 
 /* As tries.c says, which is not gone through: until it is had, a try fails, or the time is over; here after one or two tries at most. */
-int try_for(uint32_t milliseconds, bool has_end, Tries *tries, void *it)
+int try_for(uint32_t what, uint32_t milliseconds, Tries *tries, void *it)
 {
     (void)milliseconds;
+    CHECK(what == DCONFDB_WAIT_FOR_LOCK || what == DCONFDB_WAIT_WITHOUT_END, "step: it is waited for a lock");
     for (int i = 0; i < MOST_WAITED; i++) {
         int fault = 0;
-        uint32_t answer = tries(it, &fault);
-        if (answer == DCONFDB_WAIT_GOT)
+        uint32_t tried = tries(it, &fault);
+        if (fault == 0 && tried != DCONFDB_TRIED_NAME)
             return 0;
-        if (answer == DCONFDB_WAIT_FAILED) {
-            CHECK(fault != 0, "answer: what failed has a fault");
+        if (fault != 0 && (fault != EWOULDBLOCK || tried == DCONFDB_TRIED_NAME))
             return fault;
-        }
-        if (has_end && any_bool())
+        if (what == DCONFDB_WAIT_FOR_LOCK && any_bool())
             return EWOULDBLOCK;
     }
     return EWOULDBLOCK;

@@ -127,7 +127,7 @@ int set_aside(void)
         REACHED("it is set aside");
     }
     if (is_asked && link->fault != 0 && link->fault != EEXIST) {
-        uint32_t answer = fault_answer(DCONFDB_CALL_SET_ASIDE, link->fault);
+        uint32_t answer = dconfdb_fault_answer(DCONFDB_CALL_SET_ASIDE, (uint32_t)link->fault);
         CHECK(!it.is_aside && (cannot != 0) == (answer == DCONFDB_ANSWER_NAMELESS), "answer: it can't be linked");
         CHECK(fault == (cannot != 0 || answer == DCONFDB_ANSWER_NOTHING ? 0 : link->fault), "answer: the fault of the link");
     }
@@ -151,7 +151,7 @@ int exchange(void)
     if (count_of[RENAMEAT2] == 2)
         CHECK(rename->flags == RENAME_EXCHANGE && rename->name == it.aside && rename->other == name, "step: they change places");
     CHECK(count_of[UNLINKAT] == 0 || (rename->fault != 0 && rename->fault != EIO && last[UNLINKAT].name == it.aside), "step: what is removed is the new file, and never what may have the name");
-    CHECK(count_of[UNLINKAT] == 0 || fault_answer(DCONFDB_CALL_PLACE, fault) != DCONFDB_ANSWER_UNSURE, "step: nothing is removed that may be the old file");
+    CHECK(count_of[UNLINKAT] == 0 || dconfdb_fault_answer(DCONFDB_CALL_PLACE, (uint32_t)fault) != DCONFDB_ANSWER_UNSURE, "step: nothing is removed that may be the old file");
     CHECK(file_is_one(&before, &state), "answer: the state is of the new file");
     CHECK(count_of[FSTATAT] == 0 || (fault == 0 && when_of[FSTATAT] > when_of[RENAMEAT2] && last[FSTATAT].name == name), "order: its state is of after");
     if (fault == 0)

@@ -4,11 +4,13 @@
 #include "machines.h"
 #include "world.h"
 
+#include <errno.h>
+
 enum { MOST_STEPS = 8 };
 
 static int asked_for;
 static int try_fault;
-static uint32_t try_answer;
+static uint32_t try_call;
 static DconfdbNext step;
 static bool is_amid;
 static unsigned tried, steps_done;
@@ -17,15 +19,10 @@ static uint32_t a_try(void *it, int *fault)
 {
     CHECK(it == &asked_for && is_amid && step.kind == DCONFDB_WAIT_TRY, "step: it is tried where that is the step");
     tried++;
-    try_answer = any_u32();
-    GIVEN(try_answer <= DCONFDB_WAIT_FAILED);
-    try_fault = 0;
-    if (try_answer == DCONFDB_WAIT_FAILED) {
-        try_fault = any_fault();
-        GIVEN(try_fault > 0);
-        *fault = try_fault;
-    }
-    return try_answer;
+    try_call = any_u32();
+    GIVEN(try_call <= DCONFDB_TRIED_LOCK_FILE);
+    *fault = try_fault = any_fault();
+    return try_call;
 }
 
 static void begins(const DconfdbNext *next)
@@ -37,31 +34,26 @@ static void begins(const DconfdbNext *next)
     GIVEN(++steps_done <= MOST_STEPS);
 }
 
-static void ends(uint32_t answer, size_t fault)
+static void ends(uint32_t call, size_t fault)
 {
     CHECK(is_amid && tried == (step.kind == DCONFDB_WAIT_TRY), "step: a try is one try, and a pause is none");
-    CHECK(step.kind != DCONFDB_WAIT_TRY || answer == try_answer, "answer: what became of the try");
-    CHECK(step.kind != DCONFDB_WAIT_TRY || try_answer != DCONFDB_WAIT_FAILED || fault == (size_t)try_fault, "answer: the fault of the try");
+    CHECK(step.kind != DCONFDB_WAIT_TRY || (call == try_call && fault == (size_t)try_fault), "answer: what became of the try");
     is_amid = false;
 }
 
 /* harness try_for: unwind 10, with waits.c */
 int try_for_(void)
 {
-    uint32_t milliseconds = any_u32();
-    bool has_end = any_bool();
+    uint32_t milliseconds = any_u32(), what = any_bool() ? DCONFDB_WAIT_FOR_LOCK : DCONFDB_WAIT_WITHOUT_END;
     at_next = begins;
     at_next_answer = ends;
     steps_done = 0;
-    int fault = try_for(milliseconds, has_end, a_try, &asked_for);
-    if (steps_done == 0) {
-        CHECK(fault == EINVAL, "answer: the fault of a clock that fails");
-        return 0;
-    }
+    int fault = try_for(what, milliseconds, a_try, &asked_for);
     CHECK(!is_amid && step.kind >= DCONFDB_WAIT_HAD, "step: it goes on to the end");
-    CHECK(fault != 0 || (step.kind == DCONFDB_WAIT_HAD && try_answer == DCONFDB_WAIT_GOT), "answer: had is what a try got");
-    CHECK(step.kind != DCONFDB_WAIT_BUSY || (fault == EWOULDBLOCK && has_end), "answer: busy is a wait that had an end");
-    CHECK(step.kind != DCONFDB_WAIT_STOPPED || (fault == try_fault && try_answer == DCONFDB_WAIT_FAILED), "answer: the fault of the try");
+    CHECK(fault != 0 || (step.kind == DCONFDB_WAIT_HAD && try_fault == 0 && try_call != DCONFDB_TRIED_NAME), "answer: had is what a try got");
+    CHECK(step.kind != DCONFDB_WAIT_BUSY || (fault == EWOULDBLOCK) == (try_call != DCONFDB_TRIED_LOCK_FILE), "answer: busy, or what has a lease");
+    CHECK(step.kind != DCONFDB_WAIT_BUSY || what == DCONFDB_WAIT_FOR_LOCK, "answer: busy is a wait that had an end");
+    CHECK(step.kind != DCONFDB_WAIT_STOPPED || fault == try_fault, "answer: the fault of the try");
     if (step.kind == DCONFDB_WAIT_STOPPED)
         REACHED("a try fails");
     if (step.kind == DCONFDB_WAIT_BUSY)

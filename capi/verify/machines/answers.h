@@ -42,8 +42,66 @@ static inline void ending_asked(uint32_t number, uint32_t *outcome, uint32_t *fa
     *is_unsettled = number % 2 == 1;
 }
 
-/* What a host says of a call that failed, and the calls to which that may be another thing. */
-enum { FAULT_KINDS = DCONFDB_KIND_OTHER + 1, CALLS = DCONFDB_CALL_PLACE + 1 };
+/* The errnos, and 0, and the calls to which one may be another thing than a fault. */
+enum { FAULTS = 134, CALLS = DCONFDB_CALL_PLACE + 1 };
+
+/* What becomes of a file by what the system says of it, which explore.c compares. The first function is of those purposes of which the errno
+ * alone counts. */
+static inline uint32_t stands_by_errno(uint32_t purpose, uint32_t fault, uint32_t *told)
+{
+    enum { NO_FILE = 2, EXISTS = 17, FOLDER = 21, BAD = 22, UNKNOWN = 38, NOT_EMPTY = 39, UNSUPPORTED = 95 };
+    *told = 0;
+    if (fault == 0 || (purpose == DCONFDB_TO_MAKE_ROOM && fault == NO_FILE))
+        return DCONFDB_IS_GOOD;
+    if ((purpose == DCONFDB_TO_LOOK && fault == NO_FILE) || (purpose == DCONFDB_TO_MAKE && fault == EXISTS))
+        return DCONFDB_IS_NOTHING;
+    if ((purpose == DCONFDB_TO_MAKE_ROOM && fault == FOLDER) || (purpose == DCONFDB_TO_NAME && (fault == BAD || fault == UNKNOWN)))
+        return DCONFDB_IS_OTHER;
+    *told = purpose == DCONFDB_TO_EXCHANGE && fault == BAD ? UNSUPPORTED : purpose == DCONFDB_TO_REPLACE && fault == NOT_EMPTY ? EXISTS : fault;
+    return DCONFDB_IS_FAULT;
+}
+
+static inline uint32_t stands_sized(const DconfdbStood *stood, uint32_t *told)
+{
+    *told = stood->size > stood->most ? 75 : 0;
+    if (*told != 0 || stood->size == 0)
+        return *told != 0 ? DCONFDB_IS_FAULT : DCONFDB_IS_NOTHING;
+    if (stood->size <= 65536 || !(stood->may_map || stood->may_stop))
+        return DCONFDB_IS_GOOD;
+    return stood->may_map ? DCONFDB_IS_MAPPED : DCONFDB_IS_HEAD;
+}
+
+static inline uint32_t stands_as_file(uint32_t purpose, const DconfdbStood *stood, uint32_t *told)
+{
+    bool is_lock = purpose == DCONFDB_TO_LOCK, is_regular = (stood->mode & 0170000) == 0100000;
+    uint32_t of_mode = !is_lock && (stood->mode & 0170000) == 0040000 ? 21 : 22;
+    *told = 0;
+    if (stood->fault != 0 && purpose == DCONFDB_TO_OPEN)
+        return DCONFDB_IS_GOOD;
+    if (is_lock && stood->fault == 2)
+        return DCONFDB_IS_NOTHING;
+    if (stood->fault != 0)
+        *told = is_lock && (stood->fault == 40 || stood->fault == 21 || stood->fault == 6) ? 22 : stood->fault;
+    else if (!is_regular)
+        *told = of_mode;
+    if (*told != 0)
+        return DCONFDB_IS_FAULT;
+    return purpose == DCONFDB_TO_READ ? stands_sized(stood, told) : DCONFDB_IS_GOOD;
+}
+
+static inline uint32_t standing_given(uint32_t purpose, const DconfdbStood *stood, uint32_t *told)
+{
+    *told = 0;
+    if (purpose == DCONFDB_TO_HOLD)
+        return stood->fault != 0 || !stood->is_named ? DCONFDB_IS_NOTHING : stood->links > 1 ? DCONFDB_IS_OTHER : DCONFDB_IS_GOOD;
+    if (purpose == DCONFDB_TO_FOLLOW) {
+        *told = stood->is_root && (stood->fault != 0 || stood->user != 0 || (stood->mode & 022) != 0) ? 13 : 0;
+        return *told != 0 ? DCONFDB_IS_FAULT : DCONFDB_IS_GOOD;
+    }
+    if (purpose >= DCONFDB_TO_OPEN && purpose <= DCONFDB_TO_LOCK)
+        return stands_as_file(purpose, stood, told);
+    return stands_by_errno(purpose, stood->fault, told);
+}
 
 /* Permission bits, which explore.c compares for all that may be asked. */
 static inline uint32_t bits_given(uint32_t bits, bool has_group)
@@ -57,8 +115,8 @@ static inline uint32_t lock_bits_given(uint32_t folder, bool has_group)
     return 0600 | ((folder & (has_group ? 020 : 02)) != 0 ? 060 : 0) | ((folder & 02) != 0 ? 06 : 0);
 }
 
-/* Of a look at 0 to 2 files: no, yes, and a fault of each kind. */
-enum { REFRESH_BEGINNINGS = 24, REFRESH_REFUSED = 2, REFRESH_ANSWERS = REFRESH_REFUSED + FAULT_KINDS };
+/* Of a look at 0 to 2 files: no, yes, and a fault that is a file's own, or isn't. */
+enum { REFRESH_BEGINNINGS = 24, REFRESH_OWN_FAULT = 2, REFRESH_OTHER_FAULT, REFRESH_ANSWERS };
 
 /* Changes that wait, of up to two edits, the second of which is of the first one's change or of one of its own, and each of which may be left out or reset. */
 enum { QUEUE_EDITS = 2, QUEUE_BEGINNINGS = 37 };
@@ -103,7 +161,8 @@ static inline uint32_t queue_answer(uint32_t answer, size_t at)
         : QUEUE_FAULT + (uint32_t)at;
 }
 
-/* A wait of 0 or 2 milliseconds, or one without end; of so many that have passed, or of a clock that fails. */
+/* A wait of 0 or 2 milliseconds, or one without end; of so many that have passed, or of a clock that fails. It finds the lock taken (EAGAIN) or
+ * moved, gets it, or fails. */
 enum { WAIT_BEGINNINGS = 3, WAIT_TIMES = 4, WAIT_TAKEN = 0, WAIT_MOVED = WAIT_TIMES, WAIT_GOT = 2 * WAIT_TIMES, WAIT_FAILED, WAIT_ANSWERS };
 
 static const uint32_t wait_longest[WAIT_BEGINNINGS] = {0, 2, UINT32_MAX};

@@ -248,13 +248,25 @@ static Step refresh_steps(const void *it)
     return (Step){looking->next.kind, 0, looking->next.number, false, 0};
 }
 
+/* By any errno that is a file's own, or isn't. */
+static bool is_had_by(const DconfdbRefresh *refresh, bool is_own)
+{
+    enum { EACCES_ = 13, EIO_ = 5 };
+    bool is = dconfdb_refresh_is_had(refresh, is_own ? EACCES_ : EIO_);
+    for (uint32_t fault = 0; fault < FAULTS; fault++) {
+        if ((dconfdb_fault_answer(DCONFDB_CALL_OPEN, fault) == DCONFDB_ANSWER_OWN) == is_own && dconfdb_refresh_is_had(refresh, fault) != is)
+            fail("refresh", "another errno of that class is something else");
+    }
+    return is;
+}
+
 static bool refresh_answered(void *it, const Step *step, int number)
 {
-    if (step->kind >= DCONFDB_LOOK_FAILED || (number >= REFRESH_REFUSED && step->kind != DCONFDB_LOOK_READ))
+    if (step->kind >= DCONFDB_LOOK_FAILED || (number >= REFRESH_OWN_FAULT && step->kind != DCONFDB_LOOK_READ))
         return false;
     DconfdbNext next = {0};
     Looking *looking = it;
-    bool is_had = number >= REFRESH_REFUSED ? dconfdb_refresh_is_had(&looking->refresh, (uint32_t)number - REFRESH_REFUSED) : number == 1;
+    bool is_had = number >= REFRESH_OWN_FAULT ? is_had_by(&looking->refresh, number == REFRESH_OWN_FAULT) : number == 1;
     dconfdb_refresh_answered(&looking->refresh, is_had, &next);
     is_at_next(&looking->next, &next);
     return true;
@@ -316,7 +328,7 @@ static bool queue_answered(void *it, const Step *step, int number)
 
 /* ---- a wait. Its tries are counted, so what comes after some is beyond the bounds */
 
-enum { MOST_WAITED_STEPS = 24, FAULT = 5 };
+enum { MOST_WAITED_STEPS = 24, FAULT = 5, BUSY_FAULT = 11 };
 
 typedef struct {
     DconfdbWait wait;
@@ -327,14 +339,16 @@ static void wait_begins(void *it, int number)
 {
     DconfdbNext next = {0};
     Awaiting *awaiting = it;
-    dconfdb_wait_begin(&awaiting->wait, wait_longest[number], &next);
+    bool has_end = wait_longest[number] != UINT32_MAX;
+    dconfdb_wait_begin(&awaiting->wait, has_end ? DCONFDB_WAIT_FOR_LOCK : DCONFDB_WAIT_WITHOUT_END, wait_longest[number], 0, &next);
     is_at_next(&awaiting->next, &next);
 }
 
-static void wait_takes(Awaiting *it, uint32_t answer, uint64_t passed, uint32_t fault)
+/* So many milliseconds after it began. */
+static void wait_takes(Awaiting *it, uint32_t tried, uint32_t fault, uint64_t passed)
 {
     DconfdbNext next = {0};
-    dconfdb_wait_answered(&it->wait, answer, passed, fault, &next);
+    dconfdb_wait_answered(&it->wait, tried, fault, passed * 1000000, &next);
     is_at_next(&it->next, &next);
 }
 
@@ -349,23 +363,27 @@ static void wait_fails(Awaiting *it)
 {
     for (uint32_t fault = 1; fault < 4096; fault++) {
         Awaiting other = *it;
-        wait_takes(&other, DCONFDB_WAIT_FAILED, 0, fault);
-        if (other.next.kind != DCONFDB_WAIT_STOPPED || other.next.number != fault)
+        wait_takes(&other, DCONFDB_TRIED_LOCK, fault, 0);
+        if (fault != BUSY_FAULT && (other.next.kind != DCONFDB_WAIT_STOPPED || other.next.number != fault))
             fail("wait", "it stops with another fault");
     }
-    wait_takes(it, DCONFDB_WAIT_FAILED, 0, FAULT);
+    wait_takes(it, DCONFDB_TRIED_LOCK, FAULT, 0);
 }
 
 static bool wait_answered(void *it, const Step *step, int number)
 {
     if (step->kind > DCONFDB_WAIT_PAUSE)
         return false;
-    if (number == WAIT_FAILED && step->kind == DCONFDB_WAIT_TRY)
+    if (step->kind == DCONFDB_WAIT_PAUSE)
+        wait_takes(it, DCONFDB_TRIED_LOCK, 0, 0);
+    else if (number == WAIT_FAILED)
         wait_fails(it);
-    else if (number >= WAIT_GOT)
-        wait_takes(it, number == WAIT_GOT ? DCONFDB_WAIT_GOT : DCONFDB_WAIT_FAILED, 0, FAULT);
+    else if (number == WAIT_GOT)
+        wait_takes(it, DCONFDB_TRIED_LOCK, 0, 0);
+    else if (number < WAIT_MOVED)
+        wait_takes(it, DCONFDB_TRIED_LOCK, BUSY_FAULT, wait_passed[number % WAIT_TIMES]);
     else
-        wait_takes(it, number < WAIT_MOVED ? DCONFDB_WAIT_TAKEN : DCONFDB_WAIT_MOVED, wait_passed[number % WAIT_TIMES], 0);
+        wait_takes(it, DCONFDB_TRIED_NAME, 0, wait_passed[number % WAIT_TIMES]);
     return true;
 }
 
@@ -410,11 +428,11 @@ static void print_endings(void)
 
 static void print_fault_answers(void)
 {
-    printf("\nstatic const uint8_t fault_answers[CALLS][FAULT_KINDS] = {");
+    printf("\nstatic const uint8_t fault_answers[CALLS][FAULTS] = {");
     for (uint32_t call = 0; call < CALLS; call++) {
         printf("%s{", call > 0 ? ", " : "");
-        for (uint32_t kind = 0; kind < FAULT_KINDS; kind++)
-            printf("%s%u", kind > 0 ? ", " : "", dconfdb_fault_answer(call, kind));
+        for (uint32_t fault = 0; fault < FAULTS; fault++)
+            printf("%s%u", fault > 0 ? ", " : "", dconfdb_fault_answer(call, fault));
         printf("}");
     }
     printf("};\n");
@@ -424,12 +442,34 @@ static void compare_bits(void)
 {
     for (uint32_t bits = 0; bits < 65536; bits++) {
         for (int has_group = 0; has_group < 2; has_group++) {
-            if (dconfdb_bits_for(bits, has_group) != bits_given(bits, has_group))
+            if (dconfdb_file_bits(false, bits, has_group) != bits_given(bits, has_group))
                 fail("bits_for", "other bits than are given");
-            if (dconfdb_lock_bits(bits, has_group) != lock_bits_given(bits, has_group))
+            if (dconfdb_file_bits(true, bits, has_group) != lock_bits_given(bits, has_group))
                 fail("lock_bits", "other bits than are given");
         }
     }
+}
+
+static void compare_standing(const DconfdbStood *stood)
+{
+    for (uint32_t purpose = 0; purpose <= DCONFDB_TO_REPLACE; purpose++) {
+        uint32_t told, wanted;
+        if (dconfdb_standing(purpose, stood, &told) != standing_given(purpose, stood, &wanted) || told != wanted)
+            fail("standing", "another answer than is given");
+    }
+}
+
+/* By each errno; and of files of each kind, with all bits of the group and of others. */
+static void compare_standings(void)
+{
+    static const uint64_t sizes[] = {0, 1, 65536, 65537};
+    for (uint32_t fault = 0; fault < FAULTS; fault++)
+        compare_standing(&(DconfdbStood){.fault = fault, .mode = 0100600, .links = 1, .is_named = true, .is_root = true});
+    for (uint32_t mode = 0; mode < 65536; mode++)
+        compare_standing(&(DconfdbStood){.mode = mode, .size = 1, .most = 1, .links = mode % 3, .user = mode / 8192, .is_root = true});
+    for (uint32_t i = 0; i < 128; i++)
+        compare_standing(&(DconfdbStood){.mode = 0100600, .size = sizes[i % 4], .most = sizes[i / 4 % 4], .may_map = (i & 16) != 0,
+                                         .may_stop = (i & 32) != 0, .is_named = (i & 64) != 0, .links = i % 3});
 }
 
 int main(void)
@@ -441,5 +481,6 @@ int main(void)
     print_endings();
     print_fault_answers();
     compare_bits();
+    compare_standings();
     return 0;
 }

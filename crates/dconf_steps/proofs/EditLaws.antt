@@ -6,7 +6,7 @@ use Rattle.dconf_steps.specs.declared.queue.QueuedEdit.{QueuedEdit}
 use Rattle.dconf_steps.specs.declared.queue.QueueStep.{QueueStep}
 use Rattle.dconf_steps.specs.declared.queue.QueueStep.TheVariants.{Take, Pass, Write, Ask, Done}
 use Rattle.dconf_steps.specs.declared.queue.QueueAnswer.{QueueAnswer}
-use Rattle.dconf_steps.specs.declared.queue.QueueAnswer.TheVariants.{Yes, Locked, Fault, Later}
+use Rattle.dconf_steps.specs.declared.queue.QueueAnswer.TheVariants.{Locked, Fault}
 use Rattle.dconf_steps.specs.Queues.{is_open_by, is_open, goes_by, goes, refused, refused_by, unmade, unmade_by, faulted_by, refused_for, marked}
 use Rattle.dconf_steps.specs.QueueLaws.{is_refused_by, is_refused, is_left_out_by, is_left_out, IsOf, Sets, IsOwnFault, IsLockedReset, flag, unmarked, asked_of}
 

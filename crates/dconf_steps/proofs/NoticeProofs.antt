@@ -1,5 +1,5 @@
 -- What holds of a notice of changes after any events and answers.
-use Rattle.std.proofs.Common.{if◌then◌else◌, ◌↔◌, map, ℕ, ◌+◌, ◌≤◌, ◌≡◌, ◌≢◌, ◌⊎◌, Bool, true, false, IsTrue, List, [], ◌∷◌, refl, sym, ◌∙◌, ap, subst, arith, ⊎_elim, inl, inr}
+use Rattle.std.proofs.Common.{if◌then◌else◌, ℕ, ◌+◌, ◌≤◌, ◌≡◌, ◌≢◌, ◌⊎◌, Bool, true, false, IsTrue, List, [], ◌∷◌, refl, sym, ◌∙◌, ap, subst, arith, ⊎_elim, inl, inr}
 use Rattle.dconf_steps.specs.declared.notice.Notice.{Notice}
 use Rattle.dconf_steps.specs.declared.notice.Owed.{Owed}
 use Rattle.dconf_steps.specs.declared.notice.Owed.TheVariants.{Nothing, Another, Anew}
@@ -7,8 +7,8 @@ use Rattle.dconf_steps.specs.declared.notice.NoticeStep.{NoticeStep}
 use Rattle.dconf_steps.specs.declared.notice.NoticeStep.TheVariants.{Watch, Look, Rest}
 use Rattle.dconf_steps.specs.declared.notice.NoticeEvent.{NoticeEvent}
 use Rattle.dconf_steps.specs.declared.notice.NoticeEvent.TheVariants.{File, Folder, Time}
-use Rattle.dconf_steps.specs.Notices.{notice_step, is_come, at_its_time, woken_by, owed_by, owed_after, look_again, after_look, answered_by, owed_behind, AreTold, IsNoticeTold, due_at}
-use Rattle.dconf_steps.specs.NoticeLaws.{NoticeMoment, Noticed, NoticeGoes, RanNotice, IsSeen, HasSeen, behind_moment, behind_answer, HasSeenSince, IsToLook, is_heard, is_heard_by, AreFollowed, heard_in, look_by, looks_in, answered_at, last_answer, IsSoon, WhateverIsNoticed, WhatIsToldIsNoticed, WhatComesIsDue, told_at}
+use Rattle.dconf_steps.specs.Notices.{notice_step, is_come, at_its_time, woken_by, owed_by, owed_after, look_again, after_look, answered_by, owed_behind, IsNoticeTold}
+use Rattle.dconf_steps.specs.NoticeLaws.{NoticeMoment, Noticed, NoticeGoes, RanNotice, IsSeen, HasSeen, behind_moment, behind_answer, HasSeenSince, IsToLook, is_heard, is_heard_by, AreFollowed, heard_in, look_by, looks_in, answered_at, last_answer, IsSoon, WhateverIsNoticed, WhatIsToldIsNoticed, WhatComesIsDue}
 use Rattle.dconf_steps.specs.NoticeLaws.NoticeMoment.{tells, answers}
 
 -- what is owed of a look that comes

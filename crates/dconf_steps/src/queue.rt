@@ -205,7 +205,7 @@ fn refuse_for(edits: &mut [QueuedEdit], at: usize) -> Queue
 }
 
 /// Whether an edit is to be made: it is not left out, and its change is not refused.
-fn goes(edits: &[QueuedEdit], at: usize) -> bool
+pub(crate) fn goes(edits: &[QueuedEdit], at: usize) -> bool
     ensures { result ≡ goes edits.now at }
 {
     match edits.get(at) {

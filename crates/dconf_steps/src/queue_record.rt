@@ -1,10 +1,10 @@
 //! What waits to be written as plain numbers, for a caller that is not Rust.
-ghost use Rattle.std.specs.Prelude.{◌≡◌};
+ghost use Rattle.std.specs.Prelude.{◌≡◌, length};
 ghost use Rattle.dconf_steps.specs.Queues.{IsQueueAnswered, queue_step, taking};
-ghost use Rattle.dconf_steps.specs.QueueRecords.{IsQueueTold, queue_answer_of, queue_of, queue_stage_of};
+ghost use Rattle.dconf_steps.specs.QueueRecords.{IsQueueTold, last_set, queue_answer_of, queue_of, queue_stage_of};
 
 use crate::next_step::NextStep;
-use crate::queue::{Queue, QueueAnswer, QueueEnd, QueueStage, QueueStep, QueuedEdit};
+use crate::queue::{Queue, QueueAnswer, QueueEnd, QueueStage, QueueStep, QueuedEdit, goes};
 
 /// What waits, as its caller owns it. Nobody but these calls writes its fields; a stage that is none of theirs is one that goes on
 /// waiting.
@@ -38,12 +38,14 @@ impl QueueRecord {
         }
     }
 
-    /// As [`Queue::answered`]: 0 yes, 1 locked, 2 a fault of that edit, and else later.
+    /// As [`Queue::answered`]: 0 yes, 1 locked, 2 a fault of that edit, 4 locked, since nobody may write there, 5 a fault of the newest edit that
+    /// sets something, since the file would be too large, and else later.
     pub fn answered(&mut self, edits: &mut [QueuedEdit], kind: u32, at: usize)
-        ensures { IsQueueAnswered (queue_of self.old) edits.old (queue_answer_of kind at) (queue_of self.new) edits.new }
+        ensures { IsQueueAnswered (queue_of self.old) edits.old (queue_answer_of edits.old kind at) (queue_of self.new) edits.new }
     {
         let mut queue = self.queue();
-        queue.answered(edits, answer_of(kind, at));
+        let answer = answer_of(edits, kind, at);
+        queue.answered(edits, answer);
         *self = QueueRecord::of(queue);
     }
 
@@ -68,15 +70,29 @@ impl QueueRecord {
     }
 }
 
-fn answer_of(kind: u32, at: usize) -> QueueAnswer
-    ensures { result ≡ queue_answer_of kind at }
+fn answer_of(edits: &[QueuedEdit], kind: u32, at: usize) -> QueueAnswer
+    ensures { result ≡ queue_answer_of edits.now kind at }
 {
     match kind {
         0 => QueueAnswer::Yes,
-        1 => QueueAnswer::Locked,
+        1 | 4 => QueueAnswer::Locked,
         2 => QueueAnswer::Fault(at),
+        5 => QueueAnswer::Fault(newest_set(edits)),
         _ => QueueAnswer::Later,
     }
+}
+
+/// The newest edit that sets something and is to be made; or else no edit.
+fn newest_set(edits: &[QueuedEdit]) -> usize
+    ensures { result ≡ last_set edits.now (length edits.now) }
+{
+    let mut found = edits.len();
+    for at in 0..edits.len() {
+        if edits[at].sets && goes(edits, at) {
+            found = at;
+        }
+    }
+    found
 }
 
 fn number_of(stage: QueueStage) -> u32

@@ -1,7 +1,7 @@
 //! A look at the files of a store as plain numbers, for a caller that is not Rust.
 ghost use Rattle.std.specs.Prelude.{◌≡◌};
 ghost use Rattle.dconf_steps.specs.Looks.{IsLookAnswered, IsRefreshBegun, is_had, look_step};
-ghost use Rattle.dconf_verdicts.specs.Faults.{kind_of};
+ghost use Rattle.dconf_verdicts.specs.Errnos.{kind_of};
 ghost use Rattle.dconf_steps.specs.LookRecords.{IsLookTold, look_of, look_stage_of};
 
 use crate::next_step::NextStep;
@@ -54,11 +54,11 @@ impl RefreshRecord {
         *self = RefreshRecord::of(refresh);
     }
 
-    /// As [`Refresh::is_had`], by the number of the kind of fault, as [`dconf_verdicts::class_number`] has it.
-    pub fn is_had(&self, kind: u32) -> bool
-        ensures { result ≡ is_had (look_step (look_of self.now)) self.now.is_lenient (kind_of kind) }
+    /// As [`Refresh::is_had`], by the errno.
+    pub fn is_had(&self, errno: u32) -> bool
+        ensures { result ≡ is_had (look_step (look_of self.now)) self.now.is_lenient (kind_of errno) }
     {
-        self.refresh().is_had(kind_of(kind))
+        self.refresh().is_had(kind_of(errno))
     }
 
     fn of(refresh: Refresh) -> RefreshRecord

@@ -8,9 +8,8 @@ use Rattle.dconf_verdicts.specs.declared.entry.Entry.TheVariants.{Refused, Empty
 use Rattle.dconf_verdicts.specs.declared.faults.FaultClass.{FaultClass}
 use Rattle.dconf_verdicts.specs.declared.faults.FaultClass.TheVariants.{Own, Soon, Later}
 use Rattle.dconf_verdicts.specs.Entries.{is_barred, goes, is_news, has_twin, renews, IsKept, NewestIsKept}
-use Rattle.dconf_verdicts.specs.declared.faults.ChangeFault.TheVariants.{Locked, Unfit, Host, Memory, Busy}
-use Rattle.dconf_verdicts.specs.declared.faults.Verdict.TheVariants as verdict
-use Rattle.dconf_verdicts.specs.Faults.{class_of, Passes, EachIsOne, by_class, OnlyFinalDrops}
+use Rattle.dconf_verdicts.specs.declared.faults.ChangeFault.TheVariants.{Locked, Unfit, TooLarge, Host, Memory, Busy}
+use Rattle.dconf_verdicts.specs.Faults.{class_of, Passes, EachIsOne, by_class, Drops, OnlyFinalDrops}
 
 -- ---- a change that is asked for
 
@@ -66,14 +65,15 @@ each_is_one kind changes = one_of (class_of kind changes)
 
 -- ---- a change that was not made
 
-drops_by_class : (c : FaultClass) → (by_class c ≡ verdict.Waits → ⊥) ↔ (c ≡ Own)
-drops_by_class Own = (λ h. refl, λ e w. cc)
-drops_by_class Soon = (λ h. absurd (h refl), λ e w. cc)
-drops_by_class Later = (λ h. absurd (h refl), λ e w. cc)
+drops_by_class : (c : FaultClass) → Drops (by_class c) ↔ (c ≡ Own)
+drops_by_class Own = (λ h. refl, λ e. tt)
+drops_by_class Soon = (λ h. absurd h, λ e. cc)
+drops_by_class Later = (λ h. absurd h, λ e. cc)
 
 pub only_final_drops : OnlyFinalDrops
-only_final_drops Locked = (λ h. tt, λ e w. cc)
-only_final_drops Unfit = (λ h. tt, λ e w. cc)
+only_final_drops Locked = (λ h. tt, λ e. tt)
+only_final_drops Unfit = (λ h. tt, λ e. tt)
+only_final_drops TooLarge = (λ h. tt, λ e. tt)
 only_final_drops (Host kind) = drops_by_class (class_of kind true)
-only_final_drops Memory = (λ h. absurd (h refl), λ e w. absurd e)
-only_final_drops Busy = (λ h. absurd (h refl), λ e w. absurd e)
+only_final_drops Memory = (λ h. h, λ e. e)
+only_final_drops Busy = (λ h. h, λ e. e)

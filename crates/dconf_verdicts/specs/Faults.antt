@@ -5,9 +5,10 @@ use Rattle.dconf_verdicts.specs.declared.faults.FaultKind.TheVariants.{Rights, R
 use Rattle.dconf_verdicts.specs.declared.faults.FaultClass.{FaultClass}
 use Rattle.dconf_verdicts.specs.declared.faults.FaultClass.TheVariants.{Own, Soon, Later}
 use Rattle.dconf_verdicts.specs.declared.faults.ChangeFault.{ChangeFault}
-use Rattle.dconf_verdicts.specs.declared.faults.ChangeFault.TheVariants.{Locked, Unfit, Host, Memory, Busy}
+use Rattle.dconf_verdicts.specs.declared.faults.ChangeFault.TheVariants.{Locked, Unfit, TooLarge, Host, Memory, Busy}
 use Rattle.dconf_verdicts.specs.declared.faults.Verdict.{Verdict}
 use Rattle.dconf_verdicts.specs.declared.faults.Verdict.TheVariants as verdict
+use Rattle.dconf_verdicts.specs.Errnos.{kind_of}
 
 -- Of who changes a file (true), or reads it (false). A file of another kind, or that is damaged, is put right by a change.
 abbrev pub class_of : FaultKind → Bool → FaultClass
@@ -28,52 +29,43 @@ class_of Unsupported changes = Later
 class_of Wait changes = Soon
 class_of Other changes = Later
 
-abbrev pub kind_of : ℕ → FaultKind
-kind_of n =
-    if n == 0 then Rights else if n == 1 then ReadOnly else if n == 2 then Name else if n == 3 then Kind else if n == 4 then Damage else
-    if n == 5 then Scarce else if n == 6 then Moment else if n == 7 then Full else if n == 8 then Disk else if n == 9 then Missing else
-    if n == 10 then Unsupported else if n == 11 then Wait else Other
-
-abbrev pub number_of : FaultClass → ℕ
-number_of Own = 0
-number_of Soon = 1
-number_of Later = 2
-
 -- ---- a change that was not made
 
 abbrev pub by_class : FaultClass → Verdict
-by_class Own = verdict.Locked
-by_class Soon = verdict.Waits
-by_class Later = verdict.Waits
+by_class Own = verdict.Closed
+by_class Soon = verdict.Soon
+by_class Later = verdict.Later
 
 -- what becomes of it
 abbrev pub verdict_of : ChangeFault → Verdict
 verdict_of Locked = verdict.Locked
 verdict_of Unfit = verdict.Unfit
+verdict_of TooLarge = verdict.TooLarge
 verdict_of (Host kind) = by_class (class_of kind true)
-verdict_of Memory = verdict.Waits
-verdict_of Busy = verdict.Waits
+verdict_of Memory = verdict.Soon
+verdict_of Busy = verdict.Later
 
 abbrev pub verdict_number : Verdict → ℕ
 verdict_number verdict.Locked = 1
 verdict_number verdict.Unfit = 2
-verdict_number verdict.Waits = 3
+verdict_number verdict.Later = 3
+verdict_number verdict.Closed = 4
+verdict_number verdict.TooLarge = 5
+verdict_number verdict.Soon = 6
 
-abbrev pub is_soon : FaultClass → Bool
-is_soon Own = false
-is_soon Soon = true
-is_soon Later = false
-
--- it passes in a moment, mostly
-abbrev pub is_momentary : ChangeFault → Bool
-is_momentary Locked = false
-is_momentary Unfit = false
-is_momentary (Host kind) = is_soon (class_of kind true)
-is_momentary Memory = true
-is_momentary Busy = false
-
+-- by the header's code of what a change failed by, and its errno
 abbrev pub fault_of : ℕ → ℕ → ChangeFault
-fault_of n kind = if n == 0 then Locked else if n == 1 then Unfit else if n == 2 then Host (kind_of kind) else if n == 3 then Memory else Busy
+fault_of code errno =
+    if code == 1 then Memory else
+    if code == 13 then Unfit else  -- BAD_PATH
+    if code == 14 then Unfit else  -- BAD_TYPE
+    if code == 15 then Locked else  -- NOT_WRITABLE
+    if code == 16 then Locked else  -- LOCKED
+    if code == 17 then Unfit else  -- VALUE_TOO_LARGE
+    if code == 18 then TooLarge else  -- FILE_TOO_LARGE
+    if code == 20 then Unfit else  -- BAD_VALUE
+    if code == 64 then Host (kind_of errno) else  -- FILE
+    Busy
 
 abbrev pub is_own : FaultClass → Bool
 is_own Own = true
@@ -101,10 +93,20 @@ EachIsOne = (kind : FaultKind) (changes : Bool) →
 abbrev pub IsFinal : ChangeFault → Type 0
 IsFinal Locked = Unit {0}
 IsFinal Unfit = Unit {0}
+IsFinal TooLarge = Unit {0}
 IsFinal (Host kind) = class_of kind true ≡ Own
 IsFinal Memory = ⊥
 IsFinal Busy = ⊥
 
--- what waits is refused for a fault exactly if that is final
+-- something that waits is refused, or left out
+abbrev pub Drops : Verdict → Type 0
+Drops verdict.Locked = Unit {0}
+Drops verdict.Closed = Unit {0}
+Drops verdict.Unfit = Unit {0}
+Drops verdict.TooLarge = Unit {0}
+Drops verdict.Soon = ⊥
+Drops verdict.Later = ⊥
+
+-- that is so for a fault exactly if it is final
 abbrev pub OnlyFinalDrops : Type 0
-OnlyFinalDrops = (fault : ChangeFault) → (verdict_of fault ≡ verdict.Waits → ⊥) ↔ IsFinal fault
+OnlyFinalDrops = (fault : ChangeFault) → Drops (verdict_of fault) ↔ IsFinal fault

@@ -1,3 +1,5 @@
 pub mod Entries
+pub mod Errnos
 pub mod Faults
 pub mod Answers
+pub mod Standings

@@ -2,9 +2,10 @@
 ghost use Rattle.std.specs.Prelude.{◌≡◌};
 ghost use Rattle.dconf_verdicts.specs.declared.answers.FaultAnswer.TheVariants as FaultAnswer;
 ghost use Rattle.dconf_verdicts.specs.Answers.{answer_number, answer_of, by_class, call_of, placing, setting_aside};
-ghost use Rattle.dconf_verdicts.specs.Faults.{kind_of};
+ghost use Rattle.dconf_verdicts.specs.Errnos.{kind_of};
 
-use crate::faults::{FaultClass, FaultKind, class_of, kind_of};
+use crate::errnos::kind_of;
+use crate::faults::{FaultClass, FaultKind, class_of};
 
 /// Which call of the host failed.
 #[derive(Clone, Copy)]
@@ -52,12 +53,11 @@ pub fn answer_of(call: FileCall, kind: FaultKind) -> FaultAnswer
     }
 }
 
-/// The same in numbers. Calls: 0 open, 1 lock, 2 set aside, else place. Kinds as [`class_number`](crate::class_number) has them.
-/// Answers: 0 own, 1 soon, 2 later, 3 leased, 4 taken, 5 nameless, 6 nothing, 7 unsure.
-pub fn answer_number(call: u32, kind: u32) -> u32
-    ensures { result ≡ answer_number (answer_of (call_of call) (kind_of kind)) }
+/// The same in numbers, by the errno. Calls: 0 open, 1 lock, 2 set aside, else place. Answers: 0 own, 1 soon, 2 later, 3 leased, 4 taken, 5 nameless, 6 nothing, 7 unsure.
+pub fn answer_number(call: u32, errno: u32) -> u32
+    ensures { result ≡ answer_number (answer_of (call_of call) (kind_of errno)) }
 {
-    match answer_of(call_of(call), kind_of(kind)) {
+    match answer_of(call_of(call), kind_of(errno)) {
         FaultAnswer::Own => 0,
         FaultAnswer::Soon => 1,
         FaultAnswer::Later => 2,

@@ -2,8 +2,9 @@
 ghost use Rattle.std.specs.Prelude.{◌≡◌};
 ghost use Rattle.std.specs.Prelude.{if◌then◌else◌};
 ghost use Rattle.dconf_verdicts.specs.declared.faults.FaultClass.TheVariants as FaultClass;
-ghost use Rattle.std.specs.Prelude.{IsTrue};
-ghost use Rattle.dconf_verdicts.specs.Faults.{by_class, class_of, fault_of, is_momentary, is_files_own, kind_of, number_of, verdict_number, verdict_of};
+ghost use Rattle.dconf_verdicts.specs.Faults.{by_class, class_of, fault_of, is_files_own, verdict_number, verdict_of};
+
+use crate::errnos::kind_of;
 
 /// What a host says of a call that failed.
 #[derive(Clone, Copy)]
@@ -62,18 +63,6 @@ pub fn class_of(kind: FaultKind, changes: bool) -> FaultClass
     }
 }
 
-/// The same in numbers: 0 rights, 1 read-only, 2 name, 3 kind, 4 damage, 5 scarce, 6 moment, 7 full, 8 disk,
-/// 9 missing, 10 unsupported, 11 wait, and else other; 0 own, 1 soon, 2 later.
-pub fn class_number(kind: u32, changes: bool) -> u32
-    ensures { result ≡ number_of (class_of (kind_of kind) changes) }
-{
-    match class_of(kind_of(kind), changes) {
-        FaultClass::Own => 0,
-        FaultClass::Soon => 1,
-        FaultClass::Later => 2,
-    }
-}
-
 /// Why a change was not made.
 #[derive(Clone, Copy)]
 pub enum ChangeFault {
@@ -81,6 +70,8 @@ pub enum ChangeFault {
     Locked,
     /// An edit can't be made: its path, its type or its value is a bad one, or too large.
     Unfit,
+    /// The file would have over 4 GiB with it.
+    TooLarge,
     /// The host failed so.
     Host(FaultKind),
     /// No memory is left.
@@ -94,10 +85,16 @@ pub enum ChangeFault {
 pub enum Verdict {
     /// Each edit of a key that may not be written, with its change: it is refused, or left out.
     Locked,
+    /// The same of all edits, since nobody who has these rights may write there.
+    Closed,
     /// The change of the edit that can't be made is refused.
     Unfit,
-    /// Nothing is refused, and all goes on waiting.
-    Waits,
+    /// The newest change that sets something is refused.
+    TooLarge,
+    /// Nothing is refused, and all goes on waiting, mostly for a moment.
+    Soon,
+    /// The same, but it may last.
+    Later,
 }
 
 /// What becomes of a change that was not made. Only what stays so refuses anything: not a full disk, and no want of descriptors or
@@ -108,30 +105,25 @@ pub fn verdict_of(fault: ChangeFault) -> Verdict
     match fault {
         ChangeFault::Locked => Verdict::Locked,
         ChangeFault::Unfit => Verdict::Unfit,
+        ChangeFault::TooLarge => Verdict::TooLarge,
         ChangeFault::Host(kind) => by_class(class_of(kind, true)),
-        ChangeFault::Memory | ChangeFault::Busy => Verdict::Waits,
+        ChangeFault::Memory => Verdict::Soon,
+        ChangeFault::Busy => Verdict::Later,
     }
 }
 
-/// The same in numbers: of a fault 0 locked, 1 unfit, 2 the host's of that kind, 3 memory, and else busy; 1 locked, 2 unfit, 3 it waits.
-pub fn verdict_number(fault: u32, kind: u32) -> u32
-    ensures { result ≡ verdict_number (verdict_of (fault_of fault kind)) }
+/// The same in numbers, by the code that the library's header has for what a change failed by, and its errno: 1 locked, 2 unfit, 3 later,
+/// 4 closed, 5 too large, 6 soon. They are answers to a queue (`dconf_steps`).
+pub fn verdict_number(code: u32, errno: u32) -> u32
+    ensures { result ≡ verdict_number (verdict_of (fault_of code errno)) }
 {
-    match verdict_of(fault_of(fault, kind)) {
+    match verdict_of(fault_of(code, errno)) {
         Verdict::Locked => 1,
         Verdict::Unfit => 2,
-        Verdict::Waits => 3,
-    }
-}
-
-/// Whether such a fault passes in a moment, mostly.
-pub fn is_momentary(fault: u32, kind: u32) -> bool
-    ensures { result ≡ is_momentary (fault_of fault kind) }
-{
-    match fault_of(fault, kind) {
-        ChangeFault::Host(kind) => matches!(class_of(kind, true), FaultClass::Soon),
-        ChangeFault::Memory => true,
-        _ => false,
+        Verdict::Later => 3,
+        Verdict::Closed => 4,
+        Verdict::TooLarge => 5,
+        Verdict::Soon => 6,
     }
 }
 
@@ -139,19 +131,21 @@ fn by_class(class: FaultClass) -> Verdict
     ensures { result ≡ by_class class }
 {
     match class {
-        FaultClass::Own => Verdict::Locked,
-        FaultClass::Soon | FaultClass::Later => Verdict::Waits,
+        FaultClass::Own => Verdict::Closed,
+        FaultClass::Soon => Verdict::Soon,
+        FaultClass::Later => Verdict::Later,
     }
 }
 
-fn fault_of(number: u32, kind: u32) -> ChangeFault
-    ensures { result ≡ fault_of number kind }
+fn fault_of(code: u32, errno: u32) -> ChangeFault
+    ensures { result ≡ fault_of code errno }
 {
-    match number {
-        0 => ChangeFault::Locked,
-        1 => ChangeFault::Unfit,
-        2 => ChangeFault::Host(kind_of(kind)),
-        3 => ChangeFault::Memory,
+    match code {
+        15 | 16 => ChangeFault::Locked,
+        13 | 14 | 17 | 20 => ChangeFault::Unfit,
+        18 => ChangeFault::TooLarge,
+        64 => ChangeFault::Host(kind_of(errno)),
+        1 => ChangeFault::Memory,
         _ => ChangeFault::Busy,
     }
 }
@@ -163,27 +157,6 @@ fn own_if(is: bool) -> FaultClass
         FaultClass::Own
     } else {
         FaultClass::Later
-    }
-}
-
-/// The kind of that number.
-pub fn kind_of(number: u32) -> FaultKind
-    ensures { result ≡ kind_of number }
-{
-    match number {
-        0 => FaultKind::Rights,
-        1 => FaultKind::ReadOnly,
-        2 => FaultKind::Name,
-        3 => FaultKind::Kind,
-        4 => FaultKind::Damage,
-        5 => FaultKind::Scarce,
-        6 => FaultKind::Moment,
-        7 => FaultKind::Full,
-        8 => FaultKind::Disk,
-        9 => FaultKind::Missing,
-        10 => FaultKind::Unsupported,
-        11 => FaultKind::Wait,
-        _ => FaultKind::Other,
     }
 }
 

@@ -1,5 +1,5 @@
 //! What becomes of a change: when it is asked for, beside what waits and what is stored, by [`entry_of`]; and when the host fails, by
-//! [`class_of`], and to some calls by [`answer_of`].
+//! [`class_of`] of its kind, and to some calls by [`answer_of`]. Which kind an errno is of says [`kind_of`].
 //!
 //! Nothing is kept here. Whoever asks says what it knows, and does as it is told.
 #![tactic(auto)]
@@ -7,17 +7,23 @@
 ghost use Rattle.dconf_verdicts.specs.Answers.{EachHasOneAnswer};
 ghost use Rattle.dconf_verdicts.specs.Entries.{NewestIsKept};
 ghost use Rattle.dconf_verdicts.specs.Faults.{EachIsOne, OnlyFinalDrops};
+ghost use Rattle.dconf_verdicts.specs.Standings.{EachIsSafe};
 
 mod answers;
 mod entry;
+mod errnos;
 mod faults;
+mod standing;
+mod told;
 
 pub use answers::{FaultAnswer, FileCall, answer_number, answer_of};
 pub use entry::{Entry, NewEdit, entry_number, entry_of, is_news, is_there};
+pub use errnos::kind_of;
 pub use faults::{
-    ChangeFault, FaultClass, FaultKind, Verdict, class_number, class_of, is_files_own,
-    is_momentary, kind_of, verdict_number, verdict_of,
+    ChangeFault, FaultClass, FaultKind, Verdict, class_of, is_files_own, verdict_number, verdict_of,
 };
+pub use standing::{Purpose, Seen, Standing, standing_numbers, standing_of};
+pub use told::{Told, told_code, told_of};
 
 /// A change is refused only where it sets what may not be written. Else it waits, if anything of it may be written: also where it says
 /// what waits, or is there, already.
@@ -40,4 +46,10 @@ pub fn only_a_final_fault_drops()
 /// and after no other; only who locks finds a lock taken, and only who opens finds a lease.
 pub fn each_call_has_one_answer()
     ensures { EachHasOneAnswer }
+{}
+
+/// Only a regular file is read, or is a lock; a lock that is had has its name, and no other; and root follows no link that another could have
+/// put there.
+pub fn each_file_is_safe()
+    ensures { EachIsSafe }
 {}

@@ -2,9 +2,9 @@
 ghost use Rattle.std.specs.Prelude.{◌≡◌};
 ghost use Rattle.std.specs.List.{list_all};
 ghost use Rattle.dconf_verdicts.specs.Entries.{entry_number, entry_of, is_there};
-ghost use Rattle.dconf_verdicts.specs.Faults.{class_of, fault_of, is_momentary, kind_of, number_of, verdict_number, verdict_of};
+ghost use Rattle.dconf_verdicts.specs.Faults.{fault_of, verdict_number, verdict_of};
 
-use dconf_verdicts::{NewEdit, class_number, entry_number, is_momentary, is_there, verdict_number};
+use dconf_verdicts::{NewEdit, entry_number, is_there, verdict_number};
 
 /// What becomes of a change: 0 it is refused, 1 nothing is left of it, 2 it renews the one that waits,
 /// 3 it waits, though nothing is seen otherwise, 4 it waits.
@@ -23,29 +23,12 @@ pub extern "C" fn dconfdb_is_there(edits: &[NewEdit]) -> bool
     is_there(edits)
 }
 
-/// The class of a fault of that kind, of who changes a file, or reads it: 0 the file's own, 1 it passes
-/// soon, 2 it may pass.
+/// What becomes of what waits after a change that was not made, by the header's code of what it failed by, and its errno: 1 what sets keys
+/// that may not be written is refused, 4 the same of all, since nobody may write there, 2 that edit's change is, 5 the newest change that
+/// sets something is, since the file would be too large; 6 all goes on waiting, mostly for a moment, 3 or longer.
 #[unsafe(no_mangle)]
-pub extern "C" fn dconfdb_fault_class(kind: u32, changes: bool) -> u32
-    ensures { result ≡ number_of (class_of (kind_of kind) changes) }
+pub extern "C" fn dconfdb_verdict(code: u32, errno: u32) -> u32
+    ensures { result ≡ verdict_number (verdict_of (fault_of code errno)) }
 {
-    class_number(kind, changes)
-}
-
-/// What becomes of a change that was not made for this fault (0 a key is locked, 1 an edit can't be made,
-/// 2 the host failed by a fault of that kind, 3 no memory is left, else others write): 1 what sets keys
-/// that may not be written is refused, 2 that edit's change is, 3 all goes on waiting.
-#[unsafe(no_mangle)]
-pub extern "C" fn dconfdb_verdict(fault: u32, kind: u32) -> u32
-    ensures { result ≡ verdict_number (verdict_of (fault_of fault kind)) }
-{
-    verdict_number(fault, kind)
-}
-
-/// Whether such a fault passes in a moment, mostly.
-#[unsafe(no_mangle)]
-pub extern "C" fn dconfdb_is_momentary(fault: u32, kind: u32) -> bool
-    ensures { result ≡ is_momentary (fault_of fault kind) }
-{
-    is_momentary(fault, kind)
+    verdict_number(code, errno)
 }

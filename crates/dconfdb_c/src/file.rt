@@ -1,5 +1,5 @@
 //! Whether a file is the one that was read, whose a new one is, and who may take a lock.
-ghost use Rattle.std.specs.Prelude.{◌≡◌};
+ghost use Rattle.std.specs.Prelude.{◌≡◌, if◌then◌else◌};
 ghost use Rattle.dconf_files.specs.Locks.{lock_bits};
 ghost use Rattle.dconf_files.specs.Owners.{IsToldOwner, bits_for, owner_of};
 ghost use Rattle.dconf_files.specs.Stamps.{sameness_number, sameness_of};
@@ -45,19 +45,15 @@ pub extern "C" fn dconfdb_owner_and_bits(
     }
 }
 
-/// The bits of a file that is to have these once it has its group, while it has that or another one.
+/// The permission bits of a file while it has its group or another one: that is to have these once it has its own; or, of a lock's file that
+/// was just made, by those of its folder.
 #[unsafe(no_mangle)]
-pub extern "C" fn dconfdb_bits_for(bits: u32, has_group: bool) -> u32
-    ensures { result ≡ bits_for bits has_group }
+pub extern "C" fn dconfdb_file_bits(of_lock: bool, bits: u32, has_group: bool) -> u32
+    ensures { result ≡ (if of_lock then lock_bits bits has_group else bits_for bits has_group) }
 {
-    bits_for(bits, has_group)
-}
-
-/// The bits of a lock's file that was just made, by those of its folder, of which it has the group or
-/// another one.
-#[unsafe(no_mangle)]
-pub extern "C" fn dconfdb_lock_bits(folder: u32, has_group: bool) -> u32
-    ensures { result ≡ lock_bits folder has_group }
-{
-    lock_bits(folder, has_group)
+    if of_lock {
+        lock_bits(bits, has_group)
+    } else {
+        bits_for(bits, has_group)
+    }
 }

@@ -2,7 +2,7 @@
 ghost use Rattle.std.specs.Prelude.{◌≡◌};
 ghost use Rattle.dconf_steps.specs.LookRecords.{IsLookTold, look_of};
 ghost use Rattle.dconf_steps.specs.Looks.{IsLookAnswered, IsRefreshBegun, is_had, look_step};
-ghost use Rattle.dconf_verdicts.specs.Faults.{kind_of};
+ghost use Rattle.dconf_verdicts.specs.Errnos.{kind_of};
 
 use dconf_steps::{NextStep, RefreshRecord};
 
@@ -39,11 +39,11 @@ pub extern "C" fn dconfdb_refresh_answered(
     *step = refresh.next();
 }
 
-/// What a fault of the host answers to the step, by its kind: no, but to a lenient look a file's own fault
+/// What a fault of the host answers to the step, by its errno: no, but to a lenient look a file's own fault
 /// is a yes to its reading.
 #[unsafe(no_mangle)]
-pub extern "C" fn dconfdb_refresh_is_had(refresh: &RefreshRecord, kind: u32) -> bool
-    ensures { result ≡ is_had (look_step (look_of refresh.now)) refresh.now.is_lenient (kind_of kind) }
+pub extern "C" fn dconfdb_refresh_is_had(refresh: &RefreshRecord, errno: u32) -> bool
+    ensures { result ≡ is_had (look_step (look_of refresh.now)) refresh.now.is_lenient (kind_of errno) }
 {
-    refresh.is_had(kind)
+    refresh.is_had(errno)
 }

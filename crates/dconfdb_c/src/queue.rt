@@ -19,7 +19,7 @@ pub extern "C" fn dconfdb_queue_begin(
     *step = queue.next(edits);
 }
 
-/// Takes the answer to the step: 0 yes, 1 locked, 2 a fault of the edit `at`, else later. It marks
+/// Takes the answer to the step: 0 yes, 2 a fault of the edit `at`, or what `dconfdb_verdict` says. It marks
 /// edits that are left out, and changes that are refused. And what comes next.
 #[unsafe(no_mangle)]
 pub extern "C" fn dconfdb_queue_answered(
@@ -29,7 +29,7 @@ pub extern "C" fn dconfdb_queue_answered(
     at: usize,
     step: &mut NextStep,
 )
-    ensures taken { IsQueueAnswered (queue_of queue.old) edits.old (queue_answer_of answer at) (queue_of queue.new) edits.new }
+    ensures taken { IsQueueAnswered (queue_of queue.old) edits.old (queue_answer_of edits.old answer at) (queue_of queue.new) edits.new }
     ensures step { IsQueueTold (queue_step (queue_of queue.new) edits.new) step.new }
 {
     queue.answered(edits, answer, at);

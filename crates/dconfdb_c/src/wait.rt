@@ -1,33 +1,44 @@
-//! The wait for a lock: what comes next, and what came of it. C carries out each step, and answers.
-ghost use Rattle.dconf_steps.specs.WaitRecords.{IsWaitTold, wait_answer_of, wait_of};
+//! The wait for a lock, or for a file that others have a lease on: what comes next, and what came of it. C carries out each step, and answers.
+ghost use Rattle.std.specs.Prelude.{◌≡◌, ◌==◌, not};
+ghost use Rattle.dconf_steps.specs.WaitRecords.{IsTimed, IsWaitTold, longest_of, passed_by, wait_answer_of, wait_of};
 ghost use Rattle.dconf_steps.specs.Waits.{IsWaitAnswered, IsWaitBegun, wait_step};
 
 use dconf_steps::{NextStep, WaitRecord};
 
-/// A wait of so many milliseconds at most, of which nothing is done yet, and what comes first.
+/// A wait of which nothing is done yet, and what comes first: 0 for a lock, so many milliseconds at most, 1 for a lock, without end, or else for
+/// a file that others have a lease on. `now` is a moment of a clock of nanoseconds that nobody sets.
 #[unsafe(no_mangle)]
-pub extern "C" fn dconfdb_wait_begin(wait: &mut WaitRecord, longest: u32, step: &mut NextStep)
-    ensures begun { IsWaitBegun longest (wait_of wait.new) }
-    ensures step { IsWaitTold (wait_step (wait_of wait.new)) step.new }
+pub extern "C" fn dconfdb_wait_begin(
+    wait: &mut WaitRecord,
+    what: u32,
+    longest: u32,
+    now: u64,
+    step: &mut NextStep,
+)
+    ensures begun { IsWaitBegun (longest_of what longest) (wait_of wait.new) }
+    ensures began { wait.new.began ≡ now }
+    ensures paused { wait.new.paused ≡ 0 }
+    ensures timed { wait.new.is_timed ≡ not (what == 1) }
+    ensures step { IsWaitTold wait.new.tried (wait_step (wait_of wait.new)) step.new }
 {
-    *wait = WaitRecord::begin(longest);
+    *wait = WaitRecord::begin(what, longest, now);
     *step = wait.next();
 }
 
-/// Takes the answer to a try: 0 the lock is had, 1 others have it, 2 its name is another file's by
-/// now, both so many milliseconds after the wait began; else it failed, by that fault. Of a pause,
-/// any. And what comes next.
+/// Takes the answer to a try: which call was the last, and its errno, or 0: 0 the file was opened, 1 it was locked, 2 its name was seen to be
+/// another file's by now, 3 the lock's file was opened. `at` is when the step began. Of a pause, any call. And what comes next.
 #[unsafe(no_mangle)]
 pub extern "C" fn dconfdb_wait_answered(
     wait: &mut WaitRecord,
-    answer: u32,
-    passed: u64,
-    fault: u32,
+    tried: u32,
+    errno: u32,
+    at: u64,
     step: &mut NextStep,
 )
-    ensures taken { IsWaitAnswered (wait_of wait.old) (wait_answer_of answer passed fault) (wait_of wait.new) }
-    ensures step { IsWaitTold (wait_step (wait_of wait.new)) step.new }
+    ensures taken { IsWaitAnswered (wait_of wait.old) (wait_answer_of tried errno (passed_by wait.old at)) (wait_of wait.new) }
+    ensures timed { IsTimed wait.old at wait.new }
+    ensures step { IsWaitTold tried (wait_step (wait_of wait.new)) step.new }
 {
-    wait.answered(answer, passed, fault);
+    wait.answered(tried, errno, at);
     *step = wait.next();
 }

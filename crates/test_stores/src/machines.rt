@@ -15,7 +15,7 @@ fn show(step: NextStep, found: &mut String) -> Result<(), AllocError> {
 }
 
 /// A look at so many files, without an old snapshot, with one, in a turn, or a lenient one with an old snapshot, by answers yes and no, and faults: their
-/// kinds, 0 to 9.
+/// errnos, 1 to 9.
 pub(crate) fn looked(asked: &str, found: &mut String) -> Result<(), AllocError> {
     let (count, rest) = asked.split_once(' ').unwrap_or((asked, ""));
     let (how, answers) = rest.split_once(' ').unwrap_or((rest, ""));
@@ -42,14 +42,16 @@ fn cut(answer: &str) -> (u32, u32) {
     (number(kind), number(n))
 }
 
-/// A wait of so many milliseconds, by answers.
+/// A wait for that, of so many milliseconds, by answers, each in a millisecond.
 pub(crate) fn waited(asked: &str, found: &mut String) -> Result<(), AllocError> {
-    let (longest, answers) = asked.split_once(' ').unwrap_or((asked, ""));
-    let mut wait = WaitRecord::begin(number(longest));
-    for answer in answers.split_terminator(' ') {
-        let (kind, n) = cut(answer);
+    let (what, rest) = asked.split_once(' ').unwrap_or((asked, ""));
+    let (longest, answers) = rest.split_once(' ').unwrap_or((rest, ""));
+    let mut wait = WaitRecord::begin(number(what), number(longest), 0);
+    for word in answers.split_terminator(' ') {
+        let (answer, moment) = word.split_once('@').unwrap_or((word, "0"));
+        let (tried, errno) = cut(answer);
         show(wait.next(), found)?;
-        wait.answered(kind, u64::from(n), n);
+        wait.answered(tried, errno, u64::from(number(moment)) * 1_000_000);
     }
     show(wait.next(), found)
 }
@@ -135,23 +137,33 @@ const LOOKS: &str = "
 2 turn ynyyy | 1.0 2.0 4.0 0.1 3.1 7.0
 2 turn ynyyyn | 1.0 2.0 4.0 0.1 3.1 7.0 7.0
 -- a file's own fault, and one that passes; what can't be asked about is read
-1 lenient n0ny | 0.0 1.0 2.0 4.0 7.0
+1 lenient n1ny | 0.0 1.0 2.0 4.0 7.0
 1 lenient n5 | 0.0 1.0 5.0
-1 lenient 0 | 0.0 1.0
-1 old n0 | 0.0 1.0 5.0
+1 lenient 1 | 0.0 1.0
+1 old n1 | 0.0 1.0 5.0
 ";
 
-/// 0 try, 1 pause; 2 had, 3 busy, 4 stopped. An answer: 0 got, 1 taken, 2 moved, 3 failed.
+/// 0 try, 1 pause; 2 had, 3 busy, 4 stopped. What is waited for: 0 a lock, 1 a lock, without end, 2 a file. An answer: 0 opened, 1 locked, 2
+/// named, 3 opened the lock's file; its errno, and the millisecond.
 const WAITS: &str = "
-0 0 | 0.0 2.0
-0 1:0 | 0.0 3.0
-10 1:3 0 2:4 1:10 | 0.0 1.0 0.0 0.0 3.0
-10 1:3 0 3:28 | 0.0 1.0 0.0 4.28
+0 0 1 | 0.0 2.0
+0 0 1:11 | 0.0 3.11
+0 0 3:11 | 0.0 3.16
+0 0 1:4 | 0.0 4.4
+0 10 1:11@3 0@4 2@4 1:11@10 | 0.0 1.200000 0.0 0.0 3.11
+0 10 1:11@3 0@4 1:28 | 0.0 1.200000 0.0 4.28
+0 10 2:30 | 0.0 4.30
 -- a clock that stands still
-1 1 0 1 0 1 0 1 0 1 0 1 | 0.0 1.0 0.0 1.0 0.0 1.0 0.0 1.0 0.0 1.0 0.0 3.0
+0 1 1:11 0 1:11 0 1:11 0 1:11 0 1:11 0 1:11 | 0.0 1.200000 0.0 1.200000 0.0 1.200000 0.0 1.200000 0.0 1.200000 0.0 3.11
+-- a pause in which the machine stood still counts as 50 milliseconds
+0 60 1:11@1 0@1 1:11@110 0@110 1:11@119 | 0.0 1.200000 0.0 1.200000 0.0 3.11
+0 51 1:11@1 0@1 1:11@109 | 0.0 1.200000 0.0 3.11
+-- a lease is waited for a second, and a lock without end
+2 0 0:11@999 0@999 0:11@1000 | 0.0 1.200000 0.0 3.11
+1 0 1:11@99999 0 3:11@999999 | 0.0 1.200000 0.0 1.200000
 ";
 
-/// 0 take, 1 pass, 2 write, 3 ask; 4 written, 5 waiting. An answer: 0 yes, 1 locked, 2 fault, 3 later.
+/// 0 take, 1 pass, 2 write, 3 ask; 4 written, 5 waiting. An answer: 0 yes, 1 locked, 2 fault, 3 later, 4 closed, 5 too large, 6 soon.
 const QUEUES: &str = "
 0 0 0 0 | 0.0 0.1 0.2 2.0 4.0 00 00 00
 0 0 0 3 | 0.0 0.1 0.2 2.0 5.0 00 00 00
@@ -164,6 +176,11 @@ const QUEUES: &str = "
 -- a refusal that took nothing away
 0 0 0 1 0 0 0 | 0.0 0.1 0.2 2.0 3.0 3.1 3.2 5.0 00 00 00
 0 0 0 2:9 | 0.0 0.1 0.2 2.0 5.0 00 00 00
+0 0 0 6 | 0.0 0.1 0.2 2.0 5.0 00 00 00
+-- where nobody may write, and where the file would be too large: then the newest set is refused
+0 0 0 4 0 1 0 0 0 0 0 | 0.0 0.1 0.2 2.0 3.0 3.1 3.2 0.0 1.1 0.2 2.0 4.0 00 10 00
+0 0 0 5 0 0 0 5 | 0.0 0.1 0.2 2.0 0.0 0.1 1.2 2.0 1.0 01 00 01
+0 0 0 1 1 0 1 0 0 0 5 | 0.0 0.1 0.2 2.0 3.0 1.1 3.2 1.0 1.1 1.2 2.0 5.0 01 00 01
 ";
 
 /// 0 watch, 1 look, 2 rest. An answer y or n, or an event: 0 a file, 1 a folder, 2 time.

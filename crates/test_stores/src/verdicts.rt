@@ -1,7 +1,7 @@
 //! What becomes of a change that is asked for, and of one that waits; and what a fault means to it.
 use dconf_files::{FileStamp, FileTime, bits_for, lock_bits, sameness_number};
 use dconf_verdicts::{
-    NewEdit, answer_number, class_number, entry_number, is_momentary, is_news, is_there,
+    NewEdit, Seen, answer_number, entry_number, is_news, is_there, standing_numbers, told_code,
     verdict_number,
 };
 use dconf_waiting::{
@@ -53,28 +53,94 @@ fn are_entered() -> bool {
         && !is_there(&[barred])
 }
 
-fn are_classed() -> bool {
-    class_number(0, true) == 0
-        && class_number(1, true) == 0
-        && class_number(1, false) == 2
-        && class_number(4, true) == 2
-        && class_number(4, false) == 0
-        && class_number(5, true) == 1
-        && class_number(7, true) == 2
-        && class_number(77, false) == 2
+/// By the codes of the header: NOT_WRITABLE, LOCKED; BAD_PATH, BAD_VALUE; FILE; MEMORY, BUSY; FILE_TOO_LARGE; and by EACCES, EROFS, EMFILE,
+/// ENOSPC, ENOENT.
+fn are_dropped() -> bool {
+    verdict_number(15, 0) == 1
+        && verdict_number(16, 0) == 1
+        && verdict_number(13, 9) == 2
+        && verdict_number(20, 0) == 2
+        && verdict_number(64, 13) == 4
+        && verdict_number(64, 30) == 4
+        && verdict_number(64, 24) == 6
+        && verdict_number(64, 28) == 3
+        && verdict_number(64, 2) == 3
+        && verdict_number(1, 0) == 6
+        && verdict_number(65, 0) == 3
+        && verdict_number(18, 0) == 5
+        && verdict_number(99, 0) == 3
 }
 
-fn are_dropped() -> bool {
-    verdict_number(0, 9) == 1
-        && verdict_number(1, 9) == 2
-        && verdict_number(2, 0) == 1
-        && verdict_number(2, 5) == 3
-        && verdict_number(2, 7) == 3
-        && verdict_number(3, 0) == 3
-        && verdict_number(4, 0) == 3
-        && is_momentary(2, 5)
-        && is_momentary(3, 0)
-        && !is_momentary(2, 7)
+/// ENOMEM, EOVERFLOW, EAGAIN, of a file and of the lock.
+fn are_told() -> bool {
+    told_code(false, 12) == 1
+        && told_code(false, 75) == 18
+        && told_code(false, 11) == 64
+        && told_code(true, 12) == 1
+        && told_code(true, 11) == 65
+        && told_code(true, 2) == 64
+}
+
+/// A file of root's, of 65,537 bytes, with one name.
+const STOOD: Seen = Seen {
+    fault: 0,
+    mode: 0o100_600,
+    user: 0,
+    links: 1,
+    size: 65_537,
+    most: 65_537,
+    may_map: false,
+    may_stop: false,
+    is_named: true,
+    is_root: true,
+};
+
+fn failed(purpose: u32, fault: u32) -> (u32, u32) {
+    standing_numbers(purpose, &Seen { fault, ..STOOD })
+}
+
+fn of_mode(purpose: u32, mode: u32) -> (u32, u32) {
+    standing_numbers(purpose, &Seen { mode, ..STOOD })
+}
+
+fn files_stand() -> bool {
+    let shared = Seen { links: 2, ..STOOD };
+    let moved = Seen {
+        is_named: false,
+        ..STOOD
+    };
+    let mapped = Seen {
+        may_map: true,
+        may_stop: true,
+        ..STOOD
+    };
+    let large = Seen {
+        most: 65_536,
+        ..STOOD
+    };
+    let others = Seen { user: 7, ..STOOD };
+    failed(0, 2) == (1, 0)
+        && failed(0, 13) == (5, 13)
+        && failed(1, 13) == (0, 0)
+        && of_mode(1, 0o040_700) == (5, 21)
+        && of_mode(2, 0o010_600) == (5, 22)
+        && standing_numbers(2, &large) == (5, 75)
+        && standing_numbers(2, &mapped) == (2, 0)
+        && failed(3, 40) == (5, 22)
+        && failed(3, 2) == (1, 0)
+        && of_mode(3, 0o040_700) == (5, 22)
+        && standing_numbers(4, &STOOD) == (0, 0)
+        && standing_numbers(4, &shared) == (4, 0)
+        && standing_numbers(4, &moved) == (1, 0)
+        && of_mode(5, 0o041_755) == (0, 0)
+        && of_mode(5, 0o041_775) == (5, 13)
+        && of_mode(5, 0o041_777) == (5, 13)
+        && standing_numbers(5, &others) == (5, 13)
+        && failed(6, 21) == (4, 0)
+        && failed(7, 22) == (5, 95)
+        && failed(8, 17) == (1, 0)
+        && failed(9, 38) == (4, 0)
+        && failed(10, 39) == (5, 17)
 }
 
 fn the_newest_is_found() -> bool {
@@ -172,17 +238,18 @@ const SET_ASIDE: u32 = 2;
 
 const PLACE: u32 = 3;
 
+/// By EAGAIN, EROFS, EINTR, EPERM, ENOENT, EIO, one that nobody knows, and EOPNOTSUPP.
 fn are_answered() -> bool {
     answer_number(OPEN, 11) == 3
-        && answer_number(OPEN, 1) == 2
+        && answer_number(OPEN, 30) == 2
         && answer_number(LOCK, 11) == 4
-        && answer_number(LOCK, 6) == 1
-        && answer_number(SET_ASIDE, 0) == 5
-        && answer_number(SET_ASIDE, 9) == 6
-        && answer_number(PLACE, 8) == 7
+        && answer_number(LOCK, 4) == 1
+        && answer_number(SET_ASIDE, 1) == 5
+        && answer_number(SET_ASIDE, 2) == 6
+        && answer_number(PLACE, 5) == 7
         && answer_number(PLACE, 77) == 7
-        && answer_number(PLACE, 10) == 2
-        && answer_number(PLACE, 1) == 0
+        && answer_number(PLACE, 95) == 2
+        && answer_number(PLACE, 30) == 0
 }
 
 /// A file that changed when a second had passed for so many nanoseconds.
@@ -244,7 +311,7 @@ fn files_are_told_apart(rt: HostRuntime) -> Result<(), Fail> {
 
 #[test]
 fn changes_and_faults_are_judged(rt: HostRuntime) -> Result<(), Fail> {
-    assert!(rt; are_entered() && are_classed() && are_dropped() && are_answered());
+    assert!(rt; are_entered() && are_dropped() && are_told() && are_answered() && files_stand());
     Ok(())
 }
 

@@ -1,0 +1,72 @@
+-- What is read, what is a lock, and what root follows.
+use Rattle.std.proofs.Common.{◌≡◌, Bool, true, false, not, ◌&&◌, ◌||◌, refl, ◌==◌}
+use Rattle.std.specs.Prelude.{ℕ, if◌then◌else◌, nat_lt}
+use Rattle.dconf_verdicts.specs.declared.standing.Standing.{Standing}
+use Rattle.dconf_verdicts.specs.declared.standing.Standing.TheVariants.{Good, Nothing, Map, Head, Other, Fault}
+use Rattle.dconf_verdicts.specs.Standings.{is_regular, is_roots_alone, is_no_file, fault_of_mode, EachIsSafe}
+
+abbrev sized : Bool → Bool → Bool → Bool → Bool → Standing
+sized over none large map stop = if over then Fault 75 else if none then Nothing else if not large then Good else if map then Map else if stop then Head else Good
+
+abbrev take : Bool → ℕ → Bool → ℕ → Bool → Bool → Bool → Bool → Bool → Standing
+take done errno regular fault over none large map stop = if not done then Fault errno else if regular then sized over none large map stop else Fault fault
+
+sized_good : (over none large map stop : Bool) → sized over none large map stop ≡ Good → over ≡ false
+sized_good true none large map stop e = cc
+sized_good false none large map stop e = refl
+
+sized_map : (over none large map stop : Bool) → sized over none large map stop ≡ Map → over ≡ false
+sized_map true none large map stop e = cc
+sized_map false none large map stop e = refl
+
+take_good : (done : Bool) (errno : ℕ) (regular : Bool) (fault : ℕ) (over none large map stop : Bool) → take done errno regular fault over none large map stop ≡ Good
+    → (regular ≡ true) × (over ≡ false)
+take_good false errno regular fault over none large map stop e = cc
+take_good true errno false fault over none large map stop e = cc
+take_good true errno true fault over none large map stop e = (refl, sized_good over none large map stop e)
+
+take_map : (done : Bool) (errno : ℕ) (regular : Bool) (fault : ℕ) (over none large map stop : Bool) → take done errno regular fault over none large map stop ≡ Map
+    → (regular ≡ true) × (over ≡ false)
+take_map false errno regular fault over none large map stop e = cc
+take_map true errno false fault over none large map stop e = cc
+take_map true errno true fault over none large map stop e = (refl, sized_map over none large map stop e)
+
+abbrev look : Bool → Bool → ℕ → Standing
+look done missing errno = if done then Good else if missing then Nothing else Fault errno
+
+abbrev lock : Bool → Bool → Bool → Bool → ℕ → Standing
+lock done regular other missing errno = if done then (if regular then Good else Fault 22) else if other then Fault 22 else look done missing errno
+
+lock_good : (done regular other missing : Bool) (errno : ℕ) → lock done regular other missing errno ≡ Good → regular ≡ true
+lock_good true true other missing errno e = refl
+lock_good true false other missing errno e = cc
+lock_good false regular true missing errno e = cc
+lock_good false regular false true errno e = cc
+lock_good false regular false false errno e = cc
+
+abbrev held : Bool → Bool → Bool → Standing
+held done named more = if not done || not named then Nothing else if more then Other else Good
+
+held_good : (done named more : Bool) → held done named more ≡ Good → (named ≡ true) × (more ≡ false)
+held_good false named more e = cc
+held_good true false more e = cc
+held_good true true true e = cc
+held_good true true false e = (refl, refl)
+
+abbrev follow : Bool → Bool → Bool → Standing
+follow root done alone = if not root then Good else if done && alone then Good else Fault 13
+
+follow_good : (root done alone : Bool) → root ≡ true → follow root done alone ≡ Good → alone ≡ true
+follow_good false done alone r e = absurd (let bad : false ≡ true = r in cc)
+follow_good true done true r e = refl
+follow_good true false false r e = cc
+follow_good true true false r e = cc
+
+pub each_is_safe : EachIsSafe
+each_is_safe s = record {
+  regular = take_good (s.fault == 0) s.fault (is_regular s.mode) (fault_of_mode s.mode) (nat_lt s.most s.size) (s.size == 0) (nat_lt 65536 s.size) s.may_map s.may_stop;
+  mapped = take_map (s.fault == 0) s.fault (is_regular s.mode) (fault_of_mode s.mode) (nat_lt s.most s.size) (s.size == 0) (nat_lt 65536 s.size) s.may_map s.may_stop;
+  lock = lock_good (s.fault == 0) (is_regular s.mode) (is_no_file s.fault) (s.fault == 2) s.fault;
+  held = held_good (s.fault == 0) s.is_named (nat_lt 1 s.links);
+  followed = follow_good s.is_root (s.fault == 0) (is_roots_alone s);
+}
