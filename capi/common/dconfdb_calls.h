@@ -778,18 +778,12 @@ uint64_t dconfdb_notice_answered(DconfdbNotice *notice, bool yes, uint64_t now);
 /* ---- what is watched of the names on the way to a file, and what is heard of them, as DCONFDB_NOTICE_FILE, _FOLDER or _NOTHING */
 
 typedef struct {
-    uint32_t watch, way;
+    uint32_t watch;
+    uint32_t asked; /* of inotify */
+    uint32_t way;
     uint32_t comes; /* what is heard if something comes there */
+    bool is_needed; /* without it something would be missed */
 } DconfdbWatchedName;
-
-/* What stands at a name. */
-enum {
-    DCONFDB_FOUND_NOTHING,
-    DCONFDB_FOUND_LINK,
-    DCONFDB_FOUND_FOLDER,
-    DCONFDB_FOUND_FILE, /* that has no other name */
-    DCONFDB_FOUND_OTHER
-};
 
 /* What is watched. */
 enum {
@@ -804,34 +798,19 @@ enum {
 enum {
     DCONFDB_WAY_ENDS,
     DCONFDB_WAY_FOLLOWS, /* the link */
-    DCONFDB_WAY_ENTERS   /* the folder */
+    DCONFDB_WAY_ENTERS,  /* the folder */
+    DCONFDB_WAY_STAYS,
+    DCONFDB_WAY_RISES /* to the folder above */
 };
 
-/* What happens, */
-enum {
-    DCONFDB_EVENT_MADE,
-    DCONFDB_EVENT_CAME,
-    DCONFDB_EVENT_WENT,
-    DCONFDB_EVENT_WRITTEN,
-    DCONFDB_EVENT_ACCESS, /* is another's, or others may do other things */
-    DCONFDB_EVENT_GONE,   /* is a folder that is watched itself */
-    DCONFDB_EVENT_LOST,   /* isn't known */
-    DCONFDB_EVENT_OTHER   /* is nothing that was asked for */
-};
+/* Of a name in a folder; the root's path is empty. `minds`: much that happens is minded. `is_last`: it is the file's own name. `mode` and
+ * `links` are st_mode and st_nlink of what stands there, 0 where nothing does. `role`: what is heard of a change of the file. */
+void dconfdb_watched_name(bool minds, const uint8_t *folder, size_t folder_len, const uint8_t *name, size_t name_len, bool is_last, uint32_t mode,
+                          uint64_t links, uint32_t role, DconfdbWatchedName *watched);
 
-/* and to what. */
-enum {
-    DCONFDB_OF_NAME,
-    DCONFDB_OF_FOLDER, /* in which the name is, or that is watched itself */
-    DCONFDB_OF_ANOTHER
-};
-
-/* Of a name at which that stands. `is_last`: it is the file's own. `is_busy_above`, `is_busy`: much happens in the folder above, or in
- * this one, and isn't minded. `role`: what is heard of a change of the file. */
-void dconfdb_watched_name(uint32_t found, bool is_last, bool is_busy_above, bool is_busy, uint32_t role, DconfdbWatchedName *name);
-
-/* What is heard of an event at a name, at which that stands by now; or what was heard before, if that means more. */
-uint32_t dconfdb_heard(uint32_t before, uint32_t watch, uint32_t comes, uint32_t event, uint32_t of, uint32_t found);
+/* What is heard of inotify's event at a name; or what was heard before, if that means more. `has_name`: it isn't the folder's own.
+ * `is_same`: it is of the name that is watched, at which that stands by now. */
+uint32_t dconfdb_heard(uint32_t before, uint32_t watch, uint32_t comes, uint32_t mask, bool has_name, bool is_same, uint32_t mode, uint64_t links);
 
 /* ---- when what waits is written. All moments are of one clock, in microseconds; 0 is none. */
 

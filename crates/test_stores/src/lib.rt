@@ -40,3 +40,5 @@ mod times;
 mod turns;
 #[cfg(test)]
 mod verdicts;
+#[cfg(test)]
+mod watches;
