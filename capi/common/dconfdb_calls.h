@@ -1104,7 +1104,7 @@ uint32_t dconfdb_path_kind(const uint8_t *text, size_t len, bool *is_short);
 /* The same of what follows the slash of a directory. */
 uint32_t dconfdb_relative_kind(const uint8_t *text, size_t len);
 
-/* ---- keyfiles and lock files, line by line, and what a text is */
+/* ---- keyfiles and lock files, line by line */
 
 /* Where the reading of a text has come: {TEXT, DCONFDB_NOTHING, 0, 0} at first. Nobody else writes its fields. */
 typedef struct {
@@ -1130,20 +1130,39 @@ enum {
 
 /* What the next line of a keyfile, or of a lock file, says, whatever is wrong with those before it. Behind a line that should name a
  * group and names none, keys are left out up to the next one. False: there is none, and nothing is written. */
-bool dconfdb_keyfile_line(DconfdbCursor *cursor, DconfdbLine *line);
-bool dconfdb_lock_line(DconfdbCursor *cursor, DconfdbLine *line);
+bool dconfdb_line(bool is_of_locks, DconfdbCursor *cursor, DconfdbLine *line);
 
-/* What a text is, by the first line that begins with `[`, starts with `/`, or has a zero byte; or, where all before it are comments, that
- * names a database. */
+/* ---- as what the files of a site are looked at */
+
+/* As what `update` takes a file, or those of a folder. */
 enum {
-    DCONFDB_TEXT_KEYFILE,
-    DCONFDB_TEXT_LOCKS,
-    DCONFDB_TEXT_PROFILE,
-    DCONFDB_TEXT_EMPTY, /* it has nothing but comments */
-    DCONFDB_TEXT_NEITHER
+    DCONFDB_ROLE_BY_ITS_TEXT, /* it lies in no folder NAME.d: what it is, its text says */
+    DCONFDB_ROLE_KEYFILE,
+    DCONFDB_ROLE_LOCKS,
+    DCONFDB_ROLE_HIDDEN, /* it leaves it out */
+    DCONFDB_ROLE_UNREAD  /* it doesn't read it: it lies in another folder below NAME.d */
 };
 
-uint32_t dconfdb_text_kind(const uint8_t *text, size_t len);
+/* Of what has that name in a folder of that role: of the files in a folder, or of a file. A path is gone through from the root, whose
+ * files are what their text says; behind each folder NAME.d the role is that of keyfiles. */
+uint32_t dconfdb_role_after(uint32_t role, const uint8_t *name, size_t name_len, bool is_folder);
+
+/* As what a file is looked at, or why not. */
+enum {
+    DCONFDB_READ_KEYFILE,
+    DCONFDB_READ_LOCKS,
+    DCONFDB_READ_PROFILE,
+    DCONFDB_READ_DATABASE,
+    DCONFDB_READ_NOTHING,   /* it is hidden from `update` */
+    DCONFDB_READ_UNREAD,    /* `update` doesn't read it */
+    DCONFDB_READ_NO_SOURCE, /* it is a database among sources */
+    DCONFDB_READ_TOO_BIG,
+    DCONFDB_READ_NEITHER
+};
+
+/* Of a file of so many bytes, of which these are there: all that a text has, or the first of another file. `is_one_read`: of the files that
+ * are asked for, `update` reads one of the same folder NAME.d. Before anything is read of it, its role alone says whether it is to be. */
+uint32_t dconfdb_read_as(uint32_t role, bool is_one_read, uint64_t size, const uint8_t *text, size_t len);
 
 #ifdef __cplusplus
 }

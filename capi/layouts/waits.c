@@ -224,13 +224,12 @@ static void finds_watched_name(void)
     Written name = room_of("DconfdbWatchedName"), other = name;
     dconfdb_watched_name(true, (const uint8_t *)"/a", 2, (const uint8_t *)"b", 1, false, 0, 0, 0, name.bytes);
     dconfdb_watched_name(true, (const uint8_t *)"/a", 2, (const uint8_t *)".", 1, false, 0, 0, 0, other.bytes);
+    takes(&name, "is_needed", flag_of(&name, &other), FLAG);
     finds_number(&name, "watch", 2);
     finds_number(&name, "asked", 0x3c0);
     finds_number(&name, "way", 0);
     finds_number(&name, "comes", 1);
-    takes(&name, "is_needed", bit_of(&name, &other, name.end, name.end + 1, 1, 0), FLAG);
-    ends(&name);
-    is_so(name.end <= WATCHED_NAME, "DconfdbWatchedName");
+    is_so(ends(&name) == WATCHED_NAME, "DconfdbWatchedName");
 }
 
 /* Edits are read and written: a set, and a reset that is of the same change. */

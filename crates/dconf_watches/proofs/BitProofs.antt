@@ -1,5 +1,5 @@
 -- What inotify tells and is asked for, bit by bit.
-use Rattle.std.proofs.Common.{◌≡◌, ◌≢◌, true, refl, inl, inr}
+use Rattle.std.proofs.Common.{◌≡◌, ◌≢◌, refl, inl, inr}
 use Rattle.dconf_watches.specs.declared.name.Found.{Found}
 use Rattle.dconf_watches.specs.declared.name.NameWatch.{NameWatch}
 use Rattle.dconf_watches.specs.declared.event.Event.{Event}

@@ -1,7 +1,7 @@
 //! What is watched of the names on the way to a file, and what is heard of what inotify tells.
 use dconf_watches::{
-    Event, Found, NameWatch, Way, asked_of, event_in, found_by, heard_number, is_busy,
-    is_busy_in, is_needed, watch_at, way_at,
+    Event, Found, NameWatch, Way, asked_of, event_in, found_by, heard_number, is_busy, is_busy_in,
+    is_needed, watch_at, way_at,
 };
 use std::test::Fail;
 
@@ -10,6 +10,7 @@ const NOTHING: u32 = 2;
 
 /// A regular file, and a link, by st_mode.
 const FILE: u32 = 0o100644;
+
 const LINK: u32 = 0o120777;
 
 /// What is heard at a file's own name, at which that stands by then, of a mask that has its name.
@@ -75,13 +76,21 @@ fn names_are_gone_through() -> bool {
         && matches!(way_at(".".as_bytes(), Way::Ends), Way::Stays)
         && matches!(way_at("..".as_bytes(), Way::Ends), Way::Rises)
         && matches!(way_at("...".as_bytes(), Way::Ends), Way::Ends)
-        && matches!(watch_at("..".as_bytes(), NameWatch::Own), NameWatch::Nothing)
+        && matches!(
+            watch_at("..".as_bytes(), NameWatch::Own),
+            NameWatch::Nothing
+        )
         && matches!(watch_at(etc, NameWatch::Own), NameWatch::Own)
 }
 
 #[test]
 fn names_are_watched_and_heard(rt: HostRuntime) -> Result<(), Fail> {
-    assert!(rt; events_are_read() && what_stands_is_read() && names_are_heard() && all_that_is_heard_is_asked_for());
+    assert!(rt;
+        events_are_read()
+            && what_stands_is_read()
+            && names_are_heard()
+            && all_that_is_heard_is_asked_for()
+    );
     assert!(rt; names_are_gone_through());
     Ok(())
 }
