@@ -1,5 +1,5 @@
 -- What `update` reads is looked at as that.
-use Rattle.std.proofs.Common.{◌≡◌, ℕ, List, [], ◌∷◌, ◌++◌, ◌∙◌, Bool, true, false, ap, refl}
+use Rattle.std.proofs.Common.{◌≡◌, ℕ, List, ◌++◌, ◌∙◌, Bool, true, false, ap, refl}
 use Rattle.std.specs.Prelude.{codes, map, if◌then◌else◌}
 use Rattle.dconf_model.specs.Updates.{is_shown}
 use Rattle.dconf_roles.specs.declared.roles.Role.{Role}
