@@ -789,18 +789,12 @@ uint64_t dconfdb_notice_answered(DconfdbNotice *notice, bool yes, uint64_t now);
 /* ---- what is watched of the names on the way to a file, and what is heard of them, as DCONFDB_NOTICE_FILE, _FOLDER or _NOTHING */
 
 typedef struct {
-    uint32_t watch, way;
+    uint32_t watch;
+    uint32_t asked; /* of inotify */
+    uint32_t way;
     uint32_t comes; /* what is heard if something comes there */
+    bool is_needed; /* without it something would be missed */
 } DconfdbWatchedName;
-
-/* What stands at a name. */
-enum {
-    DCONFDB_FOUND_NOTHING,
-    DCONFDB_FOUND_LINK,
-    DCONFDB_FOUND_FOLDER,
-    DCONFDB_FOUND_FILE, /* that has no other name */
-    DCONFDB_FOUND_OTHER
-};
 
 /* What is watched. */
 enum {
@@ -815,34 +809,19 @@ enum {
 enum {
     DCONFDB_WAY_ENDS,
     DCONFDB_WAY_FOLLOWS, /* the link */
-    DCONFDB_WAY_ENTERS   /* the folder */
+    DCONFDB_WAY_ENTERS,  /* the folder */
+    DCONFDB_WAY_STAYS,
+    DCONFDB_WAY_RISES /* to the folder above */
 };
 
-/* What happens, */
-enum {
-    DCONFDB_EVENT_MADE,
-    DCONFDB_EVENT_CAME,
-    DCONFDB_EVENT_WENT,
-    DCONFDB_EVENT_WRITTEN,
-    DCONFDB_EVENT_ACCESS, /* is another's, or others may do other things */
-    DCONFDB_EVENT_GONE,   /* is a folder that is watched itself */
-    DCONFDB_EVENT_LOST,   /* isn't known */
-    DCONFDB_EVENT_OTHER   /* is nothing that was asked for */
-};
+/* Of a name in a folder; the root's path is empty. `minds`: much that happens is minded. `is_last`: it is the file's own name. `mode` and
+ * `links` are st_mode and st_nlink of what stands there, 0 where nothing does. `role`: what is heard of a change of the file. */
+void dconfdb_watched_name(bool minds, const uint8_t *folder, size_t folder_len, const uint8_t *name, size_t name_len, bool is_last, uint32_t mode,
+                          uint64_t links, uint32_t role, DconfdbWatchedName *watched);
 
-/* and to what. */
-enum {
-    DCONFDB_OF_NAME,
-    DCONFDB_OF_FOLDER, /* in which the name is, or that is watched itself */
-    DCONFDB_OF_ANOTHER
-};
-
-/* Of a name at which that stands. `is_last`: it is the file's own. `is_busy_above`, `is_busy`: much happens in the folder above, or in
- * this one, and isn't minded. `role`: what is heard of a change of the file. */
-void dconfdb_watched_name(uint32_t found, bool is_last, bool is_busy_above, bool is_busy, uint32_t role, DconfdbWatchedName *name);
-
-/* What is heard of an event at a name, at which that stands by now; or what was heard before, if that means more. */
-uint32_t dconfdb_heard(uint32_t before, uint32_t watch, uint32_t comes, uint32_t event, uint32_t of, uint32_t found);
+/* What is heard of inotify's event at a name; or what was heard before, if that means more. `has_name`: it isn't the folder's own.
+ * `is_same`: it is of the name that is watched, at which that stands by now. */
+uint32_t dconfdb_heard(uint32_t before, uint32_t watch, uint32_t comes, uint32_t mask, bool has_name, bool is_same, uint32_t mode, uint64_t links);
 
 /* ---- when what waits is written. All moments are of one clock, in microseconds; 0 is none. */
 
@@ -1186,7 +1165,7 @@ uint32_t dconfdb_path_kind(const uint8_t *text, size_t len, bool *is_short);
 /* The same of what follows the slash of a directory. */
 uint32_t dconfdb_relative_kind(const uint8_t *text, size_t len);
 
-/* ---- keyfiles and lock files, line by line, and what a text is */
+/* ---- keyfiles and lock files, line by line */
 
 /* Where the reading of a text has come: {TEXT, DCONFDB_NOTHING, 0, 0} at first. Nobody else writes its fields. */
 typedef struct {
@@ -1212,20 +1191,39 @@ enum {
 
 /* What the next line of a keyfile, or of a lock file, says, whatever is wrong with those before it. Behind a line that should name a
  * group and names none, keys are left out up to the next one. False: there is none, and nothing is written. */
-bool dconfdb_keyfile_line(DconfdbCursor *cursor, DconfdbLine *line);
-bool dconfdb_lock_line(DconfdbCursor *cursor, DconfdbLine *line);
+bool dconfdb_line(bool is_of_locks, DconfdbCursor *cursor, DconfdbLine *line);
 
-/* What a text is, by the first line that begins with `[`, starts with `/`, or has a zero byte; or, where all before it are comments, that
- * names a database. */
+/* ---- as what the files of a site are looked at */
+
+/* As what `update` takes a file, or those of a folder. */
 enum {
-    DCONFDB_TEXT_KEYFILE,
-    DCONFDB_TEXT_LOCKS,
-    DCONFDB_TEXT_PROFILE,
-    DCONFDB_TEXT_EMPTY, /* it has nothing but comments */
-    DCONFDB_TEXT_NEITHER
+    DCONFDB_ROLE_BY_ITS_TEXT, /* it lies in no folder NAME.d: what it is, its text says */
+    DCONFDB_ROLE_KEYFILE,
+    DCONFDB_ROLE_LOCKS,
+    DCONFDB_ROLE_HIDDEN, /* it leaves it out */
+    DCONFDB_ROLE_UNREAD  /* it doesn't read it: it lies in another folder below NAME.d */
 };
 
-uint32_t dconfdb_text_kind(const uint8_t *text, size_t len);
+/* Of what has that name in a folder of that role: of the files in a folder, or of a file. A path is gone through from the root, whose
+ * files are what their text says; behind each folder NAME.d the role is that of keyfiles. */
+uint32_t dconfdb_role_after(uint32_t role, const uint8_t *name, size_t name_len, bool is_folder);
+
+/* As what a file is looked at, or why not. */
+enum {
+    DCONFDB_READ_KEYFILE,
+    DCONFDB_READ_LOCKS,
+    DCONFDB_READ_PROFILE,
+    DCONFDB_READ_DATABASE,
+    DCONFDB_READ_NOTHING,   /* it is hidden from `update` */
+    DCONFDB_READ_UNREAD,    /* `update` doesn't read it */
+    DCONFDB_READ_NO_SOURCE, /* it is a database among sources */
+    DCONFDB_READ_TOO_BIG,
+    DCONFDB_READ_NEITHER
+};
+
+/* Of a file of so many bytes, of which these are there: all that a text has, or the first of another file. `is_one_read`: of the files that
+ * are asked for, `update` reads one of the same folder NAME.d. Before anything is read of it, its role alone says whether it is to be. */
+uint32_t dconfdb_read_as(uint32_t role, bool is_one_read, uint64_t size, const uint8_t *text, size_t len);
 
 #ifdef __cplusplus
 }

@@ -18,5 +18,6 @@ int main(void)
     finds_others();
     finds_places();
     finds_lines();
+    tries_inotify();
     return 0;
 }

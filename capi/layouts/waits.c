@@ -17,7 +17,8 @@ void dconfdb_wait_answered(void *wait, uint32_t tried, uint32_t fault, uint64_t 
 void dconfdb_notice_begin(void *notice);
 void dconfdb_notice_heard(void *notice, uint32_t event, uint64_t now);
 uint64_t dconfdb_notice_answered(void *notice, bool yes, uint64_t now);
-void dconfdb_watched_name(uint32_t found, bool is_last, bool is_busy_above, bool is_busy, uint32_t role, void *name);
+void dconfdb_watched_name(bool minds, const uint8_t *folder, size_t folder_len, const uint8_t *name, size_t name_len, bool is_last, uint32_t mode,
+                          uint64_t links, uint32_t role, void *watched);
 
 /* The first has an end, the second hasn't. */
 static void finds_wait(void)
@@ -229,12 +230,15 @@ static void finds_notice(void)
 /* A name on the way to a file, at which nothing stands: it is waited for, and nothing is behind it. */
 static void finds_watched_name(void)
 {
-    Written name = room_of("DconfdbWatchedName");
-    dconfdb_watched_name(0, false, false, false, 0, name.bytes);
+    Written name = room_of("DconfdbWatchedName"), other = name;
+    dconfdb_watched_name(true, (const uint8_t *)"/a", 2, (const uint8_t *)"b", 1, false, 0, 0, 0, name.bytes);
+    dconfdb_watched_name(true, (const uint8_t *)"/a", 2, (const uint8_t *)".", 1, false, 0, 0, 0, other.bytes);
+    takes(&name, "is_needed", flag_of(&name, &other), FLAG);
     finds_number(&name, "watch", 2);
+    finds_number(&name, "asked", 0x3c0);
     finds_number(&name, "way", 0);
     finds_number(&name, "comes", 1);
-    ends(&name);
+    is_so(ends(&name) == WATCHED_NAME, "DconfdbWatchedName");
 }
 
 /* Edits are read and written: a set, and a reset that is of the same change. */

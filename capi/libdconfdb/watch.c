@@ -12,19 +12,6 @@
 
 enum { SECOND = 1000000, NANOSECONDS = 1000 };
 
-/* What it tells. */
-static const struct {
-    uint32_t mask, event;
-} told[] = {
-    {IN_Q_OVERFLOW | IN_UNMOUNT, DCONFDB_EVENT_LOST},
-    {IN_MOVED_FROM | IN_DELETE, DCONFDB_EVENT_WENT},
-    {IN_CREATE, DCONFDB_EVENT_MADE},
-    {IN_MOVED_TO, DCONFDB_EVENT_CAME},
-    {IN_CLOSE_WRITE, DCONFDB_EVENT_WRITTEN},
-    {IN_ATTRIB, DCONFDB_EVENT_ACCESS},
-    {IN_MOVE_SELF | IN_DELETE_SELF, DCONFDB_EVENT_GONE},
-};
-
 Watch *watch_new(bool minds_etc)
 {
     Watch *watch = calloc(1, sizeof *watch);
@@ -53,33 +40,18 @@ bool watch_is_whole(const Watch *watch)
 
 /* ---- what happened */
 
-static uint32_t event_of(uint32_t mask)
-{
-    for (size_t i = 0; i < sizeof told / sizeof told[0]; i++)
-        if ((mask & told[i].mask) != 0)
-            return told[i].event;
-    return DCONFDB_EVENT_OTHER;
-}
-
-/* To what of a name that is watched an event happened. */
-static uint32_t of_what(const Watched *one, const struct inotify_event *event)
-{
-    if (event->len == 0)
-        return DCONFDB_OF_FOLDER;
-    return one->path && strcmp(strrchr(one->path, '/') + 1, event->name) == 0 ? DCONFDB_OF_NAME : DCONFDB_OF_ANOTHER;
-}
-
 /* What is heard at one that is watched, after that. */
 static uint32_t hear_one(const Watched *one, const struct inotify_event *event, uint32_t before)
 {
-    uint32_t of = of_what(one, event), found = of == DCONFDB_OF_NAME ? found_at(one->path) : DCONFDB_FOUND_NOTHING;
-    return dconfdb_heard(before, one->name.watch, one->name.comes, event_of(event->mask), of, found);
+    bool has_name = event->len > 0, is_same = has_name && one->path && strcmp(strrchr(one->path, '/') + 1, event->name) == 0;
+    Stands stands = is_same ? stands_at(one->path) : (Stands){0, 0};
+    return dconfdb_heard(before, one->name.watch, one->name.comes, event->mask, has_name, is_same, stands.mode, stands.links);
 }
 
 /* What is heard of an event, after that: of one that isn't of a folder, by none that is watched. */
 static uint32_t hear_event(const Watch *watch, const struct inotify_event *event, uint32_t before)
 {
-    uint32_t heard = dconfdb_heard(before, DCONFDB_WATCH_NOTHING, DCONFDB_NOTICE_NOTHING, event_of(event->mask), DCONFDB_OF_ANOTHER, DCONFDB_FOUND_NOTHING);
+    uint32_t heard = dconfdb_heard(before, DCONFDB_WATCH_NOTHING, DCONFDB_NOTICE_NOTHING, event->mask, true, false, 0, 0);
     for (size_t i = 0; i < watch->count; i++)
         if (watch->all[i].number == event->wd)
             heard = hear_one(&watch->all[i], event, heard);

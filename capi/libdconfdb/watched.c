@@ -11,18 +11,6 @@
 #include <sys/stat.h>
 #include <unistd.h>
 
-static const char busy[] = "/etc";
-
-/* What inotify is asked for, by what is watched. What is written beside a file, as NAME.new, wakes nobody before it is whole. */
-#define OF_FILES (IN_CLOSE_WRITE | IN_ATTRIB | IN_MOVED_FROM | IN_MOVED_TO | IN_DELETE)
-#define OF_NAMES (IN_CREATE | IN_MOVED_FROM | IN_MOVED_TO | IN_DELETE)
-static const uint32_t asked[] = {
-    [DCONFDB_WATCH_ITSELF] = IN_MOVE_SELF | IN_DELETE_SELF,
-    [DCONFDB_WATCH_PASSAGE] = OF_NAMES,
-    [DCONFDB_WATCH_OWN] = OF_FILES,
-    [DCONFDB_WATCH_AWAITED] = OF_FILES | IN_CREATE,
-};
-
 void forget_watched(Watch *watch)
 {
     for (size_t i = 0; i < watch->count; i++) {
@@ -58,10 +46,10 @@ static bool is_watched(const Watch *watch, const Watched *wanted)
     return false;
 }
 
-/* A folder above the files may be closed to us: then it isn't known when it is moved. */
+/* A folder that is watched itself has no path. */
 static void watch_one(Watch *watch, const char *folder, char *path, const DconfdbWatchedName *name)
 {
-    int number = inotify_add_watch(watch->inotify, folder, asked[name->watch] | IN_MASK_ADD | IN_ONLYDIR);
+    int number = inotify_add_watch(watch->inotify, folder, name->asked | IN_MASK_ADD | IN_ONLYDIR);
     if (is_watched(watch, &(Watched){number, *name, path}))
         return;
     char *kept = path && number >= 0 ? strdup(path) : NULL;
@@ -70,21 +58,13 @@ static void watch_one(Watch *watch, const char *folder, char *path, const Dconfd
         watch->all[watch->count++] = (Watched){number, *name, kept};
     else
         free(kept);
-    if (!is_had && path)
-        watch->is_whole = false;
+    watch->is_whole = watch->is_whole && (is_had || !name->is_needed);
 }
 
-/* What stands at a path. */
-uint32_t found_at(const char *path)
+Stands stands_at(const char *path)
 {
     struct stat found;
-    if (lstat(path, &found) != 0)
-        return DCONFDB_FOUND_NOTHING;
-    if (S_ISLNK(found.st_mode))
-        return DCONFDB_FOUND_LINK;
-    if (S_ISDIR(found.st_mode))
-        return DCONFDB_FOUND_FOLDER;
-    return S_ISREG(found.st_mode) && found.st_nlink == 1 ? DCONFDB_FOUND_FILE : DCONFDB_FOUND_OTHER;
+    return lstat(path, &found) == 0 ? (Stands){found.st_mode, found.st_nlink} : (Stands){0, 0};
 }
 
 /* A path on the way to a file. */
@@ -112,16 +92,33 @@ static bool follow(Way *way, const char *link, const char *behind)
     return true;
 }
 
-/* Much happens in /etc. */
-static bool is_busy(const Watch *watch, const char *folder)
+/* Goes on in that folder. It returns true. */
+static bool enter(Way *way, const char *folder, const char *behind)
 {
-    return !watch->minds_etc && strcmp(folder, busy) == 0;
+    if (folder != way->folder)
+        snprintf(way->folder, sizeof way->folder, "%s", folder);
+    memmove(way->rest, behind, strlen(behind) + 1);
+    return true;
 }
 
-static void enter(Way *way, const char *path, const char *behind)
+static bool go_up(Way *way, const char *behind)
 {
-    snprintf(way->folder, sizeof way->folder, "%s", path);
-    memmove(way->rest, behind, strlen(behind) + 1);
+    char *last = strrchr(way->folder, '/');
+    if (last)
+        *last = 0;
+    return enter(way, way->folder, behind);
+}
+
+/* Goes on as it is said. False: the path ends. */
+static bool go_on(Way *way, uint32_t where, const char *path, const char *behind)
+{
+    switch (where) {
+    case DCONFDB_WAY_FOLLOWS: return follow(way, path, behind);
+    case DCONFDB_WAY_ENTERS: return enter(way, path, behind);
+    case DCONFDB_WAY_STAYS: return enter(way, way->folder, behind);
+    case DCONFDB_WAY_RISES: return go_up(way, behind);
+    default: return false;
+    }
 }
 
 /* One name of a path, and those behind it. True: the path goes on. */
@@ -129,30 +126,19 @@ static bool watch_name(Watch *watch, Way *way, const char *name, size_t len, con
 {
     DconfdbWatchedName watched;
     char path[PATH_MAX];
-    const char *folder = *way->folder ? way->folder : "/";
     int size = snprintf(path, sizeof path, "%s/%.*s", way->folder, (int)len, name);
     if (size < 0 || (size_t)size >= sizeof path) {
         watch->is_whole = false;
         return false;
     }
-    dconfdb_watched_name(found_at(path), *behind == 0, is_busy(watch, folder), is_busy(watch, path), way->role, &watched);
+    Stands stands = stands_at(path);
+    dconfdb_watched_name(watch->minds_etc, (const uint8_t *)way->folder, strlen(way->folder), (const uint8_t *)name, len, *behind == 0, stands.mode,
+                         stands.links, way->role, &watched);
     if (watched.watch == DCONFDB_WATCH_ITSELF)
         watch_one(watch, path, NULL, &watched);
     else if (watched.watch != DCONFDB_WATCH_NOTHING)
-        watch_one(watch, folder, path, &watched);
-    if (watched.way == DCONFDB_WAY_FOLLOWS)
-        return follow(way, path, behind);
-    if (watched.way == DCONFDB_WAY_ENTERS)
-        enter(way, path, behind);
-    return watched.way == DCONFDB_WAY_ENTERS;
-}
-
-static void go_up(Way *way, const char *behind)
-{
-    char *last = strrchr(way->folder, '/');
-    if (last)
-        *last = 0;
-    memmove(way->rest, behind, strlen(behind) + 1);
+        watch_one(watch, *way->folder ? way->folder : "/", path, &watched);
+    return go_on(way, watched.way, path, behind);
 }
 
 /* The folders on the way to a file, each link of it, and the file's own name. */
@@ -169,12 +155,7 @@ static void watch_path(Watch *watch, const char *path, uint32_t role)
         const char *behind = name + len + strspn(name + len, "/");
         if (len == 0)
             return;
-        if (len == 2 && memcmp(name, "..", 2) == 0)
-            go_up(&way, behind);
-        else if (len == 1 && *name == '.')
-            memmove(way.rest, behind, strlen(behind) + 1);
-        else
-            goes_on = watch_name(watch, &way, name, len, behind);
+        goes_on = watch_name(watch, &way, name, len, behind);
     }
 }
 

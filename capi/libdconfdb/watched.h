@@ -26,7 +26,12 @@ struct Watch {
 /* Watches nothing any longer. */
 void forget_watched(Watch *watch);
 
-/* What stands at a path. */
-uint32_t found_at(const char *path);
+/* What stands at a path, as stat says it; both are 0 where nothing does. */
+typedef struct {
+    uint32_t mode;
+    uint64_t links;
+} Stands;
+
+Stands stands_at(const char *path);
 
 #endif

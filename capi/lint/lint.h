@@ -86,21 +86,14 @@ void check_lock(const Lint *lint, Place at, const char *path);
 
 /* ---- roles.c: as what `update` reads a file */
 
-typedef enum {
-    BY_ITS_TEXT, /* it is in no folder of sources, or alone: what it is, its text says */
-    SOURCE,      /* in NAME.d, a keyfile */
-    LOCK_SOURCE, /* in NAME.d/locks, a file of locks */
-    HIDDEN,      /* below NAME.d, by a name that starts with a dot: left out */
-    TOO_DEEP     /* in another folder below NAME.d: not read */
-} Role;
-
 /* A file that is asked for. */
 typedef struct {
     const char *file;   /* as it was given */
     char *folder;       /* a whole path */
     const char *name;   /* in it */
     size_t sources_len; /* of the path, how much is that of the folder NAME.d; 0: there is none */
-    Role role;
+    uint32_t role;      /* DCONFDB_ROLE_BY_ITS_TEXT and so on */
+    bool is_one_read;   /* of those in NAME.d, `update` reads one */
 } Asked;
 
 /* Those files, in the order in which they are taken: the folders one after another, and the names of each in byte order. */
@@ -113,6 +106,9 @@ bool is_of_folder(const Asked *one, const Asked *other);
 bool is_same_file(const Asked *one, const Asked *other);
 
 /* ---- texts.c, database.c, profiles.c: what stands in a file */
+
+/* A path as one text: to be freed. */
+char *path_of(const DconfdbPath *path);
 
 void check_keyfile(const Lint *lint, const char *file, const char *text, size_t len);
 void check_locks(const Lint *lint, const char *file, const char *text, size_t len);

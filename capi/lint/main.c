@@ -11,19 +11,12 @@
 
 static const size_t largest_file = UINT32_MAX, largest_text = 16777216;
 
-static const char signature[] = "GVariant";
-
 /* Of share/help/commands, by capi/command. */
 static const char help[] =
 #include "help_lint.h"
 ;
 
 /* ---- files */
-
-static bool is_database(const uint8_t *head, size_t len)
-{
-    return len >= sizeof signature - 1 && memcmp(head, signature, sizeof signature - 1) == 0;
-}
 
 static void find_no_file(const char *file, int fault)
 {
@@ -41,41 +34,30 @@ static int read_file(const char *file, FileBytes *bytes, FileState *state)
 {
     int fault = file_read(AT_FDCWD, file, false, NULL, largest_text, bytes, state);
     if (fault == EOVERFLOW)
-        fault = file_read(AT_FDCWD, file, false, is_database, largest_file, bytes, state);
+        fault = file_read(AT_FDCWD, file, false, dconfdb_is_database_head, largest_file, bytes, state);
     return fault;
 }
 
-static void find_neither(const char *file)
+/* As what it is looked at: of so many bytes, of which these are there. */
+static uint32_t read_as(const Asked *asked, uintmax_t size, const FileBytes *bytes)
 {
-    find((Place){file, 0}, "it is neither a keyfile, nor a file of locks, nor a profile, nor a database");
-}
-
-/* `update` takes what is in its folders for keyfiles and for locks, whatever stands there. */
-static void check_text(const Lint *lint, const Asked *asked, const FileBytes *bytes)
-{
-    const char *text = bytes->at ? (const char *)bytes->at : "";
-    uint32_t kind = dconfdb_text_kind((const uint8_t *)text, bytes->len);
-    bool is_binary = bytes->len > 0 && memchr(text, 0, bytes->len);
-    if (kind == DCONFDB_TEXT_NEITHER && (is_binary || asked->role == BY_ITS_TEXT))
-        find_neither(asked->file);
-    else if (asked->role == BY_ITS_TEXT && kind == DCONFDB_TEXT_PROFILE)
-        check_profile(asked, text, bytes->len);
-    else if (asked->role == LOCK_SOURCE || (asked->role != SOURCE && kind == DCONFDB_TEXT_LOCKS))
-        check_locks(lint, asked->file, text, bytes->len);
-    else
-        check_keyfile(lint, asked->file, text, bytes->len);
+    return dconfdb_read_as(asked->role, asked->is_one_read, size, bytes->len > 0 ? bytes->at : (const uint8_t *)"", bytes->len);
 }
 
 static void check_bytes(const Lint *lint, const Asked *asked, FileBytes *bytes, uintmax_t size)
 {
-    if (is_database(bytes->at, bytes->len) && asked->role == BY_ITS_TEXT)
-        check_database(lint, asked->file, bytes);
-    else if (is_database(bytes->at, bytes->len))
-        find((Place){asked->file, 0}, "it is a database, and no source of one");
-    else if (size > largest_text)
-        find((Place){asked->file, 0}, "TooBig: it has more than 16,777,216 bytes");
-    else
-        check_text(lint, asked, bytes);
+    const char *text = bytes->len > 0 ? (const char *)bytes->at : "";
+    Place at = {asked->file, 0};
+    switch (read_as(asked, size, bytes)) {
+    case DCONFDB_READ_KEYFILE: check_keyfile(lint, asked->file, text, bytes->len); break;
+    case DCONFDB_READ_LOCKS: check_locks(lint, asked->file, text, bytes->len); break;
+    case DCONFDB_READ_PROFILE: check_profile(asked, text, bytes->len); break;
+    case DCONFDB_READ_DATABASE: check_database(lint, asked->file, bytes); break;
+    case DCONFDB_READ_NO_SOURCE: find(at, "it is a database, and no source of one"); break;
+    case DCONFDB_READ_TOO_BIG: find(at, "TooBig: it has more than 16,777,216 bytes"); break;
+    case DCONFDB_READ_NEITHER: find(at, "it is neither a keyfile, nor a file of locks, nor a profile, nor a database"); break;
+    default: break;
+    }
 }
 
 static void check_file(const Lint *lint, const Asked *asked)
@@ -98,12 +80,15 @@ static void find_unread(const Asked *asked)
     find((Place){asked->file, 0}, "'update' does not read it: it is in a folder inside %.*s", (int)(end - name), name);
 }
 
+/* Of what `update` doesn't read, nothing is read here. */
 static void check_asked(const Lint *lint, const Asked *asked)
 {
-    if (asked->role == TOO_DEEP)
-        find_unread(asked);
-    else if (asked->role != HIDDEN)
-        check_file(lint, asked);
+    const FileBytes none = {NULL, 0, false};
+    switch (read_as(asked, 0, &none)) {
+    case DCONFDB_READ_NOTHING: break;
+    case DCONFDB_READ_UNREAD: find_unread(asked); break;
+    default: check_file(lint, asked); break;
+    }
 }
 
 /* The files of a folder are those of one database, in the order of their names. */

@@ -5,44 +5,34 @@
 #include <stdlib.h>
 #include <string.h>
 
-/* A folder NAME.d, which isn't hidden. */
-static bool is_sources(const char *name, size_t len)
+/* The role of what has that name in a folder. */
+static uint32_t role_after(uint32_t role, const char *name, size_t len, bool is_folder)
 {
-    return len > 2 && name[0] != '.' && name[len - 2] == '.' && name[len - 1] == 'd';
+    return dconfdb_role_after(role, (const uint8_t *)name, len, is_folder);
 }
 
-/* How much of a folder's path is that of the last NAME.d on it. */
-static size_t sources_len(const char *folder)
+/* That of a folder's files, and how much of its path is that of the last NAME.d on it. */
+static uint32_t role_in(const char *folder, size_t *sources_len)
 {
-    size_t found = 0;
+    uint32_t role = DCONFDB_ROLE_BY_ITS_TEXT;
+    *sources_len = 0;
     for (const char *at = folder; *at;) {
         const char *name = at + 1, *end = strchrnul(name, '/');
-        if (is_sources(name, (size_t)(end - name)))
-            found = (size_t)(end - folder);
+        role = role_after(role, name, (size_t)(end - name), true);
+        if (role == DCONFDB_ROLE_KEYFILE)
+            *sources_len = (size_t)(end - folder);
         at = end;
     }
-    return found;
-}
-
-/* Of a file below a folder of sources. */
-static Role role_below(const char *below, const char *name)
-{
-    if (name[0] == '.' || strstr(below, "/."))
-        return HIDDEN;
-    if (!*below)
-        return SOURCE;
-    return strcmp(below, "/locks") == 0 ? LOCK_SOURCE : TOO_DEEP;
+    return role;
 }
 
 static Asked asked_file(const char *file)
 {
     char *path = g_canonicalize_filename(file, NULL);
     char *end = strrchr(path, '/');
-    Asked asked = {file, path, end + 1, 0, BY_ITS_TEXT};
+    Asked asked = {file, path, end + 1, 0, DCONFDB_ROLE_BY_ITS_TEXT, false};
     *end = 0;
-    asked.sources_len = sources_len(path);
-    if (asked.sources_len > 0)
-        asked.role = role_below(path + asked.sources_len, asked.name);
+    asked.role = role_after(role_in(path, &asked.sources_len), asked.name, strlen(asked.name), false);
     return asked;
 }
 
@@ -51,17 +41,21 @@ static char *sources_of(const Asked *asked)
     return g_strndup(asked->folder, asked->sources_len);
 }
 
-/* A file that `update` would not read is one of its folder only beside one that it reads. */
-static void find_alone(Asked *asked, size_t count)
+static bool is_read(const Asked *asked)
+{
+    return asked->role == DCONFDB_ROLE_KEYFILE || asked->role == DCONFDB_ROLE_LOCKS;
+}
+
+/* Beside which of them `update` reads one that is asked for, or itself. */
+static void find_read(Asked *asked, size_t count)
 {
     GHashTable *read = g_hash_table_new_full(g_str_hash, g_str_equal, g_free, NULL);
     for (size_t i = 0; i < count; i++)
-        if (asked[i].role == SOURCE || asked[i].role == LOCK_SOURCE)
+        if (is_read(&asked[i]))
             g_hash_table_add(read, sources_of(&asked[i]));
     for (size_t i = 0; i < count; i++) {
         char *sources = sources_of(&asked[i]);
-        if (!g_hash_table_contains(read, sources))
-            asked[i].role = BY_ITS_TEXT;
+        asked[i].is_one_read = g_hash_table_contains(read, sources);
         g_free(sources);
     }
     g_hash_table_unref(read);
@@ -79,7 +73,7 @@ Asked *asked_files(char *const *files, size_t count)
     Asked *asked = g_new(Asked, count);
     for (size_t i = 0; i < count; i++)
         asked[i] = asked_file(files[i]);
-    find_alone(asked, count);
+    find_read(asked, count);
     qsort(asked, count, sizeof *asked, in_order);
     return asked;
 }

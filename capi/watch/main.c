@@ -2,8 +2,11 @@
 #define _GNU_SOURCE
 #include "dconfdb.h"
 #include "dconfdb_calls.h"
+#include "files.h"
 #include "lists.h"
+#include "notices.h"
 #include "place.h"
+#include "printed.h"
 #include "seen.h"
 #include "warned.h"
 #include "watch.h"
@@ -24,14 +27,21 @@ static const char help[] =
 #include "help_watch.h"
 ;
 
+/* The two files that may be the profile, as they were at a moment. */
+typedef struct {
+    uint64_t asked;
+    FileState files[PROFILES];
+} Profiles;
+
 /* What is watched. */
 typedef struct {
     StorePlace place;
+    char *profiles; /* their names */
     const char *path;
     Watch *names;
     DconfdbStore *store;
+    Profiles seen;           /* when it was opened */
     DconfdbSnapshot *before; /* what was told last */
-    bool is_old;             /* another profile may name other databases: the store is to be opened anew */
     Warned warned;           /* the faults that were said, and are there still */
 } Watching;
 
@@ -50,41 +60,6 @@ static void say(void *it, const char *text)
 }
 
 /* ---- what is told */
-
-static uint32_t print_into(const DconfdbValue *value, char *room, size_t room_len, size_t *len)
-{
-    return dconfdb_print_value((const uint8_t *)value->type, value->type_size, value->data, value->size, (uint8_t *)room,
-                               room_len, len);
-}
-
-/* The path of a key, and the text of its value, or why there is none. False: no memory. */
-static bool put_value(const char *path, const DconfdbValue *value)
-{
-    char first[512], *room = first;
-    size_t len = sizeof first, room_len = len;
-    uint32_t number = print_into(value, room, room_len, &len);
-    if (number == DCONFDB_OK && len > room_len) {
-        room_len = len;
-        room = malloc(room_len);
-        number = room ? print_into(value, room, room_len, &len) : (uint32_t)DCONFDB_MEMORY;
-    }
-    if (number == DCONFDB_OK)
-        printf("%s\n  %.*s\n", path, (int)len, room);
-    else if (number != DCONFDB_MEMORY)
-        printf("%s\n  %s\n", path, number == DCONFDB_DOUBLE_TEXT ? "double" : "too deep");
-    if (room != first)
-        free(room);
-    return number != DCONFDB_MEMORY;
-}
-
-static bool put_key(const DconfdbSnapshot *now, const char *path)
-{
-    DconfdbValue value;
-    if (dconfdb_snapshot_read(now, path, &value))
-        return put_value(path, &value);
-    printf("%s\n  unset\n", path);
-    return true;
-}
 
 /* Tells what is otherwise. False: it can't be found out. */
 static bool tell(const Watching *watch, const DconfdbSnapshot *now, DconfdbError *error)
@@ -126,37 +101,101 @@ static bool begin_once(Watching *watch)
 /* The files that are the store's now, watched. */
 static void begin(Watching *watch)
 {
-    watch->is_old = true;
     watch_answer(watch->names, begin_once(watch) || begin_once(watch));
 }
 
-/* The store, opened anew: another profile may name other databases. */
-static bool open_anew(Watching *watch, DconfdbError *error)
+/* One that can't be looked at isn't there. */
+static Profiles look_at_profiles(const Watching *watch)
 {
-    DconfdbStore *store = place_open(&watch->place, error);
+    Profiles now = {.asked = file_clock()};
+    const char *name = watch->profiles;
+    for (int i = 0; i < PROFILES; i++, name += strlen(name) + 1)
+        file_look(name, &now.files[i]);
+    return now;
+}
+
+static uint32_t profile_sameness(const Watching *watch, const Profiles *now, int which)
+{
+    return dconfdb_same_file(&watch->seen.files[which], &now->files[which], watch->seen.asked, false);
+}
+
+/* Whether they have the same databases, by their names. */
+static bool have_same_files(const DconfdbStore *one, const DconfdbStore *other)
+{
+    char *ours = files_of(one), *others = files_of(other);
+    bool have = ours && others && are_same_texts(ours, others);
+    free(ours);
+    free(others);
+    return have;
+}
+
+/* A look, and what is known of it. */
+typedef struct {
+    Profiles profiles;
+    DconfdbGlance known;
+    bool is_told;
+    DconfdbError error;
+} Looking;
+
+/* Opens the store in the place of the one that is open. */
+static bool open_anew(Watching *watch, Looking *it)
+{
+    DconfdbStore *store = place_open(&watch->place, &it->error);
     if (!store)
         return false;
+    it->known.has_same_files = have_same_files(store, watch->store);
     dconfdb_store_close(watch->store);
     watch->store = store;
-    watch->is_old = false;
+    watch->seen = it->profiles;
     return true;
+}
+
+/* Tells what is new. False: it failed. */
+static bool hand_out(Watching *watch, Looking *it)
+{
+    DconfdbSnapshot *now = dconfdb_store_snapshot(watch->store);
+    if (!tell(watch, now, &it->error)) {
+        dconfdb_snapshot_unref(now);
+        return false;
+    }
+    dconfdb_snapshot_unref(watch->before);
+    watch->before = now;
+    return true;
+}
+
+static void read_files(Watching *watch, uint32_t task, Looking *it)
+{
+    it->known.is_done = task == DCONFDB_GLANCE_REFRESH ? dconfdb_store_refresh(watch->store, NULL, &it->error) : open_anew(watch, it);
+}
+
+static void carry_out(Watching *watch, uint32_t task, Looking *it)
+{
+    switch (task) {
+    case DCONFDB_GLANCE_HAND:
+        it->is_told = it->known.is_done && hand_out(watch, it);
+        break;
+    case DCONFDB_GLANCE_HEED: /* nothing waits here */
+        break;
+    case DCONFDB_GLANCE_WATCH:
+        watch_opened_anew(watch->names);
+        break;
+    default:
+        read_files(watch, task, it);
+    }
 }
 
 /* Looks at the files, and tells. False: it failed. */
 static bool look(Watching *watch)
 {
-    DconfdbError error = DCONFDB_ERROR_INIT;
-    bool is_done = watch->is_old ? open_anew(watch, &error) : dconfdb_store_refresh(watch->store, NULL, &error);
-    DconfdbSnapshot *now = is_done ? dconfdb_store_snapshot(watch->store) : NULL;
-    if (now && tell(watch, now, &error)) {
-        warned_renew(&watch->warned, watch->store, NULL, say, NULL);
-        dconfdb_snapshot_unref(watch->before);
-        watch->before = now;
-        return true;
-    }
-    dconfdb_snapshot_unref(now);
-    warned_renew(&watch->warned, watch->store, &error, say, NULL);
-    return false;
+    Looking it = {.profiles = look_at_profiles(watch), .known = {.is_open = true}, .error = DCONFDB_ERROR_INIT};
+    uint32_t task = DCONFDB_GLANCE_BEGINS;
+    it.known.first = profile_sameness(watch, &it.profiles, 0);
+    it.known.second = profile_sameness(watch, &it.profiles, 1);
+    while ((task = dconfdb_glance_after(task, &it.known)) < DCONFDB_GLANCE_SEEN)
+        carry_out(watch, task, &it);
+    bool is_done = task == DCONFDB_GLANCE_SEEN && it.is_told;
+    warned_renew(&watch->warned, watch->store, is_done ? NULL : &it.error, say, NULL);
+    return is_done;
 }
 
 /* Waits for what happens, or for that moment. */
@@ -208,16 +247,26 @@ static bool has_named_profile(const Watching *watch)
     return false;
 }
 
+/* What is watched, before anything is read of it: what changes meanwhile is told of. False: it can't be. */
+static bool prepare(Watching *watch, DconfdbError *error)
+{
+    bool are_all = false;
+    watch->profiles = place_files(&watch->place, &are_all, error);
+    watch->names = watch_new(true);
+    if (!watch->profiles || !watch->names)
+        return false;
+    begin(watch);
+    watch->seen = look_at_profiles(watch);
+    return true;
+}
+
 static int start(Watching *watch)
 {
     DconfdbError error = DCONFDB_ERROR_INIT;
-    watch->names = watch_new(true);
-    if (!watch->names) {
-        warn("Memory");
+    if (!prepare(watch, &error)) {
+        warn(watch->profiles ? "Memory" : error.text);
         return 1;
     }
-    /* Before the files are read: what changes meanwhile is told of. */
-    begin(watch);
     watch->store = place_open(&watch->place, &error);
     if (!watch->store) {
         warn(error.text);
@@ -225,9 +274,8 @@ static int start(Watching *watch)
     }
     if (!has_named_profile(watch))
         return 1;
-    watch->is_old = false;
-    warned_renew(&watch->warned, watch->store, NULL, say, NULL);
     watch->before = dconfdb_store_snapshot(watch->store);
+    warned_renew(&watch->warned, watch->store, NULL, say, NULL);
     return watch_until_interrupted(watch);
 }
 
@@ -237,6 +285,7 @@ static void end(Watching *watch)
     dconfdb_snapshot_unref(watch->before);
     dconfdb_store_close(watch->store);
     watch_free(watch->names);
+    free(watch->profiles);
     place_release(&watch->place);
 }
 
@@ -255,15 +304,15 @@ static int start_at(const char *folder, Watching *watch)
 
 /* ---- words */
 
+/* Why a text is no path, or NULL. */
 static const char *fault_of_path(const char *path)
 {
     bool is_short = false;
-    uint32_t kind = dconfdb_path_kind((const uint8_t *)path, strlen(path), &is_short);
-    if (kind == DCONFDB_PATH_NOT_ABSOLUTE)
-        return "NotAbsolute";
-    if (kind == DCONFDB_PATH_DOUBLE_SLASH)
-        return "DoubleSlash";
-    return is_short ? NULL : "TooLong";
+    switch (dconfdb_path_kind((const uint8_t *)path, strlen(path), &is_short)) {
+    case DCONFDB_PATH_NOT_ABSOLUTE: return "NotAbsolute";
+    case DCONFDB_PATH_DOUBLE_SLASH: return "DoubleSlash";
+    default: return is_short ? NULL : "TooLong";
+    }
 }
 
 static int refuse_words(const char *why)

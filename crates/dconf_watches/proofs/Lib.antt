@@ -1,1 +1,2 @@
+pub mod BitProofs
 pub mod WatchProofs

@@ -1,4 +1,5 @@
 pub mod Names
 pub mod Events
+pub mod Inotify
 pub mod Numbers
 pub mod WatchLaws

@@ -1,12 +1,21 @@
 -- What is watched of a name on the way to a file, and where the path goes on.
-use Rattle.std.specs.Prelude.{Bool, false, if◌then◌else◌}
+use Rattle.std.specs.Prelude.{ℕ, List, Bool, true, false, not, ◌&&◌, ◌||◌, codes, length, ◌==◌, if◌then◌else◌}
+use Rattle.std.specs.Str.{bytes_eq}
 use Rattle.dconf_watches.specs.declared.name.Found.{Found}
 use Rattle.dconf_watches.specs.declared.name.Found.TheVariants.{Missing, Link, Folder}
 use Rattle.dconf_watches.specs.declared.name.NameWatch.{NameWatch}
 use Rattle.dconf_watches.specs.declared.name.Way.{Way}
 use Rattle.dconf_watches.specs.declared.event.Heard.{Heard}
 
--- in a folder in which much happens nobody waits
+-- much happens in /etc: only who minds that waits there
+abbrev pub is_busy : Bool → List ℕ → Bool
+is_busy minds folder = not minds && bytes_eq folder (codes "/etc")
+
+-- the same of a folder of that name in another one; the root's path is empty
+abbrev pub is_busy_in : Bool → List ℕ → List ℕ → Bool
+is_busy_in minds folder name = not minds && (length folder == 0 && bytes_eq name (codes "etc"))
+
+-- in such a folder nobody waits
 abbrev pub unless : Bool → NameWatch → NameWatch
 unless busy watch = if busy then NameWatch.Nothing else watch
 
@@ -25,6 +34,12 @@ watch_on_the_way found busy_above busy = unless busy_above NameWatch.Passage
 abbrev pub watch_of : Found → Bool → Bool → Bool → NameWatch
 watch_of found last busy_above busy = if last then watch_of_last found else watch_on_the_way found busy_above busy
 
+-- A folder above the files may be closed to us: then it isn't known when it is moved.
+abbrev pub is_needed : NameWatch → Bool
+is_needed NameWatch.Nothing = false
+is_needed NameWatch.Itself = false
+is_needed watch = true
+
 abbrev pub way_of : Found → Bool → Way
 way_of Link last = Way.Follows
 way_of Folder false = Way.Enters
@@ -37,3 +52,17 @@ heard_as_last found role = role
 
 abbrev pub heard_as : Found → Bool → Heard → Heard
 heard_as found last role = if last then heard_as_last found role else Heard.Path
+
+-- ---- one name of a path; `.` is the folder itself, and `..` the one above it
+
+abbrev pub is_dot : List ℕ → Bool
+is_dot name = bytes_eq name (codes ".")
+
+abbrev pub is_dots : List ℕ → Bool
+is_dots name = bytes_eq name (codes "..")
+
+abbrev pub watch_at : List ℕ → NameWatch → NameWatch
+watch_at name watch = if is_dot name || is_dots name then NameWatch.Nothing else watch
+
+abbrev pub way_at : List ℕ → Way → Way
+way_at name way = if is_dot name then Way.Stays else if is_dots name then Way.Rises else way

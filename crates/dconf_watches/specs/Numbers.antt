@@ -1,23 +1,17 @@
 -- Names, events and what is heard as numbers.
-use Rattle.std.specs.Prelude.{ℕ, ◌≡◌, if◌then◌else◌, ◌==◌}
-use Rattle.dconf_watches.specs.declared.name.Found.{Found}
+use Rattle.std.specs.Prelude.{ℕ, List, Bool, not, ◌≡◌, if◌then◌else◌, ◌==◌}
 use Rattle.dconf_watches.specs.declared.name.NameWatch.{NameWatch}
 use Rattle.dconf_watches.specs.declared.name.Way.{Way}
-use Rattle.dconf_watches.specs.declared.name.Way.TheVariants.{Ends, Follows, Enters}
-use Rattle.dconf_watches.specs.declared.event.Event.{Event}
-use Rattle.dconf_watches.specs.declared.event.Event.TheVariants.{Made, Came, Went, Written, Access, Gone, Lost, Other}
+use Rattle.dconf_watches.specs.declared.name.Way.TheVariants.{Ends, Follows, Enters, Stays, Rises}
 use Rattle.dconf_watches.specs.declared.event.Of.{Of}
 use Rattle.dconf_watches.specs.declared.event.Heard.{Heard}
 use Rattle.dconf_watches.specs.declared.numbers.WatchedName.{WatchedName}
+use Rattle.dconf_watches.specs.Inotify.{asked_of, found_by}
+use Rattle.dconf_watches.specs.Names.{heard_as, is_busy, is_busy_in, is_needed, watch_at, watch_of, way_at, way_of}
 
-abbrev pub found_of : ℕ → Found
-found_of n = if n == 0 then Found.Missing else if n == 1 then Found.Link else if n == 2 then Found.Folder else if n == 3 then Found.File else Found.Other
-
-abbrev pub event_of : ℕ → Event
-event_of n = if n == 0 then Made else if n == 1 then Came else if n == 2 then Went else if n == 3 then Written else if n == 4 then Access else if n == 5 then Gone else if n == 6 then Lost else Other
-
-abbrev pub of_of : ℕ → Of
-of_of n = if n == 0 then Of.Name else if n == 1 then Of.Folder else Of.AnotherName
+-- to what of a name: an event has a name, if it isn't the folder's own
+abbrev pub of_what : Bool → Bool → Of
+of_what has_name is_same = if not has_name then Of.Folder else if is_same then Of.Name else Of.AnotherName
 
 abbrev pub heard_of : ℕ → Heard
 heard_of n = if n == 0 then Heard.File else if n == 1 then Heard.Path else Heard.Nothing
@@ -41,8 +35,17 @@ abbrev pub way_number : Way → ℕ
 way_number Ends = 0
 way_number Follows = 1
 way_number Enters = 2
+way_number Stays = 3
+way_number Rises = 4
 
-pub record IsWatchedName (name : WatchedName) (watch : NameWatch) (way : Way) (comes : Heard) : Type 0 where
-  pub watched : name.watch ≡ name_watch_number watch
-  pub goes : name.way ≡ way_number way
-  pub heard : name.comes ≡ heard_number comes
+abbrev pub watched_so : Bool → List ℕ → List ℕ → Bool → ℕ → ℕ → NameWatch
+watched_so minds folder name last mode links =
+    watch_at name (watch_of (found_by mode links) last (is_busy minds folder) (is_busy_in minds folder name))
+
+-- a name on the way, at which a file of that mode stands, and which has so many names
+pub record IsWatchedName (it : WatchedName) (minds : Bool) (folder name : List ℕ) (last : Bool) (mode links role : ℕ) : Type 0 where
+  pub watched : it.watch ≡ name_watch_number (watched_so minds folder name last mode links)
+  pub asked : it.asked ≡ asked_of (watched_so minds folder name last mode links)
+  pub goes : it.way ≡ way_number (way_at name (way_of (found_by mode links) last))
+  pub needed : it.is_needed ≡ is_needed (watched_so minds folder name last mode links)
+  pub heard : it.comes ≡ heard_number (heard_as (found_by mode links) last (heard_of role))

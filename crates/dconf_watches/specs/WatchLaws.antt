@@ -1,13 +1,14 @@
 -- What watches are for: where a path ends, what comes is heard; and others' names wake nobody.
-use Rattle.std.specs.Prelude.{◌≡◌, ◌≢◌, ◌⊎◌, Bool, true, false}
+use Rattle.std.specs.Prelude.{◌+◌, ◌≡◌, ◌≢◌, ◌⊎◌, Bool, true, false}
 use Rattle.dconf_watches.specs.declared.name.Found.{Found}
 use Rattle.dconf_watches.specs.declared.name.NameWatch.{NameWatch}
 use Rattle.dconf_watches.specs.declared.name.Way.TheVariants as Way
 use Rattle.dconf_watches.specs.declared.event.Event.{Event}
-use Rattle.dconf_watches.specs.declared.event.Of.TheVariants as Of
+use Rattle.dconf_watches.specs.declared.event.Of.{Of}
 use Rattle.dconf_watches.specs.declared.event.Heard.{Heard}
 use Rattle.dconf_watches.specs.Names.{heard_as, watch_of, way_of}
 use Rattle.dconf_watches.specs.Events.{meaning}
+use Rattle.dconf_watches.specs.Inotify.{Bit, number, of_a_folder, has, event_in, asked_of}
 
 -- ---- where a path ends
 
@@ -52,3 +53,39 @@ abbrev pub NobodyElseIsHeard : Type 0
 NobodyElseIsHeard =
     (watch : NameWatch) (comes : Heard) (event : Event) (by : Found) → event ≢ Event.Lost →
     meaning watch comes event Of.AnotherName by ≡ Heard.Nothing
+
+-- ---- what inotify tells
+
+-- each bit of its header alone, and beside IN_ISDIR
+abbrev pub meant_by : Bit → Event
+meant_by Bit.in_attrib = Event.Access
+meant_by Bit.in_close_write = Event.Written
+meant_by Bit.in_moved_from = Event.Went
+meant_by Bit.in_moved_to = Event.Came
+meant_by Bit.in_create = Event.Made
+meant_by Bit.in_delete = Event.Went
+meant_by Bit.in_delete_self = Event.Gone
+meant_by Bit.in_move_self = Event.Gone
+meant_by Bit.in_unmount = Event.Lost
+meant_by Bit.in_q_overflow = Event.Lost
+meant_by bit = Event.Other
+
+pub record IsReadSo (bit : Bit) : Type 0 where
+  pub alone : event_in (number bit) ≡ meant_by bit
+  pub folders : event_in (number bit + of_a_folder) ≡ meant_by bit
+
+abbrev pub EachBitIsRead : Type 0
+EachBitIsRead = (bit : Bit) → IsReadSo bit
+
+-- What would be heard at a name, or of its folder, is asked for; what isn't known is told to all.
+abbrev pub AllThatIsHeardIsAskedFor : Type 0
+AllThatIsHeardIsAskedFor =
+    (bit : Bit) (watch : NameWatch) (comes : Heard) (of : Of) (by : Found) →
+    (meaning watch comes (event_in (number bit)) of by ≡ Heard.Nothing)
+    ⊎ ((event_in (number bit) ≡ Event.Lost) ⊎ (has (asked_of watch) (number bit) ≡ true))
+
+-- And so is all that counts where something may be made.
+abbrev pub AllThatCountsIsAskedFor : Type 0
+AllThatCountsIsAskedFor =
+    (bit : Bit) (by : Found) → Counts (event_in (number bit)) by →
+    (event_in (number bit) ≡ Event.Lost) ⊎ (has (asked_of NameWatch.Awaited) (number bit) ≡ true)

@@ -5,14 +5,19 @@
 //! store's, or not at all. Nothing is watched here: whoever watches says what it found, and does as it is told.
 #![tactic(auto)]
 
-ghost use Rattle.dconf_watches.specs.WatchLaws.{AllThatCountsIsHeard, NobodyElseIsHeard, TheEndIsWatched};
+ghost use Rattle.dconf_watches.specs.WatchLaws.{AllThatCountsIsAskedFor, AllThatCountsIsHeard, AllThatIsHeardIsAskedFor, EachBitIsRead, NobodyElseIsHeard, TheEndIsWatched};
 
 mod event;
+mod inotify;
 mod name;
 mod numbers;
 
 pub use event::{Event, Heard, Of, louder, meaning};
-pub use name::{Found, NameWatch, Way, heard_as, watch_of, way_of};
+pub use inotify::{asked_of, event_in, found_by};
+pub use name::{
+    Found, NameWatch, Way, heard_as, is_busy, is_busy_in, is_needed, watch_at, watch_of, way_at,
+    way_of,
+};
 pub use numbers::{WatchedName, heard_number, watched_name};
 
 /// Where a path ends, what comes to that name is watched, and so is each link. Only in a folder in which much happens, and which is not
@@ -30,4 +35,19 @@ pub fn all_that_counts_is_heard()
 /// What happens to other names is not heard: so what is written beside a file wakes nobody.
 pub fn nobody_else_is_heard()
     ensures { NobodyElseIsHeard }
+{}
+
+/// Each bit of inotify is read as what its header says of it.
+pub fn each_bit_is_read()
+    ensures { EachBitIsRead }
+{}
+
+/// Whatever would be heard is asked for.
+pub fn all_that_is_heard_is_asked_for()
+    ensures { AllThatIsHeardIsAskedFor }
+{}
+
+/// Whatever counts at a file's own name is asked for.
+pub fn all_that_counts_is_asked_for()
+    ensures { AllThatCountsIsAskedFor }
 {}

@@ -1,6 +1,6 @@
 //! What is watched of a name on the way to a file.
 ghost use Rattle.std.specs.Prelude.{◌≡◌};
-ghost use Rattle.dconf_watches.specs.Names.{heard_as, unless, watch_of, way_of};
+ghost use Rattle.dconf_watches.specs.Names.{heard_as, is_busy, is_busy_in, is_dot, is_dots, is_needed, unless, watch_at, watch_of, way_at, way_of};
 
 use crate::event::Heard;
 
@@ -40,6 +40,10 @@ pub enum Way {
     Follows,
     /// In this folder.
     Enters,
+    /// In the folder in which it was.
+    Stays,
+    /// In the one above that.
+    Rises,
 }
 
 /// What is watched of a name, where that stands. `is_last`: it is the path's last one. Much may happen in the folder above, or in this
@@ -63,6 +67,17 @@ fn unless(is_busy: bool, watch: NameWatch) -> NameWatch
     if is_busy { NameWatch::Nothing } else { watch }
 }
 
+/// Whether something would be missed without it. A folder above the files may be closed to us: then it isn't known when it is moved.
+pub fn is_needed(watch: NameWatch) -> bool
+    ensures { result ≡ is_needed watch }
+{
+    match watch {
+        NameWatch::Nothing => false,
+        NameWatch::Itself => false,
+        _ => true,
+    }
+}
+
 /// Where the path goes on.
 pub fn way_of(found: Found, is_last: bool) -> Way
     ensures { result ≡ way_of found is_last }
@@ -84,4 +99,54 @@ pub fn heard_as(found: Found, is_last: bool, role: Heard) -> Heard
         (_, true) => role,
         (_, false) => Heard::Path,
     }
+}
+
+/// Whether much happens in a folder, which is not minded.
+pub fn is_busy(minds: bool, folder: &[u8]) -> bool
+    ensures { result ≡ is_busy minds folder.now }
+{
+    !minds && folder == "/etc".as_bytes()
+}
+
+/// The same of the folder of that name in another one. The root's path is empty.
+pub fn is_busy_in(minds: bool, folder: &[u8], name: &[u8]) -> bool
+    ensures { result ≡ is_busy_in minds folder.now name.now }
+{
+    !minds && (folder.len() == 0 && name == "etc".as_bytes())
+}
+
+/// What is watched of a name, of which that would be: of `.` and `..` nothing.
+pub fn watch_at(name: &[u8], watch: NameWatch) -> NameWatch
+    ensures { result ≡ watch_at name.now watch }
+{
+    if is_dot(name) || is_dots(name) {
+        NameWatch::Nothing
+    } else {
+        watch
+    }
+}
+
+/// Where the path goes on, of which that would be so.
+pub fn way_at(name: &[u8], way: Way) -> Way
+    ensures { result ≡ way_at name.now way }
+{
+    if is_dot(name) {
+        Way::Stays
+    } else if is_dots(name) {
+        Way::Rises
+    } else {
+        way
+    }
+}
+
+fn is_dot(name: &[u8]) -> bool
+    ensures { result ≡ is_dot name.now }
+{
+    name == ".".as_bytes()
+}
+
+fn is_dots(name: &[u8]) -> bool
+    ensures { result ≡ is_dots name.now }
+{
+    name == "..".as_bytes()
 }

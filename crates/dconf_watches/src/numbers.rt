@@ -1,91 +1,109 @@
 //! The same as plain numbers, for a caller that is not Rust.
 ghost use Rattle.std.specs.Prelude.{◌≡◌};
 ghost use Rattle.dconf_watches.specs.Events.{louder, meaning};
-ghost use Rattle.dconf_watches.specs.Names.{heard_as, watch_of, way_of};
-ghost use Rattle.dconf_watches.specs.Numbers.{IsWatchedName, event_of, found_of, heard_number, heard_of, name_watch_number, name_watch_of, of_of, way_number};
+ghost use Rattle.dconf_watches.specs.Inotify.{event_in, found_by};
+ghost use Rattle.dconf_watches.specs.Names.{heard_as, way_at, way_of};
+ghost use Rattle.dconf_watches.specs.Numbers.{IsWatchedName, heard_number, heard_of, name_watch_number, name_watch_of, of_what, watched_so, way_number};
 
-use crate::event::{Event, Heard, Of, louder, meaning};
-use crate::name::{Found, NameWatch, Way, heard_as, watch_of, way_of};
+use crate::event::{Heard, Of, louder, meaning};
+use crate::inotify::{asked_of, event_in, found_by};
+use crate::name::{
+    NameWatch, Way, heard_as, is_busy, is_busy_in, is_needed, watch_at, watch_of, way_at, way_of,
+};
 
 /// What is watched of a name: 0 nothing, 1 the folder itself, 2 a name on the way, 3 the file's own, 4 that, and what is made there;
-/// where the path goes on: 0 nowhere, 1 where the link leads, 2 in the folder; and what it means if something comes there: 0 the file
-/// may have changed, 1 other files may be the store's.
+/// what inotify is asked for; where the path goes on: 0 nowhere, 1 where the link leads, 2 in the folder, 3 where it was, 4 in the folder
+/// above; what it means if something comes there: 0 the file may have changed, 1 other files may be the store's; and whether
+/// something would be missed without it.
 #[repr(C)]
 #[derive(Clone, Copy)]
 pub struct WatchedName {
     watch: u32,
+    asked: u32,
     way: u32,
     comes: u32,
+    is_needed: bool,
 }
 
-/// As [`watch_of`], [`way_of`] and [`heard_as`]. What is found is 0 nothing, 1 a link, 2 a folder, 3 a regular file of one name, else
-/// something else.
+/// A name in that folder, which is no link; the root's path is empty. `is_last`: it is the path's last one. At it a file of that mode
+/// stands, which has so many names: the mode is 0 where nothing does. `minds` who minds much that happens. `role` is what a change of the
+/// file means.
 pub fn watched_name(
-    found: u32,
+    minds: bool,
+    folder: &[u8],
+    name: &[u8],
     is_last: bool,
-    is_busy_above: bool,
-    is_busy: bool,
+    mode: u32,
+    links: u64,
     role: u32,
 ) -> WatchedName
-    ensures { IsWatchedName result (watch_of (found_of found) is_last is_busy_above is_busy) (way_of (found_of found) is_last) (heard_as (found_of found) is_last (heard_of role)) }
+    ensures { IsWatchedName result minds folder.now name.now is_last mode links role }
 {
-    let found = found_of(found);
+    let found = found_by(mode, links);
+    let watch = watched_so(minds, folder, name, is_last, mode, links);
     WatchedName {
-        watch: watch_number(watch_of(found, is_last, is_busy_above, is_busy)),
-        way: way_number(way_of(found, is_last)),
+        watch: watch_number(watch),
+        asked: asked_of(watch),
+        way: way_number(way_at(name, way_of(found, is_last))),
         comes: heard_number_of(heard_as(found, is_last, heard_of(role))),
+        is_needed: is_needed(watch),
     }
 }
 
+fn watched_so(
+    minds: bool,
+    folder: &[u8],
+    name: &[u8],
+    is_last: bool,
+    mode: u32,
+    links: u64,
+) -> NameWatch
+    ensures { result ≡ watched_so minds folder.now name.now is_last mode links }
+{
+    let found = found_by(mode, links);
+    let watch = watch_of(
+        found,
+        is_last,
+        is_busy(minds, folder),
+        is_busy_in(minds, folder, name),
+    );
+    watch_at(name, watch)
+}
+
 /// As [`meaning`], and what was heard before, if that means more: 0 the file may have changed, 1 other files may be the store's, 2 nothing.
-/// What happens is 0 made, 1 came, 2 went, 3 written, 4 access, 5 gone, 6 lost, else nothing that was asked for; of 0 the name, 1 the folder, else another name.
-pub fn heard_number(before: u32, watch: u32, comes: u32, event: u32, of: u32, found: u32) -> u32
-    ensures { result ≡ heard_number (louder (heard_of before) (meaning (name_watch_of watch) (heard_of comes) (event_of event) (of_of of) (found_of found))) }
+/// The mask says what happens, to a name if the event has one, which is the same as the watched one or not; and what stands at that by
+/// now, as for [`watched_name`].
+pub fn heard_number(
+    before: u32,
+    watch: u32,
+    comes: u32,
+    mask: u32,
+    has_name: bool,
+    is_same: bool,
+    mode: u32,
+    links: u64,
+) -> u32
+    ensures { result ≡ heard_number (louder (heard_of before) (meaning (name_watch_of watch) (heard_of comes) (event_in mask) (of_what has_name is_same) (found_by mode links))) }
 {
     let now = meaning(
         watch_of_number(watch),
         heard_of(comes),
-        event_of(event),
-        of_of(of),
-        found_of(found),
+        event_in(mask),
+        of_what(has_name, is_same),
+        found_by(mode, links),
     );
     heard_number_of(louder(heard_of(before), now))
 }
 
-fn found_of(number: u32) -> Found
-    ensures { result ≡ found_of number }
+fn of_what(has_name: bool, is_same: bool) -> Of
+    ensures { result ≡ of_what has_name is_same }
 {
-    match number {
-        0 => Found::Missing,
-        1 => Found::Link,
-        2 => Found::Folder,
-        3 => Found::File,
-        _ => Found::Other,
-    }
-}
-
-fn event_of(number: u32) -> Event
-    ensures { result ≡ event_of number }
-{
-    match number {
-        0 => Event::Made,
-        1 => Event::Came,
-        2 => Event::Went,
-        3 => Event::Written,
-        4 => Event::Access,
-        5 => Event::Gone,
-        6 => Event::Lost,
-        _ => Event::Other,
-    }
-}
-
-fn of_of(number: u32) -> Of
-    ensures { result ≡ of_of number }
-{
-    match number {
-        0 => Of::Name,
-        1 => Of::Folder,
-        _ => Of::AnotherName,
+    if !has_name {
+        Of::Folder
+    } else if is_same {
+        Of::Name
+    } else {
+        Of::AnotherName
     }
 }
 
@@ -140,5 +158,7 @@ fn way_number(way: Way) -> u32
         Way::Ends => 0,
         Way::Follows => 1,
         Way::Enters => 2,
+        Way::Stays => 3,
+        Way::Rises => 4,
     }
 }

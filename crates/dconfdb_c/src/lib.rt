@@ -26,6 +26,7 @@ mod printing;
 mod queue;
 mod read;
 mod repair;
+mod roles;
 mod rounds;
 mod seen;
 mod since;

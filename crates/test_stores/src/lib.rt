@@ -25,6 +25,8 @@ mod places;
 #[cfg(test)]
 mod questions;
 #[cfg(test)]
+mod roles;
+#[cfg(test)]
 mod rounds;
 #[cfg(test)]
 mod seen;
@@ -40,3 +42,5 @@ mod times;
 mod turns;
 #[cfg(test)]
 mod verdicts;
+#[cfg(test)]
+mod watches;

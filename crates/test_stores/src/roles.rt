@@ -1,0 +1,77 @@
+//! As what the files of a site are looked at.
+use dconf_roles::{reading_number, role_number};
+use std::test::Fail;
+
+/// The role of a file's folder, by the names of two folders that it is in.
+fn in_folders(outer: &str, inner: &str) -> u32 {
+    role_number(
+        role_number(0, outer.as_bytes(), true),
+        inner.as_bytes(),
+        true,
+    )
+}
+
+/// That of a file in a folder of that role.
+fn file(role: u32, name: &str) -> u32 {
+    role_number(role, name.as_bytes(), false)
+}
+
+fn folders_have_their_roles() -> bool {
+    in_folders("etc", "site") == 0
+        && in_folders("etc", "site.d") == 1
+        && in_folders("etc", ".d") == 0
+        && in_folders("etc", ".site.d") == 0
+        && in_folders("site.d", "locks") == 2
+        && in_folders("site.d", ".git") == 3
+        && in_folders("site.d", "old") == 4
+        && in_folders("site.d", "old.d") == 1
+        && role_number(2, "old".as_bytes(), true) == 4
+        && role_number(3, "locks".as_bytes(), true) == 3
+}
+
+fn files_have_their_roles() -> bool {
+    file(0, ".hidden") == 0
+        && file(1, "00-site") == 1
+        && file(1, ".00-site.swp") == 3
+        && file(2, "00-locks") == 2
+        && file(2, ".x") == 3
+        && file(4, "x") == 4
+        && file(4, ".x") == 3
+}
+
+/// As what a text is looked at, of a role; none of its size is left out.
+fn read_as(role: u32, is_one_read: bool, text: &str) -> u32 {
+    reading_number(role, is_one_read, 100, text.as_bytes())
+}
+
+fn texts_are_read() -> bool {
+    read_as(0, false, "[a]\nk=1\n") == 0
+        && read_as(0, false, "/a/k\n") == 1
+        && read_as(0, false, "user-db:user\n") == 2
+        && read_as(0, false, "# nothing\n") == 0
+        && read_as(0, false, "oops\n") == 8
+        && read_as(1, true, "/a/k\n") == 0
+        && read_as(1, true, "oops\n") == 0
+        && read_as(1, true, "\0") == 8
+        && read_as(2, true, "[a]\n") == 1
+        && read_as(2, false, "[a]\n") == 0
+        && read_as(3, true, "[a]\n") == 4
+        && read_as(4, true, "[a]\n") == 5
+        && read_as(4, false, "[a]\n") == 0
+}
+
+fn databases_are_read() -> bool {
+    read_as(0, false, "GVariant") == 3
+        && read_as(1, true, "GVariant") == 6
+        && reading_number(0, false, 16_777_217, "GVariant".as_bytes()) == 3
+        && reading_number(0, false, 16_777_217, "[a]".as_bytes()) == 7
+        && reading_number(0, false, 16_777_216, "[a]".as_bytes()) == 0
+        && reading_number(3, true, 16_777_217, "[a]".as_bytes()) == 4
+}
+
+#[test]
+fn sources_are_read_as_update_reads_them(rt: HostRuntime) -> Result<(), Fail> {
+    assert!(rt; folders_have_their_roles() && files_have_their_roles());
+    assert!(rt; texts_are_read() && databases_are_read());
+    Ok(())
+}

@@ -1,0 +1,96 @@
+//! What is watched of the names on the way to a file, and what is heard of what inotify tells.
+use dconf_watches::{
+    Event, Found, NameWatch, Way, asked_of, event_in, found_by, heard_number, is_busy, is_busy_in,
+    is_needed, watch_at, way_at,
+};
+use std::test::Fail;
+
+/// What heard_number says where nothing is heard.
+const NOTHING: u32 = 2;
+
+/// A regular file, and a link, by st_mode.
+const FILE: u32 = 0o100644;
+
+const LINK: u32 = 0o120777;
+
+/// What is heard at a file's own name, at which that stands by then, of a mask that has its name.
+fn heard_at(watch: u32, mask: u32, mode: u32) -> u32 {
+    heard_number(NOTHING, watch, 0, mask, true, true, mode, 1)
+}
+
+fn events_are_read() -> bool {
+    matches!(event_in(0x2), Event::Other)
+        && matches!(event_in(0x4), Event::Access)
+        && matches!(event_in(0x8), Event::Written)
+        && matches!(event_in(0x40), Event::Went)
+        && matches!(event_in(0x80), Event::Came)
+        && matches!(event_in(0x4000_0100), Event::Made)
+        && matches!(event_in(0x4000_0200), Event::Went)
+        && matches!(event_in(0x400), Event::Gone)
+        && matches!(event_in(0x800), Event::Gone)
+        && matches!(event_in(0x2000), Event::Lost)
+        && matches!(event_in(0x4000), Event::Lost)
+        && matches!(event_in(0x8000), Event::Other)
+}
+
+fn what_stands_is_read() -> bool {
+    matches!(found_by(0, 0), Found::Missing)
+        && matches!(found_by(FILE, 1), Found::File)
+        && matches!(found_by(FILE, 2), Found::Other)
+        && matches!(found_by(LINK, 1), Found::Link)
+        && matches!(found_by(0o040755, 2), Found::Folder)
+        && matches!(found_by(0o010644, 1), Found::Other)
+}
+
+fn names_are_heard() -> bool {
+    heard_at(4, 0x100, FILE) == 2
+        && heard_at(4, 0x100, LINK) == 1
+        && heard_at(3, 0x8, FILE) == 0
+        && heard_at(3, 0x80, FILE) == 0
+        && heard_at(3, 0x200, 0) == 1
+        && heard_at(2, 0x8, FILE) == 2
+        && heard_number(NOTHING, 3, 0, 0x8, true, false, FILE, 1) == 2
+        && heard_number(NOTHING, 3, 0, 0x4, false, false, 0, 0) == 1
+        && heard_number(1, 3, 0, 0x8, true, true, FILE, 1) == 1
+        && heard_number(NOTHING, 0, 2, 0x4000, true, false, 0, 0) == 1
+}
+
+fn all_that_is_heard_is_asked_for() -> bool {
+    asked_of(NameWatch::Nothing) == 0
+        && asked_of(NameWatch::Itself) == 0xc00
+        && asked_of(NameWatch::Passage) == 0x3c0
+        && asked_of(NameWatch::Own) == 0x2cc
+        && asked_of(NameWatch::Awaited) == 0x3cc
+        && is_needed(NameWatch::Own)
+        && !is_needed(NameWatch::Itself)
+}
+
+fn names_are_gone_through() -> bool {
+    let etc = "etc".as_bytes();
+    let busy = "/etc".as_bytes();
+    is_busy(false, busy)
+        && !is_busy(true, busy)
+        && !is_busy(false, etc)
+        && is_busy_in(false, "".as_bytes(), etc)
+        && !is_busy_in(false, "/a".as_bytes(), etc)
+        && matches!(way_at(".".as_bytes(), Way::Ends), Way::Stays)
+        && matches!(way_at("..".as_bytes(), Way::Ends), Way::Rises)
+        && matches!(way_at("...".as_bytes(), Way::Ends), Way::Ends)
+        && matches!(
+            watch_at("..".as_bytes(), NameWatch::Own),
+            NameWatch::Nothing
+        )
+        && matches!(watch_at(etc, NameWatch::Own), NameWatch::Own)
+}
+
+#[test]
+fn names_are_watched_and_heard(rt: HostRuntime) -> Result<(), Fail> {
+    assert!(rt;
+        events_are_read()
+            && what_stands_is_read()
+            && names_are_heard()
+            && all_that_is_heard_is_asked_for()
+    );
+    assert!(rt; names_are_gone_through());
+    Ok(())
+}
