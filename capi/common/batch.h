@@ -25,6 +25,21 @@ typedef struct {
     Made *made;
 } Batch;
 
+/* Whether something else is seen by an edit that waits: that is told. */
+static inline bool edit_is_news(const DconfdbNewEdit *edit)
+{
+    bool is_there;
+    return dconfdb_entry(edit, 1, &is_there) == DCONFDB_ENTRY_WAITS;
+}
+
+/* Whether all that these ask for is there already. */
+static inline bool edits_are_there(const DconfdbNewEdit *edits, size_t count)
+{
+    bool is_there;
+    dconfdb_entry(edits, count, &is_there);
+    return is_there;
+}
+
 /* With room for so many edits. */
 Batch batch_new(size_t most);
 

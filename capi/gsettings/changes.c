@@ -60,7 +60,7 @@ GTree *change_tree(const Change *change)
     GTree *tree = g_tree_new_full(by_name, NULL, g_free, unref_value);
     for (size_t i = 0; i < change->count; i++) {
         const Edit *edit = &change->edits[i];
-        if (dconfdb_is_news(&change->known[i]))
+        if (edit_is_news(&change->known[i]))
             g_tree_insert(tree, g_strdup(edit->path), edit->value ? g_variant_ref(edit->value) : NULL);
     }
     return tree;

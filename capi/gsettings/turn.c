@@ -124,7 +124,7 @@ static DconfdbFileTime changed_at(const DconfdbBackend *self)
 Patience patience_of(const DconfdbBackend *self, gint64 each)
 {
     Patience patience = {.changed = changed_at(self)};
-    dconfdb_patience_begin(&patience.time, (uint64_t)g_get_monotonic_time(), (uint64_t)each);
+    dconfdb_patience(&patience.time, true, (uint64_t)g_get_monotonic_time(), (uint64_t)each);
     return patience;
 }
 
@@ -134,5 +134,5 @@ void patience_renew(Patience *patience, const DconfdbBackend *self)
     if (changed.seconds == patience->changed.seconds && changed.nanoseconds == patience->changed.nanoseconds)
         return;
     patience->changed = changed;
-    dconfdb_patience_renew(&patience->time, (uint64_t)g_get_monotonic_time());
+    dconfdb_patience(&patience->time, false, (uint64_t)g_get_monotonic_time(), 0);
 }

@@ -342,7 +342,7 @@ void worker_end(DconfdbBackend *self)
 static void await_over(DconfdbBackend *self, guint64 tries)
 {
     DconfdbPatience patience;
-    dconfdb_patience_begin(&patience, (uint64_t)g_get_monotonic_time(), LONGEST_END);
+    dconfdb_patience(&patience, true, (uint64_t)g_get_monotonic_time(), LONGEST_END);
     while (dconfdb_patience_goes_on(&patience, self->is_over, 1, self->failed, tries, (uint64_t)g_get_monotonic_time()))
         g_cond_wait_until(&self->settles, &self->lock, (gint64)patience.end);
 }

@@ -58,7 +58,7 @@ size_t bit_of(const Written *one, const Written *other, size_t from, size_t to, 
 size_t ends(const Written *room);
 
 /* ---- what is found: of a database (database.c), of a turn to change a file (turn.c), of what waits (waits.c), of what others do
- * (others.c), of where a store is (place.c), and of lines (lines.c) */
+ * (others.c), of where a store is (place.c), of lines (lines.c), and of changes to a set (changesets.c) */
 
 /* Of so many texts a path is made. */
 enum { PART_OF_PATH = 4 };
@@ -71,5 +71,6 @@ void finds_waits(void);
 void finds_others(void);
 void finds_places(void);
 void finds_lines(void);
+void finds_changesets(void);
 
 #endif

@@ -17,5 +17,6 @@ int main(void)
     finds_others();
     finds_places();
     finds_lines();
+    finds_changesets();
     return 0;
 }

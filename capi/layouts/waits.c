@@ -4,12 +4,12 @@
 #include <stdio.h>
 #include <string.h>
 
-uint32_t dconfdb_entry(const void *edits, size_t count);
+uint32_t dconfdb_entry(const void *edits, size_t count, bool *is_there);
 uint32_t dconfdb_found(bool of_user, bool of_default, const void *known);
 uint32_t dconfdb_round_after(uint32_t task, const void *known);
 uint32_t dconfdb_glance_after(uint32_t task, const void *known);
 uint32_t dconfdb_sync_after(uint32_t task, bool yes, const void *known);
-void dconfdb_patience_begin(void *patience, uint64_t now, uint64_t each);
+void dconfdb_patience(void *patience, bool begins, uint64_t now, uint64_t each);
 void dconfdb_queue_begin(void *queue, const void *edits, size_t count, void *step);
 void dconfdb_queue_answered(void *queue, void *edits, size_t count, uint32_t answer, size_t at, void *step);
 void dconfdb_wait_begin(void *wait, uint32_t longest, void *step);
@@ -40,19 +40,21 @@ static uint32_t entry_of(unsigned fields)
     uint8_t edit[NEW_EDIT];
     for (int i = 0; i < NEW_EDIT; i++)
         edit[i] = fields >> i & 1;
-    return dconfdb_entry(edit, 1);
+    bool is_there;
+    return dconfdb_entry(edit, 1, &is_there);
 }
 
 static void finds_new_edit(void)
 {
     enum { A_SET = 1, MAY = 2, SAME = 4, WAITS = 8, ALONE = 16, TAKEN = 32, TWIN = MAY | SAME | WAITS | ALONE };
     uint8_t edits[2 * NEW_EDIT] = {0};
+    bool is_there;
     is_so(entry_of(0) == 1 && entry_of(A_SET) == 0 && entry_of(MAY) == 4 && entry_of(MAY | SAME) == 3, "DconfdbNewEdit");
     is_so(entry_of(TWIN) == 2 && entry_of(TWIN | A_SET) == 2 && entry_of(TWIN | TAKEN) == 3, "DconfdbNewEdit");
     is_so(entry_of(TWIN & ~WAITS) == 3 && entry_of(TWIN & ~ALONE) == 3, "DconfdbNewEdit");
-    is_so(dconfdb_entry(edits, 2) == 1, "DconfdbNewEdit");
+    is_so(dconfdb_entry(edits, 2, &is_there) == 1, "DconfdbNewEdit");
     edits[NEW_EDIT + NEW_SETS] = 1;
-    is_so(dconfdb_entry(edits, 2) == 0, "DconfdbNewEdit");
+    is_so(dconfdb_entry(edits, 2, &is_there) == 0, "DconfdbNewEdit");
     lies("DconfdbNewEdit", "sets", NEW_SETS, FLAG);
     lies("DconfdbNewEdit", "may", NEW_MAY, FLAG);
     lies("DconfdbNewEdit", "is_same", NEW_IS_SAME, FLAG);
@@ -187,7 +189,7 @@ static void finds_glance(void)
 static void finds_patience(void)
 {
     Written patience = room_of("DconfdbPatience");
-    dconfdb_patience_begin(patience.bytes, 7, 11);
+    dconfdb_patience(patience.bytes, true, 7, 11);
     finds_word(&patience, "end", 18);
     finds_word(&patience, "each", 11);
     finds_word(&patience, "latest", 60000007);

@@ -63,7 +63,7 @@ DConfChangeset *effective(const Edits *self, const DconfdbNewEdit *known, DConfC
     for (guint at = 0; at < self->edits->len; at++) {
         const gchar *path = edit_at(self, at)->path;
         GVariant *value = NULL;
-        if (!dconfdb_is_news(&known[at]) || !dconf_changeset_get(changes, path, &value))
+        if (!edit_is_news(&known[at]) || !dconf_changeset_get(changes, path, &value))
             continue;
         dconf_changeset_set(found, path, value);
         g_clear_pointer(&value, g_variant_unref);

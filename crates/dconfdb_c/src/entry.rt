@@ -1,36 +1,23 @@
 //! What becomes of a change that is asked for, and what a fault means to it.
 ghost use Rattle.std.specs.Prelude.{◌≡◌};
 ghost use Rattle.std.specs.List.{list_all};
-ghost use Rattle.dconf_verdicts.specs.Entries.{entry_number, entry_of, is_news, is_there};
+ghost use Rattle.dconf_verdicts.specs.Entries.{entry_number, entry_of, is_there};
 ghost use Rattle.dconf_verdicts.specs.Faults.{class_of, fault_of, is_momentary, kind_of, number_of, verdict_number, verdict_of};
 
 use dconf_verdicts::{
-    NewEdit, class_number, entry_number, is_momentary, is_news, is_there, verdict_number,
+    NewEdit, class_number, entry_number, is_momentary, is_there, verdict_number,
 };
 
 /// What becomes of a change: 0 it is refused, 1 nothing is left of it, 2 it renews the one that waits,
-/// 3 it waits, though nothing is seen otherwise, 4 it waits.
+/// 3 it waits, though nothing is seen otherwise, 4 it waits: of one edit alone, exactly if something else is seen by it. `there` says
+/// whether all that it asks for is there already, so that nothing is to be written.
 #[unsafe(no_mangle)]
-pub extern "C" fn dconfdb_entry(edits: &[NewEdit]) -> u32
-    ensures { result ≡ entry_number (entry_of edits.now) }
+pub extern "C" fn dconfdb_entry(edits: &[NewEdit], there: &mut bool) -> u32
+    ensures entry { result ≡ entry_number (entry_of edits.now) }
+    ensures there { there.new ≡ list_all is_there edits.now }
 {
+    *there = is_there(edits);
     entry_number(edits)
-}
-
-/// Whether something else is seen by an edit that waits: that is told.
-#[unsafe(no_mangle)]
-pub extern "C" fn dconfdb_is_news(edit: &NewEdit) -> bool
-    ensures { result ≡ is_news edit.now }
-{
-    is_news(*edit)
-}
-
-/// Whether all that a change asks for is there already, so that nothing is to be written.
-#[unsafe(no_mangle)]
-pub extern "C" fn dconfdb_is_there(edits: &[NewEdit]) -> bool
-    ensures { result ≡ list_all is_there edits.now }
-{
-    is_there(edits)
 }
 
 /// The class of a fault of that kind, of who changes a file, or reads it: 0 the file's own, 1 it passes

@@ -1,6 +1,6 @@
 //! Changes that wait to be written: which edit of a key is the newest, what becomes of each change, and how
 //! long it is waited for.
-ghost use Rattle.std.specs.Prelude.{◌≡◌, ◌≤◌, ◌<◌, ◌+◌, ◌⊎◌, ◌↔◌, IsTrue, false};
+ghost use Rattle.std.specs.Prelude.{◌≡◌, ◌≤◌, ◌<◌, ◌+◌, ◌⊎◌, ◌↔◌, IsTrue, false, true};
 ghost use Rattle.dconf_waiting.specs.Newest.{IsPut, found};
 ghost use Rattle.dconf_waiting.specs.Fates.{edit_with, fate_number, fate_of, is_overtaken};
 ghost use Rattle.dconf_waiting.specs.Patiences.{IsRenewed, longest, patience_from};
@@ -9,20 +9,21 @@ use dconf_waiting::{
     Patience, Progress, WaitingEdit, fate_number, found, is_lasting, is_overtaken, put,
 };
 
-/// The number of the newest edit of a key; 0 if none waits.
+/// The number of the newest edit of a key that waits; 0 if none does. If `puts`, the edit of that number is the newest from then on.
 #[unsafe(no_mangle)]
-pub extern "C" fn dconfdb_newest_found(newest: &[usize], key: usize) -> usize
-    ensures { result ≡ found newest.now key }
+pub extern "C" fn dconfdb_newest(
+    newest: &mut [usize],
+    key: usize,
+    puts: bool,
+    number: usize,
+) -> usize
+    ensures found { puts ≡ false → (newest.new ≡ newest.old) × (result ≡ found newest.old key) }
+    ensures put { puts ≡ true → IsPut newest.old key number newest.new result }
 {
+    if puts {
+        return put(newest, key, number);
+    }
     found(newest, key)
-}
-
-/// Puts an edit as the newest of its key, and gives the number of the one that was it before, or 0.
-#[unsafe(no_mangle)]
-pub extern "C" fn dconfdb_newest_put(newest: &mut [usize], key: usize, number: usize) -> usize
-    ensures { IsPut newest.old key number newest.new result }
-{
-    put(newest, key, number)
 }
 
 /// What becomes of a change when it was tried to write all that waits: 0 it waits, 1 it is written,
@@ -47,21 +48,18 @@ pub extern "C" fn dconfdb_waiting_fate(
     fate_number(is_written, is_refused, is_overtaken)
 }
 
-/// How long it is waited, from now on: so long, and as long again after each turn of another program,
-/// up to a minute.
+/// How long it is waited: from now on (`begins`), so long, and as long again after each turn of another program, up to a minute; else
+/// another one had a turn.
 #[unsafe(no_mangle)]
-pub extern "C" fn dconfdb_patience_begin(patience: &mut Patience, now: u64, each: u64)
-    ensures { patience.new ≡ patience_from now each }
+pub extern "C" fn dconfdb_patience(patience: &mut Patience, begins: bool, now: u64, each: u64)
+    ensures begun { begins ≡ true → patience.new ≡ patience_from now each }
+    ensures renewed { begins ≡ false → IsRenewed patience.old now patience.new }
 {
-    *patience = Patience::begin(now, each);
-}
-
-/// Another program had a turn.
-#[unsafe(no_mangle)]
-pub extern "C" fn dconfdb_patience_renew(patience: &mut Patience, now: u64)
-    ensures { IsRenewed patience.old now patience.new }
-{
-    patience.renew(now);
+    if begins {
+        *patience = Patience::begin(now, each);
+    } else {
+        patience.renew(now);
+    }
 }
 
 /// Whether it is waited on: fewer changes are settled than there were when the wait began, no later try
