@@ -28,13 +28,23 @@ typedef struct {
 /* Whether something else is seen by an edit that waits: that is told. */
 static inline bool edit_is_news(const DconfdbNewEdit *edit)
 {
-    return dconfdb_entry(edit, 1) == DCONFDB_ENTRY_WAITS;
+    bool is_there;
+    return dconfdb_entry(edit, 1, &is_there) == DCONFDB_ENTRY_WAITS;
 }
 
 /* Whether nothing is left of an edit: it takes away what may not be written. */
 static inline bool edit_is_left_out(const DconfdbNewEdit *edit)
 {
-    return dconfdb_entry(edit, 1) == DCONFDB_ENTRY_EMPTY;
+    bool is_there;
+    return dconfdb_entry(edit, 1, &is_there) == DCONFDB_ENTRY_EMPTY;
+}
+
+/* Whether all that these ask for is there already. */
+static inline bool edits_are_there(const DconfdbNewEdit *edits, size_t count)
+{
+    bool is_there;
+    dconfdb_entry(edits, count, &is_there);
+    return is_there;
 }
 
 /* With room for so many edits. */

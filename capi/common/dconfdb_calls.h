@@ -544,12 +544,9 @@ enum {
     DCONFDB_ENTRY_WAITS
 };
 
-/* Of one edit WAITS says that something else is seen by it, which is told, and EMPTY that it is left out. */
-uint32_t dconfdb_entry(const DconfdbNewEdit *edits, size_t count);
-
-/* Whether all that a change asks for is there already, so that nothing is to be written: the user has it, and no other edit of its keys
- * waits. */
-bool dconfdb_is_there(const DconfdbNewEdit *edits, size_t count);
+/* `is_there`: all that it asks for is there already, so that nothing is to be written: the user has it, and no other edit of its keys waits. Of one
+ * edit WAITS says that something else is seen by it, which is told, and EMPTY that it is left out. */
+uint32_t dconfdb_entry(const DconfdbNewEdit *edits, size_t count, bool *is_there);
 
 /* What becomes of what waits after a change that was not made, by the header's code of what it failed by, and its errno: an answer to
  * dconfdb_queue_answered. Nothing is refused but for a fault that stays. */
@@ -988,11 +985,9 @@ uint32_t dconfdb_tell_next(const DconfdbTelling *known);
 
 /* ---- changes that wait. Each key and each edit has a number; an edit's is 1 or more, and greater than those of older ones. */
 
-/* The number of the newest edit of a key; 0 if none waits. */
-size_t dconfdb_newest_found(const size_t *newest, size_t keys, size_t key);
-
-/* Puts an edit as the newest of its key. Gives the one that was it before, and is so again if this one goes; or 0. */
-size_t dconfdb_newest_put(size_t *newest, size_t keys, size_t key, size_t number);
+/* The number of the newest edit of a key; 0 if none waits. `puts`: the edit `number` is it from then on; and if that goes, the one that was it
+ * before is so again. */
+size_t dconfdb_newest(size_t *newest, size_t keys, size_t key, bool puts, size_t number);
 
 /* What becomes of a change when it was tried to write all that waits. */
 enum {
@@ -1156,14 +1151,90 @@ enum {
     DCONFDB_PATH_NOT_ABSOLUTE,
     DCONFDB_PATH_HAS_NUL,
     DCONFDB_PATH_DOUBLE_SLASH,
-    DCONFDB_PATH_ABSOLUTE /* of dconfdb_relative_kind alone */
+    DCONFDB_PATH_ABSOLUTE,    /* of what follows the slash of a directory */
+    DCONFDB_PATH_NO_KEY,      /* a directory's, where a key's is wanted */
+    DCONFDB_PATH_NO_DIRECTORY /* a key's, where a directory's is wanted */
 };
 
-/* However long it is; `is_short` says whether it is no longer than a path may be. */
-uint32_t dconfdb_path_kind(const uint8_t *text, size_t len, bool *is_short);
+/* Which path is wanted. */
+enum {
+    DCONFDB_PATH_WANTED, /* any */
+    DCONFDB_KEY_WANTED,
+    DCONFDB_DIRECTORY_WANTED
+};
 
-/* The same of what follows the slash of a directory. */
-uint32_t dconfdb_relative_kind(const uint8_t *text, size_t len);
+/* However long it is; `is_short` says whether it is no longer than a path may be. `is_relative`: it follows the slash of a directory. */
+uint32_t dconfdb_path_kind(const uint8_t *text, size_t len, uint32_t wanted, bool is_relative, bool *is_short);
+
+/* ---- what dconf's client does with changes */
+
+/* What becomes of a row of a set of changes where a path is set or reset. */
+enum {
+    DCONFDB_ROW_STAYS,
+    DCONFDB_ROW_GOES, /* the change stands for it */
+    DCONFDB_ROW_TAKES /* the change's value, or its reset; it is made, where there is none of that path */
+};
+
+/* Of the row `other`. `sets`: the path is set. `is_database`: the set has values alone, and a key that is reset has no row. */
+uint32_t dconfdb_row_effect(const uint8_t *path, size_t path_len, bool sets, bool is_database, const uint8_t *other, size_t other_len);
+
+/* How many bytes the longest directory has in which both paths are, of at most so many; 0 where there is none. With the same path twice, and
+ * fewer bytes than it has, it is the next directory above it. */
+size_t dconfdb_shared_within(const uint8_t *path, size_t path_len, size_t most, const uint8_t *other, size_t other_len);
+
+/* What is known of the path of a change to a database. */
+typedef struct {
+    bool has;       /* the database has a value there, */
+    bool is_same;   /* which is the change's */
+    bool is_reset;  /* a change that is kept resets a directory above it */
+    bool has_below; /* the database has a value below it */
+} DconfdbBase;
+
+/* Whether such a change makes a difference, beside those that are kept before it. */
+bool dconfdb_makes_difference(const uint8_t *path, size_t path_len, bool sets, const DconfdbBase *base);
+
+/* The sets of changes that are asked for the newest word of a key. */
+enum {
+    DCONFDB_ASKED_STORE, /* none: the store has what is written */
+    DCONFDB_ASKED_WRITING,
+    DCONFDB_ASKED_WAITING,
+    DCONFDB_ASKED_THROUGH /* and from here on what is read through, the first first */
+};
+
+/* Which one is asked once so many were asked, and said nothing. `sets`: the greatest number. */
+size_t dconfdb_asked_after(size_t sets, size_t asked);
+
+/* Whether the files are as they were when they were looked at: all that happens to them is told to this process (`is_own`), and nothing
+ * has been. */
+bool dconfdb_is_current(bool is_watched, bool is_told, bool is_own);
+
+/* What is done with a change whose caller waits for it, in this order. */
+enum {
+    DCONFDB_CHANGING_BEGINS,
+    DCONFDB_CHANGING_BEFORE,  /* write what was asked for before: is it written? */
+    DCONFDB_CHANGING_SETTLE,  /* all is there: is it on the disk? */
+    DCONFDB_CHANGING_PUT,     /* put what is left of it: is that made? */
+    DCONFDB_CHANGING_TELL,    /* tell it */
+    DCONFDB_CHANGING_MADE,    /* over */
+    DCONFDB_CHANGING_REFUSED, /* over: a key may not be written */
+    DCONFDB_CHANGING_FAILED   /* over, for another fault */
+};
+
+/* What is known; but for the first two from when all is written that was asked for before. */
+typedef struct {
+    bool is_empty;      /* it asks for nothing */
+    bool is_refused;    /* it sets a key that may not be written */
+    bool has_user;      /* there is a user's database, */
+    bool is_there;      /* which has all that the change asks for */
+    bool is_left;       /* something is left of it to be put */
+    bool is_news;       /* the user has something else by it */
+    bool is_watched;    /* somebody is told of such */
+    bool is_locked;     /* the task that failed last failed since a key is locked, */
+    bool is_unwritable; /* or since there is no database that could be written */
+} DconfdbChanging;
+
+/* The task that is due after that one, by its answer. */
+uint32_t dconfdb_changing_after(uint32_t task, bool yes, const DconfdbChanging *known);
 
 /* ---- keyfiles and lock files, line by line */
 

@@ -28,7 +28,7 @@ static size_t *numbers_of(const Waiting *waiting)
 /* The newest edit of a key that waits, or NULL. */
 static Edit *newest_of(const Waiting *waiting, size_t key)
 {
-    size_t number = dconfdb_newest_found(numbers_of(waiting), waiting->newest->len, key);
+    size_t number = dconfdb_newest(numbers_of(waiting), waiting->newest->len, key, false, 0);
     return number > 0 ? g_ptr_array_index(waiting->edits, number - 1) : NULL;
 }
 
@@ -71,7 +71,8 @@ uint32_t change_entry(Change *change, const Waiting *waiting, const DconfdbSnaps
         change->known[i] = newest ? known_beside(edit, newest, now, is_at_work) : known_by_now(edit, now, is_at_work);
         edit->is_left_out = edit_is_left_out(&change->known[i]);
     }
-    return dconfdb_entry(change->known, change->count);
+    bool is_there;
+    return dconfdb_entry(change->known, change->count, &is_there);
 }
 
 /* ---- what waits */
@@ -119,7 +120,7 @@ static void put(Waiting *waiting, Edit *edit)
     }
     g_ptr_array_add(waiting->edits, edit);
     edit->number = waiting->edits->len;
-    edit->before = dconfdb_newest_put(numbers_of(waiting), waiting->newest->len, edit->key, edit->number);
+    edit->before = dconfdb_newest(numbers_of(waiting), waiting->newest->len, edit->key, true, edit->number);
 }
 
 static void put_change(Waiting *waiting, Change *change)
@@ -229,7 +230,7 @@ static bool is_there_already(const Waiting *waiting, Change *change, const Dconf
         change->known[i] = known_by_now(edit, now, true);
         change->known[i].waits = edit->before > 0 || newest_of(waiting, edit->key) != edit;
     }
-    return dconfdb_is_there(change->known, change->count);
+    return edits_are_there(change->known, change->count);
 }
 
 guint waiting_settle(Waiting *waiting, const DconfdbSnapshot *now)

@@ -58,7 +58,7 @@ size_t bit_of(const Written *one, const Written *other, size_t from, size_t to, 
 size_t ends(const Written *room);
 
 /* ---- what is found: of a database (database.c), of a turn to change a file (turn.c), of what waits (waits.c), of faults (faults.c), of what others do
- * (others.c), of where a store is (place.c), and of lines (lines.c); and what inotify tells (inotify.c) */
+ * (others.c), of where a store is (place.c), of lines (lines.c), and of changes to a set (changesets.c); and what inotify tells (inotify.c) */
 
 /* Of so many texts a path is made. */
 enum { PART_OF_PATH = 4 };
@@ -76,5 +76,6 @@ void finds_others(void);
 void finds_places(void);
 void finds_lines(void);
 void tries_inotify(void);
+void finds_changesets(void);
 
 #endif

@@ -19,5 +19,6 @@ int main(void)
     finds_places();
     finds_lines();
     tries_inotify();
+    finds_changesets();
     return 0;
 }

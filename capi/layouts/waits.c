@@ -4,7 +4,7 @@
 #include <stdio.h>
 #include <string.h>
 
-uint32_t dconfdb_entry(const void *edits, size_t count);
+uint32_t dconfdb_entry(const void *edits, size_t count, bool *is_there);
 uint32_t dconfdb_found(bool of_user, bool of_default, const void *known);
 uint32_t dconfdb_round_after(uint32_t task, const void *known);
 uint32_t dconfdb_glance_after(uint32_t task, const void *known);
@@ -47,19 +47,21 @@ static uint32_t entry_of(unsigned fields)
     uint8_t edit[NEW_EDIT];
     for (int i = 0; i < NEW_EDIT; i++)
         edit[i] = fields >> i & 1;
-    return dconfdb_entry(edit, 1);
+    bool is_there;
+    return dconfdb_entry(edit, 1, &is_there);
 }
 
 static void finds_new_edit(void)
 {
     enum { A_SET = 1, MAY = 2, SAME = 4, WAITS = 8, ALONE = 16, TAKEN = 32, TWIN = MAY | SAME | WAITS | ALONE };
     uint8_t edits[2 * NEW_EDIT] = {0};
+    bool is_there;
     is_so(entry_of(0) == 1 && entry_of(A_SET) == 0 && entry_of(MAY) == 4 && entry_of(MAY | SAME) == 3, "DconfdbNewEdit");
     is_so(entry_of(TWIN) == 2 && entry_of(TWIN | A_SET) == 2 && entry_of(TWIN | TAKEN) == 3, "DconfdbNewEdit");
     is_so(entry_of(TWIN & ~WAITS) == 3 && entry_of(TWIN & ~ALONE) == 3, "DconfdbNewEdit");
-    is_so(dconfdb_entry(edits, 2) == 1, "DconfdbNewEdit");
+    is_so(dconfdb_entry(edits, 2, &is_there) == 1, "DconfdbNewEdit");
     edits[NEW_EDIT + NEW_SETS] = 1;
-    is_so(dconfdb_entry(edits, 2) == 0, "DconfdbNewEdit");
+    is_so(dconfdb_entry(edits, 2, &is_there) == 0, "DconfdbNewEdit");
     lies("DconfdbNewEdit", "sets", NEW_SETS, FLAG);
     lies("DconfdbNewEdit", "may", NEW_MAY, FLAG);
     lies("DconfdbNewEdit", "is_same", NEW_IS_SAME, FLAG);

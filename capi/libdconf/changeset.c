@@ -2,12 +2,14 @@
  * `dconf` does: the loader then takes its own, and the other files here are handed its sets. So they call what is public. */
 #include "libdconf.h"
 
+#include "dconfdb_calls.h"
+
 #include <string.h>
 
 struct _DConfChangeset {
     gatomicrefcount references;
     GTree *rows; /* of paths and values, NULL: a reset */
-    guint reset_directories;
+    guint directories; /* how many of them are a directory's */
     gboolean is_database; /* it has values alone */
     gboolean is_sealed;
 
@@ -29,9 +31,14 @@ static void unref_value(gpointer value)
         g_variant_unref(value);
 }
 
+static const uint8_t *bytes_of(const gchar *path)
+{
+    return (const uint8_t *)path;
+}
+
 static bool is_directory(const gchar *path)
 {
-    return g_str_has_suffix(path, "/");
+    return dconf_is_dir(path, NULL);
 }
 
 /* A path of the set, and its value; NULL: a reset. */
@@ -57,11 +64,17 @@ static gboolean has_row(DConfChangeset *self, const gchar *path)
     return g_tree_lookup_extended(self->rows, path, NULL, NULL);
 }
 
-/* Adds a row, and leaves those below a directory. */
+/* Puts a row, and leaves all others. */
 static void put_row(DConfChangeset *self, const gchar *path, GVariant *value)
 {
-    self->reset_directories += is_directory(path) && !has_row(self, path);
+    self->directories += is_directory(path) && !has_row(self, path);
     g_tree_replace(self->rows, g_strdup(path), value ? g_variant_ref_sink(value) : NULL);
+}
+
+static void take_row(DConfChangeset *self, const gchar *path)
+{
+    self->directories -= is_directory(path) && has_row(self, path);
+    g_tree_remove(self->rows, path);
 }
 
 /* ---- its life */
@@ -119,57 +132,58 @@ void dconf_changeset_unref(DConfChangeset *changeset)
 
 /* ---- one path */
 
-/* The first row that isn't before the path, if it is below the directory. */
-static const gchar *first_below(DConfChangeset *self, const gchar *directory)
+/* The first row behind the path; NULL: there is none. */
+static const gchar *row_behind(DConfChangeset *self, const gchar *path)
 {
-    GTreeNode *node = g_tree_lower_bound(self->rows, directory);
-    const gchar *path = node ? g_tree_node_key(node) : NULL;
-    return path && g_str_has_prefix(path, directory) ? path : NULL;
+    GTreeNode *node = g_tree_upper_bound(self->rows, path);
+    return node ? g_tree_node_key(node) : NULL;
 }
 
-/* Takes out what is set or reset below a directory, and its own reset. */
-static void clear_below(DConfChangeset *self, const gchar *directory)
+static uint32_t effect_of(const DConfChangeset *self, const gchar *path, const GVariant *value, const gchar *row)
 {
-    for (const gchar *path; (path = first_below(self, directory)) != NULL;) {
-        self->reset_directories -= is_directory(path);
-        g_tree_remove(self->rows, path);
-    }
+    return dconfdb_row_effect(bytes_of(path), strlen(path), value != NULL, self->is_database, bytes_of(row), strlen(row));
+}
+
+/* Takes out what a path stands for that is set, or reset: in byte order that comes right behind it. */
+static void clear_behind(DConfChangeset *self, const gchar *path, const GVariant *value)
+{
+    for (const gchar *row; (row = row_behind(self, path)) && effect_of(self, path, value, row) == DCONFDB_ROW_GOES;)
+        take_row(self, row);
 }
 
 void dconf_changeset_set(DConfChangeset *changeset, const gchar *path, GVariant *value)
 {
     g_return_if_fail (changeset != NULL);
     g_return_if_fail (!changeset->is_sealed);
-    g_return_if_fail (dconf_is_path (path, NULL));
-    if (is_directory(path)) {
-        g_return_if_fail (value == NULL);
-        clear_below(changeset, path);
-    }
-    if (value || !changeset->is_database)
+    g_return_if_fail (value ? dconf_is_key (path, NULL) : dconf_is_path (path, NULL));
+    clear_behind(changeset, path, value);
+    if (effect_of(changeset, path, value, path) == DCONFDB_ROW_TAKES)
         put_row(changeset, path, value);
     else
-        g_tree_remove(changeset->rows, path);
+        take_row(changeset, path);
 }
 
-/* Whether the path's directory, or one above that, is reset. */
-static gboolean is_below_reset(DConfChangeset *self, const gchar *path)
+/* The row that says the key's word: its own, or that of a directory above it; NULL: there is none. */
+static const gchar *row_of(DConfChangeset *self, const gchar *key)
 {
-    g_autofree gchar *directory = self->reset_directories > 0 ? g_strdup(path) : NULL;
-    for (gchar *slash; directory && (slash = strrchr(directory, '/')) != NULL; *slash = 0) {
-        slash[1] = 0;
-        if (has_row(self, directory))
-            return TRUE;
+    g_autofree gchar *above = g_strdup(key);
+    gpointer row = NULL;
+    size_t len = strlen(key);
+    while (len > 0 && !g_tree_lookup_extended(self->rows, above, &row, NULL)) {
+        len = self->directories > 0 ? dconfdb_shared_within(bytes_of(key), strlen(key), len - 1, bytes_of(key), strlen(key)) : 0;
+        above[len] = 0;
     }
-    return FALSE;
+    return row;
 }
 
 gboolean dconf_changeset_get(DConfChangeset *changeset, const gchar *key, GVariant **value)
 {
-    gpointer found = NULL;
     g_return_val_if_fail (changeset != NULL, FALSE);
     g_return_val_if_fail (key != NULL, FALSE);
-    if (!g_tree_lookup_extended(changeset->rows, key, NULL, &found) && !is_below_reset(changeset, key))
+    const gchar *row = row_of(changeset, key);
+    if (!row)
         return FALSE;
+    GVariant *found = g_tree_lookup(changeset->rows, row);
     if (value)
         *value = found ? g_variant_ref(found) : NULL;
     return TRUE;
@@ -211,13 +225,13 @@ gboolean dconf_changeset_is_similar_to(DConfChangeset *changeset, DConfChangeset
 
 /* ---- sealed, and described */
 
-/* How many bytes both paths begin with, up to a slash. Those between them begin with these, too. */
-static size_t common(const gchar *first, const gchar *last)
+/* How many bytes of the first path are the directory in which all are; of one, all of it. */
+static size_t common(const gchar *const *paths, size_t count)
 {
-    size_t whole = 0;
-    for (size_t at = 0; first[at] && first[at] == last[at]; at++)
-        whole = first[at] == '/' ? at + 1 : whole;
-    return whole;
+    size_t len = strlen(paths[0]), most = len;
+    for (size_t i = 1; i < count; i++)
+        most = dconfdb_shared_within(bytes_of(paths[0]), len, most, bytes_of(paths[i]), strlen(paths[i]));
+    return most;
 }
 
 void dconf_changeset_seal(DConfChangeset *changeset)
@@ -237,9 +251,8 @@ void dconf_changeset_seal(DConfChangeset *changeset)
         changeset->paths[done] = row.path;
         changeset->values[done] = row.value;
     }
-    const gchar *first = changeset->paths[0], *last = changeset->paths[count - 1];
-    size_t prefix = count == 1 ? strlen(first) : common(first, last);
-    changeset->prefix = g_strndup(first, prefix);
+    size_t prefix = common(changeset->paths, count);
+    changeset->prefix = g_strndup(changeset->paths[0], prefix);
     for (size_t i = 0; i < count; i++)
         changeset->paths[i] += prefix;
 }
@@ -297,13 +310,25 @@ void dconf_changeset_change(DConfChangeset *changeset, DConfChangeset *changes)
         dconf_changeset_set(changeset, row.path, row.value);
 }
 
-/* Whether the change makes a difference to the database, in which nothing is below what `found` resets. */
-static gboolean differs(DConfChangeset *base, DConfChangeset *found, const Row *row)
+/* Whether a row of the database is below the directory. */
+static bool has_below(DConfChangeset *base, const gchar *directory)
 {
-    if (is_directory(row->path))
-        return first_below(base, row->path) != NULL;
-    GVariant *had = is_below_reset(found, row->path) ? NULL : g_tree_lookup(base->rows, row->path);
-    return had && row->value ? !g_variant_equal(had, row->value) : had != row->value;
+    const gchar *row = row_behind(base, directory);
+    return row && effect_of(base, directory, NULL, row) == DCONFDB_ROW_GOES;
+}
+
+/* Puts a change that makes a difference to the database, beside those that are found. */
+static void put_if_differs(DConfChangeset *base, DConfChangeset *found, const Row *row)
+{
+    GVariant *had = g_tree_lookup(base->rows, row->path);
+    DconfdbBase known = {
+        .has = had != NULL,
+        .is_same = had && row->value && g_variant_equal(had, row->value),
+        .is_reset = row_of(found, row->path) != NULL,
+        .has_below = has_below(base, row->path),
+    };
+    if (dconfdb_makes_difference(bytes_of(row->path), strlen(row->path), row->value != NULL, &known))
+        put_row(found, row->path, row->value);
 }
 
 static DConfChangeset *unless_empty(DConfChangeset *self)
@@ -321,10 +346,8 @@ DConfChangeset *dconf_changeset_filter_changes(DConfChangeset *base, DConfChange
     g_return_val_if_fail (base != NULL && changes != NULL, NULL);
     g_return_val_if_fail (base->is_database, NULL);
     DConfChangeset *found = new_of(FALSE);
-    while (next_row(changes, &at, &row)) {
-        if (differs(base, found, &row))
-            put_row(found, row.path, row.value);
-    }
+    while (next_row(changes, &at, &row))
+        put_if_differs(base, found, &row);
     return unless_empty(found);
 }
 
@@ -335,11 +358,14 @@ DConfChangeset *dconf_changeset_diff(DConfChangeset *from, DConfChangeset *to)
     g_return_val_if_fail (from != NULL && to != NULL, NULL);
     g_return_val_if_fail (from->is_database, NULL);
     g_return_val_if_fail (to->is_database, NULL);
-    DConfChangeset *found = dconf_changeset_filter_changes(from, to);
-    found = found ? found : new_of(FALSE);
+    DConfChangeset *found = new_of(FALSE);
+    while (next_row(to, &at, &row))
+        put_if_differs(from, found, &row);
+    at = NULL;
     while (next_row(from, &at, &row)) {
+        row.value = NULL;
         if (!has_row(to, row.path))
-            put_row(found, row.path, NULL);
+            put_if_differs(from, found, &row);
     }
     return unless_empty(found);
 }

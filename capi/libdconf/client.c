@@ -1,6 +1,7 @@
 /* DConfClient: the calls of a program. */
 #include "libdconf.h"
 
+#include "dconfdb_calls.h"
 #include "seen.h"
 
 #include <stdlib.h>
@@ -86,9 +87,9 @@ gchar **dconf_client_list_locks(DConfClient *client, const gchar *dir, gint *len
     DconfdbSnapshot *now = engine_current(client->engine);
     char *locks = now ? dconfdb_snapshot_locks(now, dir, NULL, NULL) : NULL;
     dconfdb_snapshot_unref(now);
-    if (engine_has_user(client->engine))
+    /* Where not even its reset may be made, the directory is locked as a whole. */
+    if (dconfdb_may_be_made((const uint8_t *)dir, strlen(dir), false, engine_has_user(client->engine), false))
         return array_of(locks, length);
-    /* Nothing can be written. */
     const gchar *all[] = {dir, NULL};
     free(locks);
     if (length)

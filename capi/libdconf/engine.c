@@ -139,16 +139,22 @@ DconfdbSnapshot *engine_newest(Engine *self)
     return now ? now : engine_look(self);
 }
 
-/* Whether nothing has been told. A child of fork() shares the descriptor with its parent, who may have taken what was. */
-static bool has_heard_all(Engine *self)
+/* Whether something may have been told that nobody has looked at yet. */
+static bool is_told(struct pollfd file)
+{
+    return file.fd < 0 || poll(&file, 1, 0) != 0;
+}
+
+/* Whether who reads needs no look. A child of fork() shares the descriptor with its parent, who may have taken what was told. */
+static bool is_current(Engine *self)
 {
     struct pollfd file = {g_atomic_int_get(&self->hears) - 1, POLLIN, 0};
-    return file.fd >= 0 && poll(&file, 1, 0) == 0 && g_atomic_int_get(&self->hearer) == getpid();
+    return dconfdb_is_current(file.fd >= 0, is_told(file), g_atomic_int_get(&self->hearer) == getpid());
 }
 
 DconfdbSnapshot *engine_current(Engine *self)
 {
-    return has_heard_all(self) ? engine_newest(self) : engine_look(self);
+    return is_current(self) ? engine_newest(self) : engine_look(self);
 }
 
 void engine_begin_write(Engine *self)
@@ -227,16 +233,28 @@ void engine_unref(Engine *self)
 
 /* ---- reading */
 
-/* Whether the sets, the last one first, or what waits, have the key. */
+DConfChangeset *engine_set(Engine *self, size_t number, const GQueue *read_through)
+{
+    switch (number) {
+    case DCONFDB_ASKED_WRITING:
+        return self->flying;
+    case DCONFDB_ASKED_WAITING:
+        return self->waiting;
+    default:
+        return g_queue_peek_nth((GQueue *)read_through, (guint)(number - DCONFDB_ASKED_THROUGH));
+    }
+}
+
+/* What the newest word says of a key; NULL: it is reset. False: none says anything. */
 static gboolean find_edit(Engine *self, const gchar *key, const GQueue *read_through, GVariant **value)
 {
-    for (const GList *at = read_through ? read_through->tail : NULL; at; at = at->prev) {
-        if (dconf_changeset_get(at->data, key, value))
-            return TRUE;
-    }
+    size_t sets = DCONFDB_ASKED_WAITING + (read_through ? read_through->length : 0), number, asked = 0;
+    gboolean is = FALSE;
     g_mutex_lock(&self->lock);
-    gboolean is = (self->waiting && dconf_changeset_get(self->waiting, key, value))
-        || (self->flying && dconf_changeset_get(self->flying, key, value));
+    while (!is && (number = dconfdb_asked_after(sets, asked++)) != DCONFDB_ASKED_STORE) {
+        DConfChangeset *set = engine_set(self, number, read_through);
+        is = set && dconf_changeset_get(set, key, value);
+    }
     g_mutex_unlock(&self->lock);
     return is;
 }

@@ -3,6 +3,7 @@
 #include "writes.h"
 
 #include "order.h"
+#include "seen.h"
 #include "threads.h"
 
 /* Gives the pause before it is tried again; 0: it is written. */
@@ -62,23 +63,28 @@ static void begin_thread(Engine *self)
 
 static gboolean is_no_value_below(const gchar *path, GVariant *value, gpointer directory)
 {
-    return !value || !g_str_has_prefix(path, directory);
+    return !value || !paths_meet(path, directory);
+}
+
+static gboolean says_same(GVariant *found, GVariant *value)
+{
+    gboolean is = found && value ? g_variant_equal(found, value) : found == value;
+    g_clear_pointer(&found, g_variant_unref);
+    return is;
 }
 
 /* `lock` is held. Whether the user has that already, or will have once what waits is written. */
 static gboolean is_redundant(Engine *self, const DconfdbSnapshot *now, const DconfdbEdit *edit, GVariant *value)
 {
     GVariant *found = NULL;
-    DConfChangeset *sets[] = {self->waiting, self->flying};
     bool is_directory = dconf_is_dir(edit->path, NULL);
-    for (size_t i = 0; i < G_N_ELEMENTS(sets); i++) {
-        if (sets[i] && is_directory && !dconf_changeset_all(sets[i], is_no_value_below, (gpointer)edit->path))
+    size_t number, asked = 0;
+    while ((number = dconfdb_asked_after(DCONFDB_ASKED_WAITING, asked++)) != DCONFDB_ASKED_STORE) {
+        DConfChangeset *set = engine_set(self, number, NULL);
+        if (set && is_directory && !dconf_changeset_all(set, is_no_value_below, (gpointer)edit->path))
             return FALSE;
-        if (!sets[i] || !dconf_changeset_get(sets[i], edit->path, &found))
-            continue;
-        gboolean is = found && value ? g_variant_equal(found, value) : found == value;
-        g_clear_pointer(&found, g_variant_unref);
-        return is;
+        if (set && dconf_changeset_get(set, edit->path, &found))
+            return says_same(found, value);
     }
     return dconfdb_snapshot_has_edit(now, edit);
 }
@@ -94,7 +100,8 @@ static uint32_t entry_of(Engine *self, bool has_user, const DconfdbSnapshot *now
         known[at] = known_by_rights(edit, has_user, now);
         known[at].is_same = now && is_redundant(self, now, edit, value);
     }
-    return dconfdb_entry(known, edits->edits->len);
+    bool is_there;
+    return dconfdb_entry(known, edits->edits->len, &is_there);
 }
 
 /* `lock` is held. They were asked for in this moment. */

@@ -74,6 +74,9 @@ void engine_end_write(Engine *self);
 /* Whether the profile has a user's database: without one nothing can be written. */
 gboolean engine_has_user(Engine *self);
 
+/* `lock` is held. The set of that number, as dconfdb_asked_after has it; NULL: it is empty. */
+DConfChangeset *engine_set(Engine *self, size_t number, const GQueue *read_through);
+
 GVariant *engine_read(Engine *self, const gchar *key, DConfReadFlags flags, const GQueue *read_through);
 
 /* ---- changes (writes.c, fast.c) */

@@ -7,19 +7,18 @@
 
 G_DEFINE_QUARK(dconf_error, dconf_error)
 
-typedef enum { ANY, OF_KEY, OF_DIRECTORY } Kind;
-
 /* What is wrong with the text; NULL: nothing. A relative path is what comes after a directory's slash. */
-static const char *fault_of(const gchar *text, Kind kind, gboolean is_relative)
+static const char *fault_of(const gchar *text, uint32_t wanted, gboolean is_relative)
 {
     bool is_short;
-    const uint8_t *bytes = (const uint8_t *)text;
-    size_t len = strlen(text);
-    switch (is_relative ? dconfdb_relative_kind(bytes, len) : dconfdb_path_kind(bytes, len, &is_short)) {
+    switch (dconfdb_path_kind((const uint8_t *)text, strlen(text), wanted, is_relative, &is_short)) {
     case DCONFDB_PATH_KEY:
-        return kind == OF_DIRECTORY ? "must end with a slash" : NULL;
     case DCONFDB_PATH_DIRECTORY:
-        return kind == OF_KEY ? "must not end with a slash" : NULL;
+        return NULL;
+    case DCONFDB_PATH_NO_DIRECTORY:
+        return "must end with a slash";
+    case DCONFDB_PATH_NO_KEY:
+        return "must not end with a slash";
     case DCONFDB_PATH_NOT_ABSOLUTE:
         return "must begin with a slash";
     case DCONFDB_PATH_ABSOLUTE:
@@ -29,10 +28,10 @@ static const char *fault_of(const gchar *text, Kind kind, gboolean is_relative)
     }
 }
 
-static gboolean is_one(const gchar *text, Kind kind, gboolean is_relative, GError **error)
+static gboolean is_one(const gchar *text, uint32_t wanted, gboolean is_relative, GError **error)
 {
     static const char *const names[][2] = {{"path", "relative path"}, {"key", "relative key"}, {"dir", "relative dir"}};
-    const char *name = names[kind][is_relative], *fault = text ? fault_of(text, kind, is_relative) : NULL;
+    const char *name = names[wanted][is_relative], *fault = text ? fault_of(text, wanted, is_relative) : NULL;
     if (!text)
         g_set_error(error, DCONF_ERROR, DCONF_ERROR_PATH, "%s not specified", name);
     else if (fault)
@@ -42,30 +41,30 @@ static gboolean is_one(const gchar *text, Kind kind, gboolean is_relative, GErro
 
 gboolean dconf_is_path(const gchar *string, GError **error)
 {
-    return is_one(string, ANY, FALSE, error);
+    return is_one(string, DCONFDB_PATH_WANTED, FALSE, error);
 }
 
 gboolean dconf_is_key(const gchar *string, GError **error)
 {
-    return is_one(string, OF_KEY, FALSE, error);
+    return is_one(string, DCONFDB_KEY_WANTED, FALSE, error);
 }
 
 gboolean dconf_is_dir(const gchar *string, GError **error)
 {
-    return is_one(string, OF_DIRECTORY, FALSE, error);
+    return is_one(string, DCONFDB_DIRECTORY_WANTED, FALSE, error);
 }
 
 gboolean dconf_is_rel_path(const gchar *string, GError **error)
 {
-    return is_one(string, ANY, TRUE, error);
+    return is_one(string, DCONFDB_PATH_WANTED, TRUE, error);
 }
 
 gboolean dconf_is_rel_key(const gchar *string, GError **error)
 {
-    return is_one(string, OF_KEY, TRUE, error);
+    return is_one(string, DCONFDB_KEY_WANTED, TRUE, error);
 }
 
 gboolean dconf_is_rel_dir(const gchar *string, GError **error)
 {
-    return is_one(string, OF_DIRECTORY, TRUE, error);
+    return is_one(string, DCONFDB_DIRECTORY_WANTED, TRUE, error);
 }

@@ -112,7 +112,7 @@ static gboolean put_waiting(Engine *self, DConfChangeset *changes, GHashTable *u
     Edits edits = edits_of(changes);
     g_autofree DconfdbNewEdit *known = now ? known_of(&edits, true, now) : NULL;
     /* What another program wrote may not be on the disk yet. */
-    gboolean is_done = known && dconfdb_is_there(known, edits.edits->len) && settle_store(engine_store(self), NULL);
+    gboolean is_done = known && edits_are_there(known, edits.edits->len) && settle_store(engine_store(self), NULL);
     if (!is_done) {
         if (known)
             leave_out(&edits, known);

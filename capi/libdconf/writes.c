@@ -16,21 +16,6 @@ gboolean refuse_locked(GError **error)
     return FALSE;
 }
 
-static gboolean refuse(const DconfdbError *fault, GError **error)
-{
-    if (fault->code == DCONFDB_ERROR_LOCKED || fault->code == DCONFDB_ERROR_NOT_WRITABLE)
-        return refuse_locked(error);
-    g_set_error_literal(error, DCONF_ERROR, DCONF_ERROR_FAILED, fault->text);
-    return FALSE;
-}
-
-/* Whether all that is set may be. A reset that may not does nothing, as dconf has it. */
-static gboolean may_change(Engine *self, const DconfdbSnapshot *now, const Edits *edits, GError **error)
-{
-    g_autofree DconfdbNewEdit *known = known_of(edits, engine_has_user(self), now);
-    return dconfdb_entry(known, edits->edits->len) != DCONFDB_ENTRY_REFUSED || refuse_locked(error);
-}
-
 /* ---- `turn` is held */
 
 void set_writing(Engine *self, DConfChangeset *changes)
@@ -75,8 +60,8 @@ static gboolean put(Engine *self, const Edits *edits, DconfdbError *fault)
     FolderLock lock;
     Turn turn;
     DconfdbStore *store = store_of(self, fault);
-    if (!store || edits->edits->len == 0)
-        return store != NULL;
+    if (!store)
+        return FALSE;
     if (!turn_begin(self, store, &lock, &turn))
         return refuse_lock(store, turn.fault, fault);
     gboolean is_done = locked_change(store, turn.lock, edit_at(edits, 0), NULL, edits->edits->len, fault);
@@ -92,59 +77,141 @@ static gchar *new_tag(void)
     return g_strdup_printf(":%d:dconfdb:%d", (int)getpid(), g_atomic_int_add(&count, 1));
 }
 
-/* Makes the changes, as far as they aren't there: what they change comes into `told`. */
-static gboolean put_news(Engine *self, DConfChangeset *changes, Edits *edits, const DconfdbSnapshot *now, DConfChangeset **told,
-                         DconfdbError *fault)
-{
-    bool has_user = engine_has_user(self);
-    g_autofree DconfdbNewEdit *known = known_of(edits, has_user, now);
-    /* What another program wrote may not be on the disk yet. */
-    bool are_there = has_user && dconfdb_is_there(known, edits->edits->len) && settle_store(engine_store(self), NULL);
-    *told = effective(edits, known, changes);
-    if (has_user)
-        leave_out(edits, known);
-    return are_there || put(self, edits, fault);
-}
+/* A change whose caller waits for it. */
+typedef struct {
+    Engine *engine;
+    DConfChangeset *changes, *told; /* `told`: what they change */
+    Edits edits;
+    DconfdbSnapshot *now; /* what was there when their turn came; NULL: no store can be opened */
+    const gchar *tag;
+    bool has_turn, is_writing;
+    DconfdbError fault;
+    DconfdbChanging known;
+} Change;
 
-/* `turn` is held, and nothing waits. */
-static gboolean write_now(Engine *self, DConfChangeset *changes, Edits *edits, const gchar *tag, DconfdbError *fault)
+/* Whether all that is set may be. A reset that may not does nothing, as dconf has it. */
+static bool is_refused(Engine *engine, const Edits *edits)
 {
-    DconfdbSnapshot *now = engine_look(self);
-    g_autoptr(DConfChangeset) told = NULL;
-    const gchar *prefix;
-    set_writing(self, changes);
-    gboolean is_done = now ? put_news(self, changes, edits, now, &told, fault) : put(self, edits, fault);
-    if (!is_done)
-        set_writing(self, NULL);
-    notice_others(self);
-    set_writing(self, NULL);
-    if (is_done && told && dconf_changeset_describe(told, &prefix, NULL, NULL) > 0 && engine_is_watched(self, prefix))
-        notice_changed(self, told, tag, FALSE);
+    DconfdbSnapshot *now = engine_look(engine);
+    g_autofree DconfdbNewEdit *known = known_of(edits, engine_has_user(engine), now);
     dconfdb_snapshot_unref(now);
-    return is_done;
+    bool is_there;
+    return dconfdb_entry(known, edits->edits->len, &is_there) == DCONFDB_ENTRY_REFUSED;
 }
 
-/* What was asked for before is before it in the store, too. */
-static gboolean write_in_turn(Engine *self, DConfChangeset *changes, Edits *edits, const gchar *tag, GError **error)
+/* Once nothing waits: what is there of the changes, and what is left of them to be put. */
+static void learn(Change *self)
 {
-    DconfdbError fault = DCONFDB_ERROR_INIT;
-    g_mutex_lock(&self->turn);
-    gboolean is_done = write_waiting(self, TRUE, &fault) && write_now(self, changes, edits, tag, &fault);
-    g_mutex_unlock(&self->turn);
-    return is_done || refuse(&fault, error);
+    self->now = engine_look(self->engine);
+    self->known.has_user = engine_has_user(self->engine);
+    g_autofree DconfdbNewEdit *known = known_of(&self->edits, self->known.has_user, self->now);
+    self->known.is_there = edits_are_there(known, self->edits.edits->len);
+    self->told = effective(&self->edits, known, self->changes);
+    if (self->known.has_user)
+        leave_out(&self->edits, known);
+    self->known.is_left = self->edits.edits->len > 0;
 }
 
-gboolean engine_change_sync(Engine *self, DConfChangeset *changes, gchar **tag, GError **error)
+/* Keeps others from its turn until it is over, and writes what was asked for before: that is before it in the store, too. */
+static bool take_turn(Change *self)
 {
-    g_autofree gchar *own = dconf_changeset_is_empty(changes) ? g_strdup("") : new_tag();
-    gboolean is_done = *own == 0;
-    if (!is_done) {
-        DconfdbSnapshot *now = engine_look(self);
-        Edits edits = edits_of(changes);
-        is_done = may_change(self, now, &edits, error) && write_in_turn(self, changes, &edits, own, error);
-        edits_clear(&edits);
-        dconfdb_snapshot_unref(now);
+    g_mutex_lock(&self->engine->turn);
+    self->has_turn = true;
+    if (!write_waiting(self->engine, TRUE, &self->fault))
+        return false;
+    learn(self);
+    set_writing(self->engine, self->changes);
+    self->is_writing = true;
+    return true;
+}
+
+/* What others changed is told before what this client did. */
+static void end_writing(Change *self, bool is_made)
+{
+    if (!self->is_writing)
+        return;
+    if (!is_made)
+        set_writing(self->engine, NULL);
+    notice_others(self->engine);
+    set_writing(self->engine, NULL);
+    self->is_writing = false;
+}
+
+static bool tell(Change *self)
+{
+    end_writing(self, true);
+    notice_changed(self->engine, self->told, self->tag, FALSE);
+    return true;
+}
+
+static bool carry_out(Change *self, uint32_t task)
+{
+    switch (task) {
+    case DCONFDB_CHANGING_BEFORE:
+        return take_turn(self);
+    case DCONFDB_CHANGING_SETTLE: /* what another program wrote may not be on the disk yet */
+        return settle_store(engine_store(self->engine), NULL);
+    case DCONFDB_CHANGING_PUT:
+        return put(self->engine, &self->edits, &self->fault);
+    default:
+        return tell(self);
     }
+}
+
+/* What is known of what was carried out. */
+static void learn_outcome(Change *self)
+{
+    const gchar *prefix = NULL;
+    self->known.is_locked = self->fault.code == DCONFDB_ERROR_LOCKED;
+    self->known.is_unwritable = self->fault.code == DCONFDB_ERROR_NOT_WRITABLE;
+    self->known.is_news = self->told && dconf_changeset_describe(self->told, &prefix, NULL, NULL) > 0;
+    self->known.is_watched = prefix && engine_is_watched(self->engine, prefix);
+}
+
+/* Gives what became of it. */
+static uint32_t make(Change *self)
+{
+    bool yes = true;
+    uint32_t task = DCONFDB_CHANGING_BEGINS;
+    while ((task = dconfdb_changing_after(task, yes, &self->known)) < DCONFDB_CHANGING_MADE) {
+        yes = carry_out(self, task);
+        learn_outcome(self);
+    }
+    end_writing(self, task == DCONFDB_CHANGING_MADE);
+    if (self->has_turn)
+        g_mutex_unlock(&self->engine->turn);
+    return task;
+}
+
+static void change_end(Change *self)
+{
+    edits_clear(&self->edits);
+    g_clear_pointer(&self->told, dconf_changeset_unref);
+    dconfdb_snapshot_unref(self->now);
+}
+
+static gboolean answer(uint32_t outcome, const DconfdbError *fault, GError **error)
+{
+    switch (outcome) {
+    case DCONFDB_CHANGING_MADE:
+        return TRUE;
+    case DCONFDB_CHANGING_REFUSED:
+        return refuse_locked(error);
+    default:
+        g_set_error_literal(error, DCONF_ERROR, DCONF_ERROR_FAILED, fault->text);
+        return FALSE;
+    }
+}
+
+gboolean engine_change_sync(Engine *engine, DConfChangeset *changes, gchar **tag, GError **error)
+{
+    gboolean is_empty = dconf_changeset_is_empty(changes);
+    g_autofree gchar *own = is_empty ? g_strdup("") : new_tag();
+    Change self = {.engine = engine, .changes = changes, .edits = edits_of(changes), .tag = own, .fault = DCONFDB_ERROR_INIT};
+    self.known.is_empty = is_empty;
+    self.known.is_refused = !is_empty && is_refused(engine, &self.edits);
+    gboolean is_done = answer(make(&self), &self.fault, error);
+    change_end(&self);
     if (is_done && tag)
         *tag = g_steal_pointer(&own);
     return is_done;

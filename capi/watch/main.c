@@ -308,7 +308,7 @@ static int start_at(const char *folder, Watching *watch)
 static const char *fault_of_path(const char *path)
 {
     bool is_short = false;
-    switch (dconfdb_path_kind((const uint8_t *)path, strlen(path), &is_short)) {
+    switch (dconfdb_path_kind((const uint8_t *)path, strlen(path), DCONFDB_PATH_WANTED, false, &is_short)) {
     case DCONFDB_PATH_NOT_ABSOLUTE: return "NotAbsolute";
     case DCONFDB_PATH_DOUBLE_SLASH: return "DoubleSlash";
     default: return is_short ? NULL : "TooLong";

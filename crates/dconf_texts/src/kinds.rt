@@ -1,7 +1,7 @@
 //! What a text is as a path, however long it is: a key's, a directory's, or none.
 ghost use Rattle.std.specs.Prelude.{◌≡◌, ◌==◌, ◌&&◌};
 ghost use Rattle.dconf_model.specs.Paths.{has_two_slashes, has_zero_byte, is_short as short, starts_with_slash};
-ghost use Rattle.dconf_texts.specs.Kinds.{kind_below, kind_number, kind_of, end_of};
+ghost use Rattle.dconf_texts.specs.Kinds.{end_of, kind_at, kind_below, kind_number, kind_of, wanted_kind};
 
 use dconf_path::MAX_PATH_LEN;
 
@@ -20,6 +20,10 @@ pub enum PathKind {
     DoubleSlash,
     /// No relative one: it starts with `/`.
     Absolute,
+    /// A directory's, where a key's is wanted.
+    NoKey,
+    /// A key's, where a directory's is wanted.
+    NoDirectory,
 }
 
 /// What a text is as a path. Of several faults it is the first, in the order of [`PathKind`].
@@ -43,6 +47,27 @@ pub fn kind_below(text: &[u8]) -> PathKind
         return PathKind::Directory;
     }
     kind_after_slash(text)
+}
+
+/// What a text is as a path, or, if `is_relative`, as what follows the slash of a directory.
+pub fn kind_at(is_relative: bool, text: &[u8]) -> PathKind
+    ensures { result ≡ kind_at is_relative text.now }
+{
+    if is_relative {
+        return kind_below(text);
+    }
+    kind_of(text)
+}
+
+/// What a path of that kind is to who wants a key's (1), a directory's (2), or any.
+pub fn wanted_kind(wanted: u32, kind: PathKind) -> PathKind
+    ensures { result ≡ wanted_kind wanted kind }
+{
+    match kind {
+        PathKind::Key if wanted == 2 => PathKind::NoDirectory,
+        PathKind::Directory if wanted == 1 => PathKind::NoKey,
+        other => other,
+    }
 }
 
 /// What a text is, its start left aside.
@@ -89,7 +114,7 @@ pub fn is_short(text: &[u8]) -> bool
     text.len() <= MAX_PATH_LEN
 }
 
-/// A kind's number: 0 key, 1 directory, 2 not absolute, 3 has a zero byte, 4 has `//`, 5 absolute.
+/// A kind's number: 0 key, 1 directory, 2 not absolute, 3 has a zero byte, 4 has `//`, 5 absolute, 6 no key, 7 no directory.
 pub fn number_of_kind(kind: PathKind) -> u32
     ensures { result ≡ kind_number kind }
 {
@@ -100,5 +125,7 @@ pub fn number_of_kind(kind: PathKind) -> u32
         PathKind::HasNul => 3,
         PathKind::DoubleSlash => 4,
         PathKind::Absolute => 5,
+        PathKind::NoKey => 6,
+        PathKind::NoDirectory => 7,
     }
 }

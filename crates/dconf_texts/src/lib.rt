@@ -3,13 +3,18 @@
 //! Nothing is kept here, and no call takes memory.
 #![tactic(auto)]
 
-ghost use Rattle.dconf_texts.specs.Kinds.{KindsArePaths};
+ghost use Rattle.dconf_texts.specs.Kinds.{KindsArePaths, TheWantedFits};
 
 mod kinds;
 
-pub use kinds::{PathKind, is_short, kind_below, kind_of, number_of_kind};
+pub use kinds::{PathKind, is_short, kind_at, kind_below, kind_of, number_of_kind, wanted_kind};
 
 /// A text is the path of a key exactly if it is of a key's kind and not too long, and so is a directory's.
 pub fn kinds_are_paths()
     ensures { KindsArePaths }
+{}
+
+/// A text fits where a key is wanted exactly if it is of a key's kind, and so with a directory; any of both fits where any is.
+pub fn the_wanted_fits()
+    ensures { TheWantedFits }
 {}

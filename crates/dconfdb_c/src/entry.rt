@@ -7,20 +7,15 @@ ghost use Rattle.dconf_verdicts.specs.Faults.{fault_of, verdict_number, verdict_
 use dconf_verdicts::{NewEdit, entry_number, is_there, verdict_number};
 
 /// What becomes of a change: 0 it is refused, 1 nothing is left of it, 2 it renews the one that waits,
-/// 3 it waits, though nothing is seen otherwise, 4 it waits.
+/// 3 it waits, though nothing is seen otherwise, 4 it waits: of one edit alone, exactly if something else is seen by it. `there` says
+/// whether all that it asks for is there already, so that nothing is to be written.
 #[unsafe(no_mangle)]
-pub extern "C" fn dconfdb_entry(edits: &[NewEdit]) -> u32
-    ensures { result ≡ entry_number (entry_of edits.now) }
+pub extern "C" fn dconfdb_entry(edits: &[NewEdit], there: &mut bool) -> u32
+    ensures entry { result ≡ entry_number (entry_of edits.now) }
+    ensures there { there.new ≡ list_all is_there edits.now }
 {
+    *there = is_there(edits);
     entry_number(edits)
-}
-
-/// Whether all that a change asks for is there already, so that nothing is to be written.
-#[unsafe(no_mangle)]
-pub extern "C" fn dconfdb_is_there(edits: &[NewEdit]) -> bool
-    ensures { result ≡ list_all is_there edits.now }
-{
-    is_there(edits)
 }
 
 /// What becomes of what waits after a change that was not made, by the header's code of what it failed by, and its errno: 1 what sets keys

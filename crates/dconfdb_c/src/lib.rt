@@ -5,6 +5,7 @@
 #![tactic(auto)]
 
 mod change;
+mod changesets;
 mod children;
 mod due;
 mod entry;

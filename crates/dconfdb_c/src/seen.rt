@@ -5,7 +5,7 @@ ghost use Rattle.dconf_seen.specs.Allowed.{may_be_made};
 ghost use Rattle.dconf_seen.specs.Covering.{meets};
 ghost use Rattle.dconf_seen.specs.Reading.{found_by, found_number, known_word};
 ghost use Rattle.dconf_seen.specs.Waiting.{may_write};
-ghost use Rattle.dconf_texts.specs.Kinds.{kind_below, kind_number, kind_of};
+ghost use Rattle.dconf_texts.specs.Kinds.{kind_at, kind_number, wanted_kind};
 ghost use Rattle.dconf_told.specs.Relocking.{AreRelocked};
 ghost use Rattle.dconf_told.specs.Telling.{AreTold, before_in};
 ghost use Rattle.dconfdb_calls.specs.Given.{HandsOut};
@@ -14,7 +14,7 @@ ghost use Rattle.dconfdb_calls.specs.Seen.{layers_of};
 
 use dconf_layers::{Layer, LentLayers};
 use dconf_seen::{Known, found_by, found_number, may_be_made, meets};
-use dconf_texts::{is_short, kind_below, kind_of, number_of_kind};
+use dconf_texts::{is_short, kind_at, number_of_kind, wanted_kind};
 use dconf_told::{DconfdbKeyAsked, may_write, relocked_texts, told_texts};
 use dconfdb_calls::{Fault, hand_out};
 use std::alloc::Global;
@@ -134,21 +134,19 @@ pub extern "C" fn dconfdb_meets(one: &[u8], other: &[u8]) -> bool
     meets(one, other)
 }
 
-/// What a text is as a path, however long it is: 0 a key's, 1 a directory's, 2 it doesn't start with `/`, 3 it has a zero byte, 4 it has
-/// `//`. `short` says whether it is no longer than a path may be.
+/// What a text is as a path, or, if `is_relative`, as what follows the slash of a directory, however long it is: 0 a key's, 1 a directory's,
+/// 2 it doesn't start with `/`, 3 it has a zero byte, 4 it has `//`, 5 it is relative and starts with `/`; 6 it is a directory's, where a
+/// key's is wanted (1), 7 a key's, where a directory's is wanted (2). `short` says whether it is no longer than a path may be.
 #[unsafe(no_mangle)]
-pub extern "C" fn dconfdb_path_kind(text: &[u8], short: &mut bool) -> u32
-    ensures kind { result ≡ kind_number (kind_of text.now) }
+pub extern "C" fn dconfdb_path_kind(
+    text: &[u8],
+    wanted: u32,
+    is_relative: bool,
+    short: &mut bool,
+) -> u32
+    ensures kind { result ≡ kind_number (wanted_kind wanted (kind_at is_relative text.now)) }
     ensures short { short.new ≡ is_short text.now }
 {
     *short = is_short(text);
-    number_of_kind(kind_of(text))
-}
-
-/// What a text is as what follows the slash of a directory: the same numbers, and 5 if it starts with `/`.
-#[unsafe(no_mangle)]
-pub extern "C" fn dconfdb_relative_kind(text: &[u8]) -> u32
-    ensures { result ≡ kind_number (kind_below text.now) }
-{
-    number_of_kind(kind_below(text))
+    number_of_kind(wanted_kind(wanted, kind_at(is_relative, text)))
 }

@@ -7,20 +7,21 @@ ghost use Rattle.dconf_waiting.specs.Patiences.{renewed};
 
 use dconf_waiting::{Patience, Progress, WaitingEdit, fate_number, found, is_overtaken, put};
 
-/// The number of the newest edit of a key; 0 if none waits.
+/// The number of the newest edit of a key that waits; 0 if none does. If `puts`, the edit of that number is the newest from then on.
 #[unsafe(no_mangle)]
-pub extern "C" fn dconfdb_newest_found(newest: &[usize], key: usize) -> usize
-    ensures { result ≡ found newest.now key }
+pub extern "C" fn dconfdb_newest(
+    newest: &mut [usize],
+    key: usize,
+    puts: bool,
+    number: usize,
+) -> usize
+    ensures found { puts ≡ false → (newest.new ≡ newest.old) × (result ≡ found newest.old key) }
+    ensures put { puts ≡ true → IsPut newest.old key number newest.new result }
 {
+    if puts {
+        return put(newest, key, number);
+    }
     found(newest, key)
-}
-
-/// Puts an edit as the newest of its key, and gives the number of the one that was it before, or 0.
-#[unsafe(no_mangle)]
-pub extern "C" fn dconfdb_newest_put(newest: &mut [usize], key: usize, number: usize) -> usize
-    ensures { IsPut newest.old key number newest.new result }
-{
-    put(newest, key, number)
 }
 
 /// What becomes of a change when it was tried to write all that waits: 0 it waits, 1 it is written,

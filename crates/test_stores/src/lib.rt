@@ -7,6 +7,8 @@ mod calls;
 #[cfg(test)]
 mod calls_rows;
 #[cfg(test)]
+mod changesets;
+#[cfg(test)]
 mod engines;
 #[cfg(test)]
 mod examples;

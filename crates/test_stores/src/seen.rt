@@ -5,7 +5,7 @@ use dconf_seen::{
     Found, Known, Own, Shown, Word, covers, found_by, found_number, may_be_made, meets, own_by,
     shown_as,
 };
-use dconf_texts::{PathKind, is_short, kind_below, kind_of, number_of_kind};
+use dconf_texts::{PathKind, is_short, kind_at, kind_below, kind_of, number_of_kind, wanted_kind};
 use dconf_told::{
     DconfdbKeyAsked, DconfdbView, DconfdbWaits, are_seen_alike, may_write, relocked,
     relocked_texts, told, told_texts,
@@ -205,6 +205,12 @@ fn are_kinds() -> bool {
         && kind_below(b"/a") == PathKind::Absolute
         && number_of_kind(PathKind::DoubleSlash) == 4
         && is_short(b"/a")
+        && kind_at(true, b"a/") == PathKind::Directory
+        && kind_at(false, b"a/") == PathKind::NotAbsolute
+        && wanted_kind(1, PathKind::Directory) == PathKind::NoKey
+        && wanted_kind(2, PathKind::Key) == PathKind::NoDirectory
+        && wanted_kind(0, PathKind::Key) == PathKind::Key
+        && wanted_kind(1, PathKind::HasNul) == PathKind::HasNul
 }
 
 #[test]

@@ -1,0 +1,5 @@
+pub mod Rows
+pub mod Differences
+pub mod Above
+pub mod Asking
+pub mod Making

@@ -1,0 +1,81 @@
+-- What becomes of a change whose caller waits for it. dconf's "dconf_client_change_sync".
+use Rattle.std.specs.Prelude.{ℕ, zero, suc, ◌≡◌, Bool, true, false, not, ◌&&◌, ◌||◌, if◌then◌else◌, ◌==◌, nat_lt}
+use Rattle.dconf_changesets.specs.declared.making.ChangeKnown.{ChangeKnown}
+use Rattle.dconf_changesets.specs.declared.making.ChangeTask.{ChangeTask}
+use Rattle.dconf_changesets.specs.declared.making.ChangeTask.TheVariants.{Before, Settle, Put, Tell, Made, Refused, Failed}
+
+-- all that it asks for is there
+abbrev pub is_all_there : ChangeKnown → Bool
+is_all_there k = k.has_user && k.is_there
+
+abbrev pub begins_with : ChangeKnown → ChangeTask
+begins_with k = if k.is_empty then Made else if k.is_refused then Refused else Before
+
+-- what dconf says of the fault by which it was not made
+abbrev pub fails_by : ChangeKnown → ChangeTask
+fails_by k = if k.is_locked || k.is_unwritable then Refused else Failed
+
+-- unless all is there, and on the disk
+abbrev pub puts : ℕ → Bool → ChangeKnown → Bool
+puts done is_so k = k.is_left && not (done == 2 && is_so)
+
+abbrev pub tells : ChangeKnown → Bool
+tells k = k.is_news && k.is_watched
+
+-- once the first tasks were done, or were not due; and by the answer to the last one
+abbrev pub change_after : ℕ → Bool → ChangeKnown → ChangeTask
+change_after done is_so k =
+    if nat_lt done 1 then begins_with k else if (done == 1 || done == 3) && not is_so then fails_by k else
+    if nat_lt done 2 && is_all_there k then Settle else if nat_lt done 3 && puts done is_so k then Put else
+    if nat_lt done 4 && tells k then Tell else Made
+
+abbrev pub change_number : ChangeTask → ℕ
+change_number Before = 1
+change_number Settle = 2
+change_number Put = 3
+change_number Tell = 4
+change_number Made = 5
+change_number Refused = 6
+change_number Failed = 7
+
+-- ---- the law
+
+-- what each task answers
+pub record Answers : Type 0 where
+  pub before : Bool
+  pub settled : Bool
+  pub put : Bool
+
+abbrev pub answer_to : Answers → ChangeTask → Bool
+answer_to a Before = a.before
+answer_to a Settle = a.settled
+answer_to a Put = a.put
+answer_to a Tell = true
+answer_to a Made = true
+answer_to a Refused = true
+answer_to a Failed = true
+
+abbrev pub is_said : ChangeTask → Bool
+is_said Made = true
+is_said Refused = true
+is_said Failed = true
+is_said _ = false
+
+-- one after another, each with its answer
+abbrev pub goes_on : ℕ → Answers → ChangeKnown → ChangeTask → ChangeTask
+goes_on zero a k task = task
+goes_on (suc n) a k task = if is_said task then task else goes_on n a k (change_after (change_number task) (answer_to a task) k)
+
+-- what is said at last: there are four tasks at most
+abbrev pub said_at_last : Answers → ChangeKnown → ChangeTask
+said_at_last a k = goes_on 4 a k (change_after 0 true k)
+
+-- what it asks for is on the disk, after all that was asked for before it
+abbrev pub is_made : Answers → ChangeKnown → Bool
+is_made a k = a.before && ((is_all_there k && a.settled) || (not k.is_left || a.put))
+
+-- It is made exactly if all of it is on the disk, after what was asked for before it; and else dconf says why.
+abbrev pub MadeMeansOnTheDisk : Type 0
+MadeMeansOnTheDisk =
+    (a : Answers) (k : ChangeKnown) →
+    said_at_last a k ≡ (if k.is_empty then Made else if k.is_refused then Refused else if is_made a k then Made else fails_by k)

@@ -1,0 +1,124 @@
+//! What becomes of a change whose caller waits for it.
+ghost use Rattle.std.specs.Prelude.{◌≡◌};
+ghost use Rattle.dconf_changesets.specs.Making.{begins_with, change_after, change_number, fails_by, is_all_there, puts, tells};
+
+/// What comes next, in this order.
+#[derive(Clone, Copy)]
+pub enum ChangeTask {
+    /// Writes what was asked for before. It answers whether that is written.
+    Before,
+    /// All that the change asks for is there: brings it to the disk. It answers whether it is.
+    Settle,
+    /// Puts what is left of the change into the store. It answers whether it is there.
+    Put,
+    /// Tells what is new.
+    Tell,
+    /// It is over: it is made.
+    Made,
+    /// It is over: a key may not be written.
+    Refused,
+    /// It is over: it could not be made.
+    Failed,
+}
+
+/// What is known; but for the first two from when all is written that was asked for before.
+#[repr(C)]
+#[derive(Clone, Copy)]
+pub struct ChangeKnown {
+    /// It asks for nothing.
+    pub is_empty: bool,
+    /// It sets a key that may not be written.
+    pub is_refused: bool,
+    /// There is a user's database.
+    pub has_user: bool,
+    /// That has all that the change asks for.
+    pub is_there: bool,
+    /// Something is left of it to be put.
+    pub is_left: bool,
+    /// The user has something else by it.
+    pub is_news: bool,
+    /// Somebody is told of such.
+    pub is_watched: bool,
+    /// The task that failed last failed since a key is locked.
+    pub is_locked: bool,
+    /// Or since there is no database that could be written.
+    pub is_unwritable: bool,
+}
+
+/// What comes next, once the first `done` tasks were done, or were not due; `is_so` is the answer to the last one.
+pub fn change_after(done: u32, is_so: bool, known: &ChangeKnown) -> ChangeTask
+    ensures { result ≡ change_after done is_so known.now }
+{
+    if done < 1 {
+        return begins_with(known);
+    }
+    if (done == 1 || done == 3) && !is_so {
+        return fails_by(known);
+    }
+    if done < 2 && is_all_there(known) {
+        return ChangeTask::Settle;
+    }
+    if done < 3 && puts(done, is_so, known) {
+        return ChangeTask::Put;
+    }
+    if done < 4 && tells(known) {
+        return ChangeTask::Tell;
+    }
+    ChangeTask::Made
+}
+
+/// The same as a number: 1 before, 2 settle, 3 put, 4 tell, 5 made, 6 refused, 7 failed.
+pub fn change_number(done: u32, is_so: bool, known: &ChangeKnown) -> u32
+    ensures { result ≡ change_number (change_after done is_so known.now) }
+{
+    match change_after(done, is_so, known) {
+        ChangeTask::Before => 1,
+        ChangeTask::Settle => 2,
+        ChangeTask::Put => 3,
+        ChangeTask::Tell => 4,
+        ChangeTask::Made => 5,
+        ChangeTask::Refused => 6,
+        ChangeTask::Failed => 7,
+    }
+}
+
+fn begins_with(known: &ChangeKnown) -> ChangeTask
+    ensures { result ≡ begins_with known.now }
+{
+    if known.is_empty {
+        return ChangeTask::Made;
+    }
+    if known.is_refused {
+        return ChangeTask::Refused;
+    }
+    ChangeTask::Before
+}
+
+/// What is said of a change that could not be made. dconf has one error for all that may not be written, and one for the rest.
+fn fails_by(known: &ChangeKnown) -> ChangeTask
+    ensures { result ≡ fails_by known.now }
+{
+    if known.is_locked || known.is_unwritable {
+        return ChangeTask::Refused;
+    }
+    ChangeTask::Failed
+}
+
+fn is_all_there(known: &ChangeKnown) -> bool
+    ensures { result ≡ is_all_there known.now }
+{
+    known.has_user && known.is_there
+}
+
+/// Whether something is to be put: not if all was there, and is on the disk.
+fn puts(done: u32, is_so: bool, known: &ChangeKnown) -> bool
+    ensures { result ≡ puts done is_so known.now }
+{
+    known.is_left && !(done == 2 && is_so)
+}
+
+fn tells(known: &ChangeKnown) -> bool
+    ensures { result ≡ tells known.now }
+{
+    known.is_news && known.is_watched
+}

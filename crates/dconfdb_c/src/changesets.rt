@@ -1,0 +1,68 @@
+//! What dconf's client does with changes.
+ghost use Rattle.std.specs.Prelude.{◌≡◌};
+ghost use Rattle.dconf_changesets.specs.Above.{shared_within};
+ghost use Rattle.dconf_changesets.specs.Asking.{asked_after, is_current};
+ghost use Rattle.dconf_changesets.specs.Differences.{differs};
+ghost use Rattle.dconf_changesets.specs.Making.{change_after, change_number};
+ghost use Rattle.dconf_changesets.specs.Rows.{effect_number, effect_of};
+
+use dconf_changesets::{
+    Base, ChangeKnown, asked_after, change_number, differs, effect_number, effect_of, is_current,
+    shared_within,
+};
+
+/// What becomes of the row of a path in a set of changes where one is set, or reset: 0 it stays, 1 it goes, 2 it takes the change's value,
+/// or its reset.
+#[unsafe(no_mangle)]
+pub extern "C" fn dconfdb_row_effect(
+    path: &[u8],
+    sets: bool,
+    is_database: bool,
+    other: &[u8],
+) -> u32
+    ensures { result ≡ effect_number (effect_of path.now sets is_database other.now) }
+{
+    effect_number(effect_of(path, sets, is_database, other))
+}
+
+/// How many bytes the longest directory has in which both paths are, of at most so many; 0 where there is none.
+#[unsafe(no_mangle)]
+pub extern "C" fn dconfdb_shared_within(path: &[u8], most: usize, other: &[u8]) -> usize
+    ensures { result ≡ shared_within path.now most other.now }
+{
+    shared_within(path, most, other)
+}
+
+/// Whether a change makes a difference to a database, beside the changes that are kept before it.
+#[unsafe(no_mangle)]
+pub extern "C" fn dconfdb_makes_difference(path: &[u8], sets: bool, base: &Base) -> bool
+    ensures { result ≡ differs path.now sets base.now }
+{
+    differs(path, sets, base)
+}
+
+/// Which set is asked for a key's newest word, once so many were asked: 1 what is being written, 2 what waits, and from 3 on what is read
+/// through; 0 is the store. `sets` is the greatest number.
+#[unsafe(no_mangle)]
+pub extern "C" fn dconfdb_asked_after(sets: usize, asked: usize) -> usize
+    ensures { result ≡ asked_after sets asked }
+{
+    asked_after(sets, asked)
+}
+
+/// Whether who reads takes the files for what they were.
+#[unsafe(no_mangle)]
+pub extern "C" fn dconfdb_is_current(is_watched: bool, is_told: bool, is_own: bool) -> bool
+    ensures { result ≡ is_current is_watched is_told is_own }
+{
+    is_current(is_watched, is_told, is_own)
+}
+
+/// What comes next of a change whose caller waits for it, once the first `done` tasks were done, or were not due, by the answer to the last
+/// one: 1 what was asked for before is written, 2 it is settled, 3 put, 4 told; 5 it is made, 6 refused, 7 it failed.
+#[unsafe(no_mangle)]
+pub extern "C" fn dconfdb_changing_after(done: u32, is_so: bool, known: &ChangeKnown) -> u32
+    ensures { result ≡ change_number (change_after done is_so known.now) }
+{
+    change_number(done, is_so, known)
+}
