@@ -1,0 +1,4 @@
+pub mod Stores
+pub mod Turns
+pub mod Databases
+pub mod Sayings
