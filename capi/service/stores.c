@@ -8,14 +8,20 @@ enum { MOST_WRITERS = 64 };
 
 /* ---- where it is */
 
-/* A profile of one line, in a file of the user's own, since a store is of a profile that is a file. */
+static bool has_line(const char *path, const char *line)
+{
+    g_autofree char *text = NULL;
+    return g_file_get_contents(path, &text, NULL, NULL) && strcmp(text, line) == 0;
+}
+
+/* A profile of one line, in a file of the user's own, since a store is of a profile that is a file. It is watched, and stays as it is. */
 static char *profile_of_name(const char *name, DconfdbError *error)
 {
     g_autoptr(GError) fault = NULL;
     g_autofree char *folder = g_build_filename(g_get_user_runtime_dir(), "dconfdb", "service", NULL);
     g_autofree char *line = g_strdup_printf("user-db:%s\n", name);
     g_autofree char *path = g_build_filename(folder, name, NULL);
-    if (g_mkdir_with_parents(folder, 0700) == 0 && g_file_set_contents(path, line, -1, &fault))
+    if (has_line(path, line) || (g_mkdir_with_parents(folder, 0700) == 0 && g_file_set_contents(path, line, -1, &fault)))
         return g_steal_pointer(&path);
     error->code = DCONFDB_ERROR_FILE;
     g_strlcpy(error->text, fault ? fault->message : folder, sizeof error->text);

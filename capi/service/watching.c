@@ -21,6 +21,19 @@ static bool open_anew(Writer *writer, DconfdbError *error)
     return true;
 }
 
+/* The first file that is bad, of which what can be read counts. */
+static void warn_of_fault(Writer *writer)
+{
+    DconfdbError fault = DCONFDB_ERROR_INIT;
+    DconfdbSnapshot *now = dconfdb_store_snapshot(writer->store);
+    bool is = dconfdb_store_profile_fault(writer->store, &fault);
+    for (size_t i = 0; !is && i < dconfdb_snapshot_databases(now); i++)
+        is = dconfdb_snapshot_fault(now, i, &fault);
+    if (is)
+        writer_warn(writer, fault.text);
+    dconfdb_snapshot_unref(now);
+}
+
 /* `turn` is held. False: it failed. */
 static bool look(Writer *writer)
 {
@@ -29,6 +42,7 @@ static bool look(Writer *writer)
         writer_warn(writer, error.text);
         return false;
     }
+    warn_of_fault(writer);
     tell_others(writer, NULL, NULL);
     return true;
 }
