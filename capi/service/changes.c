@@ -5,6 +5,9 @@
 
 static const size_t FEW_TEXTS = 256;
 
+/* To bring bytes into normal form takes GLib a time with the square of their number. Who sends more than that uses no GVariant library. */
+static const size_t MOST_ODD = 32768;
+
 Change *change_new(Writer *writer, GDBusMethodInvocation *call, guint64 number)
 {
     Change *change = g_new0(Change, 1);
@@ -32,11 +35,13 @@ void change_free(Change *change)
 
 /* ---- what stands in the bytes */
 
-/* The bytes in normal form, in the order that the library takes, and in one block, which all that is in it lends. */
+/* The bytes in normal form, in the order that the library takes, and in one block, which all that is in it lends. NULL: they are odd. */
 static GVariant *normal_form(GVariant *blob, GDBusMessageByteOrder order)
 {
     g_autoptr(GBytes) bytes = g_variant_get_data_as_bytes(blob);
     g_autoptr(GVariant) sent = g_variant_ref_sink(g_variant_new_from_bytes(G_VARIANT_TYPE("a{smv}"), bytes, FALSE));
+    if (g_bytes_get_size(bytes) > MOST_ODD && !g_variant_is_normal_form(sent))
+        return NULL;
     GVariant *normal = g_variant_get_normal_form(sent);
     if (order == G_DBUS_MESSAGE_BYTE_ORDER_BIG_ENDIAN) {
         g_autoptr(GVariant) other = normal;
@@ -122,6 +127,9 @@ void change_read(Change *change)
     GVariant *entry;
     GDBusMessage *message = g_dbus_method_invocation_get_message(change->call);
     GVariant *normal = normal_form(change->asked, g_dbus_message_get_byte_order(message));
+    change->is_odd = !normal;
+    if (change->is_odd)
+        return;
     g_variant_unref(change->asked);
     change->asked = normal;
     g_variant_iter_init(&iter, normal);

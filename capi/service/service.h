@@ -41,7 +41,7 @@ typedef struct {
 
 /* ---- what is asked for (changes.c) */
 
-/* A set of changes: what of it can be made is made, and the rest is left out. */
+/* A set of changes, none of which is made where it is odd. What of it can be made is made, and the rest is left out. */
 typedef struct {
     GList link; /* in the queue that has it */
     Writer *writer;
@@ -49,6 +49,7 @@ typedef struct {
     guint64 number;    /* of the writer's changes */
     uint64_t moment;   /* in which it came, by order_clock() */
     GVariant *asked;   /* as it was sent; once it is read, in normal form, and in one block, which the edits lend */
+    bool is_odd;       /* it is not in normal form, and too large to be brought into it */
     GArray *edits;     /* in the order of their paths' bytes, one of each: a directory's comes before those of what is in it */
     GPtrArray *unfit;  /* paths that are too long to be a key's */
     GStringChunk *types;

@@ -64,16 +64,22 @@ static char *tag_of(const Change *change)
     return g_strdup_printf("%s:%s:%" G_GUINT64_FORMAT, own, writer->name, change->number);
 }
 
+static void refuse(GDBusMethodInvocation *call, GDBusError code, const char *why)
+{
+    g_autofree char *text = g_utf8_make_valid(why, -1);
+    g_dbus_method_invocation_return_error_literal(call, G_DBUS_ERROR, (gint)code, text);
+}
+
 static void answer(const Run *run, Change *change, const char *tag)
 {
     GDBusMethodInvocation *call = g_steal_pointer(&change->call);
     const DconfdbError *why = fault_of(run, change);
-    if (!why) {
+    if (change->is_odd)
+        refuse(call, G_DBUS_ERROR_INVALID_ARGS, "the changes are not in normal form");
+    else if (why)
+        refuse(call, G_DBUS_ERROR_FAILED, why->text);
+    else
         g_dbus_method_invocation_return_value(call, g_variant_new("(s)", tag));
-        return;
-    }
-    g_autofree char *text = g_utf8_make_valid(why->text, -1);
-    g_dbus_method_invocation_return_error_literal(call, G_DBUS_ERROR, G_DBUS_ERROR_FAILED, text);
 }
 
 /* Sorts the edits of a change by whether they are made. */
