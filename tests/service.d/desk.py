@@ -47,6 +47,12 @@ def blob(changes):
     return GLib.Variant('a{smv}', changes).get_data_as_bytes().get_data()
 
 
+def sent(changes):
+    """The words of a Change. A text of bytes for GLib.Variant takes a while for each."""
+    data = GLib.Bytes.new(changes if isinstance(changes, bytes) else blob(changes))
+    return GLib.Variant.new_tuple(GLib.Variant.new_from_bytes(GLib.VariantType('ay'), data, True))
+
+
 def number(value):
     return GLib.Variant('i', value)
 
@@ -72,8 +78,7 @@ class Client:
             return Gio.DBusError.get_remote_error(why) or 'local', why.message
 
     def changes(self, changes, name='user', seconds=SECONDS):
-        data = changes if isinstance(changes, bytes) else blob(changes)
-        return self.calls(WRITER + name, 'Change', GLib.Variant('(ay)', (data,)), seconds=seconds)
+        return self.calls(WRITER + name, 'Change', sent(changes), seconds=seconds)
 
     def asks(self, changes, done, name='user'):
         """The same, but that it doesn't wait: `done` is called with the answer."""
@@ -82,8 +87,7 @@ class Client:
                 done(bus.call_finish(result).unpack())
             except GLib.Error as why:
                 done(why)
-        words = GLib.Variant('(ay)', (changes if isinstance(changes, bytes) else blob(changes),))
-        self.bus.call('ca.desrt.dconf', WRITER + name, 'ca.desrt.dconf.Writer', 'Change', words, None, Gio.DBusCallFlags.NONE, 60000, None, ended)
+        self.bus.call('ca.desrt.dconf', WRITER + name, 'ca.desrt.dconf.Writer', 'Change', sent(changes), None, Gio.DBusCallFlags.NONE, 60000, None, ended)
 
     def news(self, count=None, rest=0.25):
         """What was told since the last time: so many, or what comes until nothing has come for that long."""
