@@ -42,13 +42,11 @@ static GVariant *normal_form(GVariant *blob, GDBusMessageByteOrder order)
     g_autoptr(GVariant) sent = g_variant_ref_sink(g_variant_new_from_bytes(G_VARIANT_TYPE("a{smv}"), bytes, FALSE));
     if (g_bytes_get_size(bytes) > MOST_ODD && !g_variant_is_normal_form(sent))
         return NULL;
-    GVariant *normal = g_variant_get_normal_form(sent);
-    if (order == G_DBUS_MESSAGE_BYTE_ORDER_BIG_ENDIAN) {
-        g_autoptr(GVariant) other = normal;
-        normal = g_variant_byteswap(other);
-    }
-    g_variant_get_data(normal);
-    return normal;
+    g_autoptr(GVariant) normal = g_variant_get_normal_form(sent);
+    g_autoptr(GVariant) ours = order == G_DBUS_MESSAGE_BYTE_ORDER_BIG_ENDIAN ? g_variant_byteswap(normal) : g_variant_ref(normal);
+    g_autoptr(GBytes) block = g_variant_get_data_as_bytes(ours);
+    /* It is trusted: else GLib looks at all entries before one that is taken out. */
+    return g_variant_ref_sink(g_variant_new_from_bytes(G_VARIANT_TYPE("a{smv}"), block, TRUE));
 }
 
 /* What is set, or NULL, where the value is taken away. */
