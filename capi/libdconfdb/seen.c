@@ -124,3 +124,12 @@ bool seen_is_left(const DconfdbSnapshot *snapshot, const char *path)
     bool may = false;
     return dconfdb_may_write(snapshot->layers, snapshot->count, snapshot->is_writable, bytes_of(path), strlen(path), &may) == DCONFDB_OK && may;
 }
+
+DconfdbSnapshot *snapshot_of_user(const DconfdbSnapshot *snapshot)
+{
+    size_t count = snapshot->is_writable ? 1 : 0;
+    DconfdbSnapshot *own = snapshot_new(count, snapshot->is_writable);
+    for (size_t i = 0; own && i < count; i++)
+        snapshot_put(own, i, part_ref(snapshot->parts[i]));
+    return own;
+}

@@ -40,6 +40,9 @@ static inline bool seen_is_writable(const DconfdbSnapshot *snapshot, const char 
     return snapshot && (dconfdb_snapshot_is_writable(snapshot, path) || seen_is_left(snapshot, path));
 }
 
+/* What the user's own database holds of it, as if it were the store's only one. NULL: no memory is left. */
+DconfdbSnapshot *snapshot_of_user(const DconfdbSnapshot *snapshot);
+
 /* Whether one is the other, or a directory above it. */
 bool paths_meet(const char *one, const char *other);
 

@@ -1,0 +1,139 @@
+/* Sets of changes as they are sent: the bytes of a GVariant, in whatever order, form and alignment the caller has them. */
+#include "service.h"
+
+#include <string.h>
+
+static const size_t FEW_TEXTS = 256;
+
+/* To bring bytes into normal form takes GLib a time with the square of their number. Who sends more than that uses no GVariant library. */
+static const size_t MOST_ODD = 32768;
+
+Change *change_new(Writer *writer, GDBusMethodInvocation *call, guint64 number)
+{
+    Change *change = g_new0(Change, 1);
+    change->link.data = change;
+    change->writer = writer;
+    change->call = call;
+    change->number = number;
+    change->moment = order_clock();
+    change->asked = g_variant_get_child_value(g_dbus_method_invocation_get_parameters(call), 0);
+    change->edits = g_array_new(FALSE, FALSE, sizeof(DconfdbEdit));
+    change->unfit = g_ptr_array_new();
+    change->types = g_string_chunk_new(FEW_TEXTS);
+    return change;
+}
+
+void change_free(Change *change)
+{
+    g_clear_object(&change->call);
+    g_variant_unref(change->asked);
+    g_array_unref(change->edits);
+    g_ptr_array_unref(change->unfit);
+    g_string_chunk_free(change->types);
+    g_free(change);
+}
+
+/* ---- what stands in the bytes */
+
+/* The bytes in normal form, in the order that the library takes, and in one block, which all that is in it lends. NULL: they are odd. */
+static GVariant *normal_form(GVariant *blob, GDBusMessageByteOrder order)
+{
+    g_autoptr(GBytes) bytes = g_variant_get_data_as_bytes(blob);
+    g_autoptr(GVariant) sent = g_variant_ref_sink(g_variant_new_from_bytes(G_VARIANT_TYPE("a{smv}"), bytes, FALSE));
+    if (g_bytes_get_size(bytes) > MOST_ODD && !g_variant_is_normal_form(sent))
+        return NULL;
+    g_autoptr(GVariant) normal = g_variant_get_normal_form(sent);
+    g_autoptr(GVariant) ours = order == G_DBUS_MESSAGE_BYTE_ORDER_BIG_ENDIAN ? g_variant_byteswap(normal) : g_variant_ref(normal);
+    g_autoptr(GBytes) block = g_variant_get_data_as_bytes(ours);
+    /* It is trusted: else GLib looks at all entries before one that is taken out. */
+    return g_variant_ref_sink(g_variant_new_from_bytes(G_VARIANT_TYPE("a{smv}"), block, TRUE));
+}
+
+/* What is set, or NULL, where the value is taken away. */
+static GVariant *value_of(GVariant *entry)
+{
+    g_autoptr(GVariant) maybe = g_variant_get_child_value(entry, 1);
+    g_autoptr(GVariant) boxed = g_variant_get_maybe(maybe);
+    return boxed ? g_variant_get_variant(boxed) : NULL;
+}
+
+static DconfdbEdit edit_from(const Change *change, const char *path, GVariant *value)
+{
+    if (!value)
+        return (DconfdbEdit){path, NULL, NULL, 0};
+    const char *type = g_string_chunk_insert_const(change->types, g_variant_get_type_string(value));
+    return (DconfdbEdit){path, type, g_variant_get_data(value), g_variant_get_size(value)};
+}
+
+/* As dconf has it, what is no path, and a value at a directory, is passed over. */
+static void read_entry(Change *change, GVariant *entry)
+{
+    const char *path = NULL;
+    bool is_short = false;
+    g_variant_get_child(entry, 0, "&s", &path);
+    g_autoptr(GVariant) value = value_of(entry);
+    uint32_t kind = dconfdb_path_kind((const uint8_t *)path, strlen(path), &is_short);
+    if (kind != DCONFDB_PATH_KEY && (kind != DCONFDB_PATH_DIRECTORY || value))
+        return;
+    if (!is_short) {
+        g_ptr_array_add(change->unfit, (gpointer)path);
+        return;
+    }
+    DconfdbEdit edit = edit_from(change, path, value);
+    g_array_append_val(change->edits, edit);
+}
+
+/* ---- their order */
+
+static int by_path(const void *one, const void *other)
+{
+    return strcmp(((const DconfdbEdit *)one)->path, ((const DconfdbEdit *)other)->path);
+}
+
+/* Whether it is the reset of what a directory above resets already. */
+static bool is_in(const DconfdbEdit *above, const DconfdbEdit *edit)
+{
+    return above && !edit->type && g_str_has_prefix(edit->path, above->path);
+}
+
+/* One edit of each path, the last that was sent, since those of one path stay in their order; and no resets in a directory that is reset,
+ * of which there may be very many. */
+static void sort(GArray *edits)
+{
+    DconfdbEdit *all = (DconfdbEdit *)(gpointer)edits->data;
+    const DconfdbEdit *above = NULL;
+    guint count = 0;
+    g_array_sort(edits, by_path);
+    for (guint at = 0; at < edits->len; at++) {
+        if (count > 0 && by_path(&all[count - 1], &all[at]) == 0) {
+            all[count - 1] = all[at];
+            continue;
+        }
+        if (is_in(above, &all[at]))
+            continue;
+        all[count] = all[at];
+        if (g_str_has_suffix(all[count].path, "/"))
+            above = &all[count];
+        count++;
+    }
+    g_array_set_size(edits, count);
+}
+
+void change_read(Change *change)
+{
+    GVariantIter iter;
+    GVariant *entry;
+    GDBusMessage *message = g_dbus_method_invocation_get_message(change->call);
+    GVariant *normal = normal_form(change->asked, g_dbus_message_get_byte_order(message));
+    change->is_odd = !normal;
+    if (change->is_odd)
+        return;
+    g_variant_unref(change->asked);
+    change->asked = normal;
+    g_variant_iter_init(&iter, normal);
+    while ((entry = g_variant_iter_next_value(&iter))) {
+        read_entry(change, entry);
+        g_variant_unref(entry); /* its path is in `normal` */
+    }
+    sort(change->edits);
+}

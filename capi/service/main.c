@@ -1,0 +1,194 @@
+/* dconfdb-service: the D-Bus service ca.desrt.dconf, by which programs with dconf's own library write, in a sandbox, say. */
+#include "files.h"
+#include "service.h"
+
+#include <glib-unix.h>
+#include <stdlib.h>
+
+/* In microseconds: how long its end waits for a write, and as long again after each turn of another program; and in milliseconds, how often
+ * it asks. */
+enum { LONGEST_END = 5000000, TICK = 20 };
+
+static void say(const char *text)
+{
+    g_printerr("dconfdb-service: %s\n", text);
+}
+
+/* ---- the end */
+
+/* How long it is waited for what was accepted. */
+typedef struct {
+    Service *service;
+    DconfdbPatience time;
+    DconfdbFileTime changed; /* the folder, then: a turn makes a file in it, and renames it */
+} Ending;
+
+static DconfdbFileTime changed_at(const char *folder)
+{
+    FileState state;
+    return file_look(folder, &state) == 0 ? state.written : (DconfdbFileTime){0, 0};
+}
+
+static void renew(Ending *ending)
+{
+    DconfdbFileTime changed = changed_at(ending->service->place.folder);
+    if (changed.seconds == ending->changed.seconds && changed.nanoseconds == ending->changed.nanoseconds)
+        return;
+    ending->changed = changed;
+    dconfdb_patience_renew(&ending->time, (uint64_t)g_get_monotonic_time());
+}
+
+static bool goes_on(Ending *ending)
+{
+    Service *service = ending->service;
+    renew(ending);
+    g_mutex_lock(&service->lock);
+    bool is = dconfdb_patience_goes_on(&ending->time, service->settled, service->added, 0, 0, (uint64_t)g_get_monotonic_time());
+    service->has_failed = service->has_failed || (!is && service->settled < service->added);
+    g_mutex_unlock(&service->lock);
+    return is;
+}
+
+static gboolean end_when_settled(gpointer data)
+{
+    Ending *ending = data;
+    if (goes_on(ending))
+        return G_SOURCE_CONTINUE;
+    g_main_loop_quit(ending->service->loop);
+    return G_SOURCE_REMOVE;
+}
+
+/* Who calls from now on has another service started. What this one was sent before, it takes. */
+static void begin_end(Service *service)
+{
+    if (service->is_ending)
+        return;
+    service->is_ending = true;
+    g_clear_handle_id(&service->owner, g_bus_unown_name);
+    Ending *ending = g_new(Ending, 1);
+    *ending = (Ending){.service = service, .changed = changed_at(service->place.folder)};
+    dconfdb_patience_begin(&ending->time, (uint64_t)g_get_monotonic_time(), LONGEST_END);
+    g_timeout_add_full(G_PRIORITY_LOW, TICK, end_when_settled, ending, g_free);
+}
+
+static gboolean on_signal(gpointer data)
+{
+    begin_end(data);
+    return G_SOURCE_CONTINUE;
+}
+
+static void on_closed(GDBusConnection *bus, gboolean is_others, GError *error, gpointer data)
+{
+    (void)bus, (void)is_others, (void)error;
+    begin_end(data);
+}
+
+/* ---- the name */
+
+static void on_name(GDBusConnection *bus, const char *name, gpointer data)
+{
+    (void)bus, (void)name;
+    ((Service *)data)->had_name = true;
+}
+
+static void on_no_name(GDBusConnection *bus, const char *name, gpointer data)
+{
+    Service *service = data;
+    (void)bus;
+    if (service->had_name) {
+        begin_end(service);
+        return;
+    }
+    g_printerr("dconfdb-service: another service has the name %s\n", name);
+    service->has_failed = true;
+    g_main_loop_quit(service->loop);
+}
+
+/* ---- its life */
+
+/* What others change is told from the start, also before somebody writes. Where it can't be opened each call tries it again. */
+static void open_users(Service *service)
+{
+    DconfdbError error = DCONFDB_ERROR_INIT;
+    if (!writer_named(service, "user", &error))
+        say(error.text);
+}
+
+static bool connect_bus(Service *service)
+{
+    g_autoptr(GError) error = NULL;
+    service->bus = g_bus_get_sync(G_BUS_TYPE_SESSION, NULL, &error);
+    if (!service->bus) {
+        say(error->message);
+        return false;
+    }
+    g_dbus_connection_set_exit_on_close(service->bus, FALSE);
+    g_signal_connect(service->bus, "closed", G_CALLBACK(on_closed), service);
+    return bus_register(service);
+}
+
+static void run(Service *service)
+{
+    static const int signals[] = {SIGTERM, SIGINT, SIGHUP};
+    for (size_t i = 0; i < G_N_ELEMENTS(signals); i++)
+        g_unix_signal_add(signals[i], on_signal, service);
+    /* Who has it started by a call finds all in its place. */
+    service->owner = g_bus_own_name_on_connection(service->bus, "ca.desrt.dconf", G_BUS_NAME_OWNER_FLAGS_DO_NOT_QUEUE, on_name, on_no_name, service, NULL);
+    g_main_loop_run(service->loop);
+    service_stop_writing(service);
+    /* It fails where the bus is gone. */
+    g_dbus_connection_flush_sync(service->bus, NULL, NULL);
+}
+
+static void clear(Service *service)
+{
+    g_clear_handle_id(&service->owner, g_bus_unown_name);
+    g_clear_pointer(&service->interfaces, g_dbus_node_info_unref);
+    g_clear_pointer(&service->blame, blame_free);
+    g_clear_object(&service->bus);
+    g_hash_table_unref(service->writers);
+    g_main_loop_unref(service->loop);
+    place_release(&service->place);
+}
+
+static int serve(const char *folder)
+{
+    static Service service;
+    DconfdbError error = DCONFDB_ERROR_INIT;
+    if (!place_find(folder, &service.place, &error)) {
+        say(error.text);
+        return 1;
+    }
+    service.loop = g_main_loop_new(NULL, FALSE);
+    service.writers = g_hash_table_new_full(g_str_hash, g_str_equal, NULL, (GDestroyNotify)writer_free);
+    bool is_ready = connect_bus(&service);
+    if (is_ready)
+        open_users(&service);
+    if (is_ready && !service_begin_writing(&service))
+        say("no thread can be had");
+    else if (is_ready)
+        run(&service);
+    bool is_left = service.has_thread, has_failed = !is_ready || service.has_failed;
+    if (is_left)
+        say("what was asked for last isn't on the disk");
+    else
+        clear(&service);
+    return has_failed || is_left;
+}
+
+int main(int count, char **words)
+{
+    g_autofree char *folder = NULL;
+    g_autoptr(GError) error = NULL;
+    const GOptionEntry options[] = {{"store", 0, 0, G_OPTION_ARG_FILENAME, &folder, "The store's folder, and not the user's own", "FOLDER"}, {0}};
+    g_autoptr(GOptionContext) context = g_option_context_new("- write settings for programs with dconf's library");
+    g_option_context_add_main_entries(context, options, NULL);
+    if (!g_option_context_parse(context, &count, &words, &error)) {
+        say(error->message);
+        return 2;
+    }
+    if (count == 1)
+        return serve(folder);
+    say("there are no words but options");
+    return 2;
+}

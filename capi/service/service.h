@@ -1,0 +1,145 @@
+/* The parts of the service ca.desrt.dconf over libdconfdb. */
+#ifndef SERVICE_H
+#define SERVICE_H
+
+#include "batch.h"
+#include "dconfdb.h"
+#include "dconfdb_calls.h"
+#include "order.h"
+#include "place.h"
+#include "seen.h"
+#include "watch.h"
+
+#include <gio/gio.h>
+#include <pthread.h>
+
+typedef struct Blame Blame;
+typedef struct Writer Writer;
+
+/* The main thread calls the bus, and sees what others change; one thread writes, and waits for the disk and for others' turns. A
+ * writer's `turn` is taken before `lock`. */
+typedef struct {
+    StorePlace place;
+    GDBusConnection *bus;
+    GDBusNodeInfo *interfaces;
+    Blame *blame; /* NULL: nobody asked for it */
+    GMainLoop *loop;
+    GHashTable *writers; /* by their names */
+    bool had_name, is_ending, has_failed;
+    guint owner;
+
+    pthread_t thread;
+    bool has_thread;
+    gint64 failing, pause; /* the thread's: since when nothing can be written, and the pause before the next try; 0: it can */
+
+    GMutex lock; /* held for moments. It guards: */
+    GCond comes; /* more waits, or the end has come */
+    GQueue waiting; /* of changes, the oldest first */
+    guint64 added, settled; /* how many changes ever came, and how many were answered */
+    bool ends;
+} Service;
+
+/* ---- what is asked for (changes.c) */
+
+/* A set of changes, none of which is made where it is odd. What of it can be made is made, and the rest is left out. */
+typedef struct {
+    GList link; /* in the queue that has it */
+    Writer *writer;
+    GDBusMethodInvocation *call;
+    guint64 number;    /* of the writer's changes */
+    uint64_t moment;   /* in which it came, by order_clock() */
+    GVariant *asked;   /* as it was sent; once it is read, in normal form, and in one block, which the edits lend */
+    bool is_odd;       /* it is not in normal form, and too large to be brought into it */
+    GArray *edits;     /* in the order of their paths' bytes, one of each: a directory's comes before those of what is in it */
+    GPtrArray *unfit;  /* paths that are too long to be a key's */
+    GStringChunk *types;
+    size_t first;      /* the number of its first edit, of those of its run */
+} Change;
+
+Change *change_new(Writer *writer, GDBusMethodInvocation *call, guint64 number);
+void change_read(Change *change);
+void change_free(Change *change);
+
+static inline const DconfdbEdit *edit_of(const Change *change, size_t at)
+{
+    return &g_array_index(change->edits, DconfdbEdit, at);
+}
+
+/* ---- a user's database by its name (stores.c, watching.c) */
+
+struct Writer {
+    Service *service;
+    char *name, *object;
+    guint64 count; /* of its changes */
+
+    GMutex turn; /* held while files are looked at or changed, and told of. It guards: */
+    DconfdbStore *store;
+    DconfdbSnapshot *told; /* what listeners know of */
+
+    Watch *watch;
+    guint hears, waits; /* sources, of what happens and of time; 0: none */
+    bool is_old;        /* another profile may name other databases: the store is to be opened anew */
+    char *warned;
+    gint is_to_look; /* the main thread looks when `turn` is free; atomic */
+};
+
+/* The store in which the database of that name is the user's. NULL: it can't be opened. */
+DconfdbStore *store_named(const Service *service, const char *name, DconfdbError *error);
+
+/* So many names at most, since each takes files and memory. NULL: it can't be opened, or there are too many. */
+Writer *writer_named(Service *service, const char *name, DconfdbError *error);
+void writer_free(Writer *writer);
+
+/* Says on stderr what is wrong, once as long as it is the same. */
+void writer_warn(Writer *writer, const char *text);
+
+/* In the main thread: sees what others change. */
+void writer_watch(Writer *writer);
+
+/* In the thread that writes: `turn` was let go of. */
+void writer_has_written(Writer *writer);
+
+/* ---- who is told (told.c); `turn` is held */
+
+/* Keys, each with its newest edit of those that are made together. */
+typedef struct {
+    GTree *edits;
+    GPtrArray *resets; /* those that a directory's stands for */
+} Newest;
+
+void newest_begin(Newest *newest);
+void newest_end(Newest *newest);
+
+/* Tells a change that is made after those before, with its tag: the paths of which another value is seen by it. Its edits are in `made`. */
+void tell_change(Writer *writer, Newest *newest, const GPtrArray *made, const char *tag);
+
+/* Tells without a tag what is otherwise than all that was told before, and these paths. `newest` may be NULL. */
+void tell_others(Writer *writer, const Newest *newest, const GPtrArray *left_out);
+
+/* ---- the thread that writes (writes.c) */
+
+bool service_begin_writing(Service *service);
+
+/* Of the main thread: it waits to be written. */
+void service_add(Service *service, Change *change);
+
+/* It writes what waits, and ends. */
+void service_stop_writing(Service *service);
+
+/* ---- the bus (bus.c, blame.c) */
+
+/* False: it failed, which is told. */
+bool bus_register(Service *service);
+
+/* For `dconf blame`: who called, and what ran then. NULL: the environment doesn't ask for it. */
+Blame *blame_new(void);
+void blame_free(Blame *blame);
+void blame_record(Blame *blame, GDBusMethodInvocation *call);
+const char *blame_text(const Blame *blame);
+
+/* ---- dconf's readers in place (flag.c) */
+
+/* Programs with dconf's library that have this database's file mapped look at it again. */
+void flag_readers(const char *name);
+
+#endif

@@ -1,0 +1,113 @@
+/* A user's database by its name, as the bus has it: which store it is of, and who is told of it. */
+#include "service.h"
+
+#include <string.h>
+
+/* Each takes a few files of the process. */
+enum { MOST_WRITERS = 64 };
+
+/* ---- where it is */
+
+static bool has_line(const char *path, const char *line)
+{
+    g_autofree char *text = NULL;
+    return g_file_get_contents(path, &text, NULL, NULL) && strcmp(text, line) == 0;
+}
+
+/* A profile of one line, in a file of the user's own, since a store is of a profile that is a file. It is watched, and stays as it is. */
+static char *profile_of_name(const char *name, DconfdbError *error)
+{
+    g_autoptr(GError) fault = NULL;
+    g_autofree char *folder = g_build_filename(g_get_user_runtime_dir(), "dconfdb", "service", NULL);
+    g_autofree char *line = g_strdup_printf("user-db:%s\n", name);
+    g_autofree char *path = g_build_filename(folder, name, NULL);
+    if (has_line(path, line) || (g_mkdir_with_parents(folder, 0700) == 0 && g_file_set_contents(path, line, -1, &fault)))
+        return g_steal_pointer(&path);
+    error->code = DCONFDB_ERROR_FILE;
+    g_strlcpy(error->text, fault ? fault->message : folder, sizeof error->text);
+    return NULL;
+}
+
+/* The store that has this database alone, whatever the profile is. */
+static DconfdbStore *open_alone(const Service *service, const char *name, DconfdbError *error)
+{
+    g_autofree char *profile = profile_of_name(name, error);
+    StorePlace place = {service->place.folder, profile, service->place.is_given};
+    return profile ? place_open(&place, error) : NULL;
+}
+
+static bool is_same_database(const DconfdbStore *one, const DconfdbStore *other)
+{
+    const char *file = dconfdb_store_user_file(one), *others = dconfdb_store_user_file(other);
+    return file && others && strcmp(file, others) == 0;
+}
+
+/* The one that the profile makes, with its locks, where this is its user's database; else one of its own. */
+DconfdbStore *store_named(const Service *service, const char *name, DconfdbError *error)
+{
+    DconfdbStore *alone = open_alone(service, name, error);
+    DconfdbStore *store = alone ? place_open(&service->place, error) : NULL;
+    if (!store || is_same_database(store, alone)) {
+        dconfdb_store_close(alone);
+        return store;
+    }
+    dconfdb_store_close(store);
+    return alone;
+}
+
+/* ---- who is told of it */
+
+static Writer *writer_new(Service *service, const char *name, DconfdbStore *store)
+{
+    Writer *writer = g_new0(Writer, 1);
+    writer->service = service;
+    writer->name = g_strdup(name);
+    writer->object = g_strconcat("/ca/desrt/dconf/Writer/", name, NULL);
+    writer->store = store;
+    writer->told = dconfdb_store_snapshot(store);
+    writer->watch = watch_new(true);
+    g_mutex_init(&writer->turn);
+    return writer;
+}
+
+Writer *writer_named(Service *service, const char *name, DconfdbError *error)
+{
+    Writer *writer = g_hash_table_lookup(service->writers, name);
+    if (writer)
+        return writer;
+    if (g_hash_table_size(service->writers) >= MOST_WRITERS) {
+        error->code = DCONFDB_ERROR_TOO_MANY;
+        g_snprintf(error->text, sizeof error->text, "%d databases are in use already", MOST_WRITERS);
+        return NULL;
+    }
+    DconfdbStore *store = store_named(service, name, error);
+    if (!store)
+        return NULL;
+    writer = writer_new(service, name, store);
+    g_hash_table_insert(service->writers, writer->name, writer);
+    writer_watch(writer);
+    return writer;
+}
+
+void writer_free(Writer *writer)
+{
+    g_clear_handle_id(&writer->hears, g_source_remove);
+    g_clear_handle_id(&writer->waits, g_source_remove);
+    watch_free(writer->watch);
+    dconfdb_snapshot_unref(writer->told);
+    dconfdb_store_close(writer->store);
+    g_mutex_clear(&writer->turn);
+    g_free(writer->warned);
+    g_free(writer->name);
+    g_free(writer->object);
+    g_free(writer);
+}
+
+void writer_warn(Writer *writer, const char *text)
+{
+    if (g_strcmp0(writer->warned, text) == 0)
+        return;
+    g_free(writer->warned);
+    writer->warned = g_strdup(text);
+    g_printerr("dconfdb-service: %s\n", text);
+}

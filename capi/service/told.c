@@ -1,0 +1,230 @@
+/* Who is told of what: by the proved call that says which keys are seen otherwise, of the user's own database alone, since programs in a
+ * sandbox see no site's. */
+#include "service.h"
+#include "paths.h"
+
+#include <stdlib.h>
+#include <string.h>
+
+/* So many bytes of paths are named; where there are more, the directory is told that has them all. */
+enum { MOST_NAMED = 1 << 24 };
+
+/* ---- one signal */
+
+/* How many bytes of a path can be sent as a text: all, or its directory's. */
+static size_t sendable(const char *path)
+{
+    const char *end = NULL;
+    if (g_utf8_validate(path, -1, &end))
+        return strlen(path);
+    while (end > path && end[-1] != '/')
+        end--;
+    return (size_t)(end - path);
+}
+
+/* The directory that one path and such a beginning of another have in common, or that path. */
+static size_t common(const char *one, size_t len, const char *other, size_t other_len)
+{
+    size_t same = 0;
+    while (same < len && same < other_len && one[same] == other[same])
+        same++;
+    if (same == len && same == other_len)
+        return same;
+    while (same > 0 && one[same - 1] != '/')
+        same--;
+    return same;
+}
+
+/* What all paths begin with, of the first one, and how many bytes they are. */
+static size_t prefix_of(const GPtrArray *paths, size_t *size)
+{
+    const char *first = g_ptr_array_index(paths, 0);
+    size_t len = sendable(first);
+    *size = 0;
+    for (guint at = 0; at < paths->len; at++) {
+        const char *path = g_ptr_array_index(paths, at);
+        len = common(first, len, path, sendable(path));
+        *size += strlen(path);
+    }
+    return len;
+}
+
+static GVariant *rests_of(const GPtrArray *paths, size_t prefix, bool are_named)
+{
+    GVariantBuilder rests;
+    g_variant_builder_init(&rests, G_VARIANT_TYPE("as"));
+    if (!are_named)
+        g_variant_builder_add(&rests, "s", "");
+    for (guint at = 0; are_named && at < paths->len; at++) {
+        const char *path = g_ptr_array_index(paths, at);
+        g_variant_builder_add_value(&rests, g_variant_new_take_string(g_strndup(path + prefix, sendable(path) - prefix)));
+    }
+    return g_variant_builder_end(&rests);
+}
+
+static void notify(const Writer *writer, const GPtrArray *paths, const char *tag)
+{
+    size_t size = 0;
+    if (paths->len == 0)
+        return;
+    size_t len = prefix_of(paths, &size);
+    g_autofree char *prefix = g_strndup(g_ptr_array_index(paths, 0), len);
+    GVariant *words = g_variant_new("(s@ass)", prefix, rests_of(paths, len, size <= MOST_NAMED), tag);
+    /* It fails where the bus is gone. */
+    g_dbus_connection_emit_signal(writer->service->bus, NULL, writer->object, "ca.desrt.dconf.Writer", "Notify", words, NULL);
+}
+
+/* ---- keys that are edited */
+
+static int by_path(gconstpointer one, gconstpointer other, gpointer data)
+{
+    (void)data;
+    return strcmp(one, other);
+}
+
+void newest_begin(Newest *newest)
+{
+    newest->edits = g_tree_new_full(by_path, NULL, NULL, NULL);
+    newest->resets = g_ptr_array_new_with_free_func(g_free);
+}
+
+void newest_end(Newest *newest)
+{
+    g_tree_unref(newest->edits);
+    g_ptr_array_unref(newest->resets);
+}
+
+static void put(GTree *edits, const DconfdbEdit *edit)
+{
+    g_tree_replace(edits, (gpointer)edit->path, (gpointer)edit);
+}
+
+static void put_reset(GTree *edits, Newest *newest, const char *path)
+{
+    size_t size = strlen(path) + 1;
+    DconfdbEdit *edit = g_malloc(sizeof *edit + size);
+    *edit = (DconfdbEdit){memcpy(edit + 1, path, size), NULL, NULL, 0};
+    g_ptr_array_add(newest->resets, edit);
+    put(edits, edit);
+}
+
+/* The reset of a directory is that of each key below it: of those that were there, and that were set since. */
+static void put_resets(GTree *edits, Newest *newest, const DconfdbSnapshot *before, const char *directory)
+{
+    char *paths = snapshot_paths(before, directory, NULL);
+    for (const char *at = paths; at && *at; at += strlen(at) + 1)
+        put_reset(edits, newest, at);
+    for (GTreeNode *node = g_tree_lower_bound(newest->edits, directory); node; node = g_tree_node_next(node)) {
+        if (!g_str_has_prefix(g_tree_node_key(node), directory))
+            break;
+        put_reset(edits, newest, g_tree_node_key(node));
+    }
+    free(paths);
+}
+
+/* The keys of a change, each with what it says. */
+static GTree *keys_of(Newest *newest, const DconfdbSnapshot *before, const GPtrArray *made)
+{
+    GTree *edits = g_tree_new_full(by_path, NULL, NULL, NULL);
+    for (guint at = 0; at < made->len; at++) {
+        const DconfdbEdit *edit = g_ptr_array_index(made, at);
+        if (g_str_has_suffix(edit->path, "/"))
+            put_resets(edits, newest, before, edit->path);
+        else
+            put(edits, edit);
+    }
+    return edits;
+}
+
+/* ---- what is seen otherwise */
+
+/* The user's own database, as it was told, or is now. */
+static DconfdbSnapshot *own_of(const DconfdbSnapshot *snapshot)
+{
+    DconfdbSnapshot *own = snapshot_of_user(snapshot);
+    if (!own)
+        g_error("no memory is left");
+    return own;
+}
+
+static void add_all(GPtrArray *paths, const char *list)
+{
+    for (const char *at = list; *at; at += strlen(at) + 1)
+        g_ptr_array_add(paths, (gpointer)at);
+}
+
+/* Tells what is otherwise, and these paths. Without memory all may be. */
+static void tell(const Writer *writer, const DconfdbSnapshot *before, const DconfdbSnapshot *now, const GArray *keys, GPtrArray *paths, const char *tag)
+{
+    Told told;
+    if (!seen_otherwise(&told, before, now, (const SeenKey *)(gpointer)keys->data, keys->len, NULL)) {
+        g_ptr_array_set_size(paths, 0);
+        g_ptr_array_add(paths, "/");
+        notify(writer, paths, tag);
+        return;
+    }
+    add_all(paths, told.paths);
+    notify(writer, paths, tag);
+    seen_free(&told);
+}
+
+typedef struct {
+    const Newest *newest;
+    GArray *keys;
+} Asking;
+
+static gboolean ask_beside(gpointer path, gpointer edit, gpointer data)
+{
+    const Asking *asking = data;
+    SeenKey key = {path, NULL, g_tree_lookup(asking->newest->edits, path), edit};
+    g_array_append_val(asking->keys, key);
+    return FALSE;
+}
+
+static gboolean add_newest(gpointer path, gpointer edit, gpointer newest)
+{
+    (void)path;
+    put(((Newest *)newest)->edits, edit);
+    return FALSE;
+}
+
+void tell_change(Writer *writer, Newest *newest, const GPtrArray *made, const char *tag)
+{
+    DconfdbSnapshot *before = own_of(writer->told);
+    g_autoptr(GArray) keys = g_array_new(FALSE, FALSE, sizeof(SeenKey));
+    g_autoptr(GPtrArray) paths = g_ptr_array_new();
+    GTree *edits = keys_of(newest, before, made);
+    g_tree_foreach(edits, ask_beside, &(Asking){newest, keys});
+    tell(writer, before, before, keys, paths, tag);
+    g_tree_foreach(edits, add_newest, newest);
+    g_tree_unref(edits);
+    dconfdb_snapshot_unref(before);
+}
+
+/* ---- what others changed */
+
+/* What was told of a key is what its newest edit says, and now it is what the file says. */
+static gboolean ask_after(gpointer path, gpointer edit, gpointer keys)
+{
+    SeenKey key = {path, NULL, edit, NULL};
+    g_array_append_val((GArray *)keys, key);
+    return FALSE;
+}
+
+void tell_others(Writer *writer, const Newest *newest, const GPtrArray *left_out)
+{
+    DconfdbSnapshot *after = dconfdb_store_snapshot(writer->store), *before = own_of(writer->told), *now = own_of(after);
+    g_autoptr(GArray) keys = g_array_new(FALSE, FALSE, sizeof(SeenKey));
+    g_autoptr(GPtrArray) paths = g_ptr_array_new();
+    if (newest)
+        g_tree_foreach(newest->edits, ask_after, keys);
+    for (guint at = 0; left_out && at < left_out->len; at++)
+        g_ptr_array_add(paths, g_ptr_array_index(left_out, at));
+    if (after != writer->told)
+        flag_readers(writer->name);
+    tell(writer, before, now, keys, paths, "");
+    dconfdb_snapshot_unref(before);
+    dconfdb_snapshot_unref(now);
+    dconfdb_snapshot_unref(writer->told);
+    writer->told = after;
+}
