@@ -72,7 +72,7 @@ static void read_entry(Change *change, GVariant *entry)
     bool is_short = false;
     g_variant_get_child(entry, 0, "&s", &path);
     g_autoptr(GVariant) value = value_of(entry);
-    uint32_t kind = dconfdb_path_kind((const uint8_t *)path, strlen(path), &is_short);
+    uint32_t kind = dconfdb_path_kind((const uint8_t *)path, strlen(path), DCONFDB_PATH_WANTED, false, &is_short);
     if (kind != DCONFDB_PATH_KEY && (kind != DCONFDB_PATH_DIRECTORY || value))
         return;
     if (!is_short) {

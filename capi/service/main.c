@@ -43,7 +43,8 @@ static bool goes_on(Ending *ending)
     Service *service = ending->service;
     renew(ending);
     g_mutex_lock(&service->lock);
-    bool is = dconfdb_patience_goes_on(&ending->time, service->settled, service->added, 0, 0, (uint64_t)g_get_monotonic_time());
+    DconfdbProgress progress = {service->settled, service->added, 0, 0, UINT64_MAX};
+    bool is = dconfdb_patience_goes_on(&ending->time, &progress, (uint64_t)g_get_monotonic_time());
     service->has_failed = service->has_failed || (!is && service->settled < service->added);
     g_mutex_unlock(&service->lock);
     return is;
@@ -66,8 +67,8 @@ static void begin_end(Service *service)
     service->is_ending = true;
     g_clear_handle_id(&service->owner, g_bus_unown_name);
     Ending *ending = g_new(Ending, 1);
-    *ending = (Ending){.service = service, .changed = changed_at(service->place.folder)};
-    dconfdb_patience_begin(&ending->time, (uint64_t)g_get_monotonic_time(), LONGEST_END);
+    *ending = (Ending){.service = service, .time = {.each = LONGEST_END}, .changed = changed_at(service->place.folder)};
+    dconfdb_patience_renew(&ending->time, (uint64_t)g_get_monotonic_time());
     g_timeout_add_full(G_PRIORITY_LOW, TICK, end_when_settled, ending, g_free);
 }
 

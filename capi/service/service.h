@@ -30,7 +30,7 @@ typedef struct {
 
     pthread_t thread;
     bool has_thread;
-    gint64 failing, pause; /* the thread's: since when nothing can be written, and the pause before the next try; 0: it can */
+    DconfdbFailing failing; /* the thread's: a fault by which nothing can be written */
 
     GMutex lock; /* held for moments. It guards: */
     GCond comes; /* more waits, or the end has come */

@@ -128,10 +128,9 @@ static bool is_ending(Service *service)
 /* Whether a fault, by which nothing could be written, is to be told. */
 static bool lasts(Service *service, const DconfdbError *fault)
 {
-    gint64 now = g_get_monotonic_time();
-    if (service->failing == 0)
-        service->failing = now;
-    return dconfdb_fault_is_lasting(is_momentary(fault), !is_ending(service), (uint64_t)service->failing, (uint64_t)now);
+    uint64_t now = (uint64_t)g_get_monotonic_time();
+    uint32_t said = dconfdb_failing_met(&service->failing, true, is_momentary(fault), !is_ending(service), now);
+    return said == DCONFDB_FAULT_SAY || said == DCONFDB_FAULT_SAID;
 }
 
 /* With the turn between programs, or a fault of that. False: nothing is written, and it is to be tried again. */
@@ -166,8 +165,7 @@ static bool try(Run *run)
 /* Before the next try. */
 static void pause_for(Service *service)
 {
-    service->pause = (gint64)dconfdb_pause_after((uint64_t)service->pause);
-    gint64 end = g_get_monotonic_time() + service->pause;
+    gint64 end = g_get_monotonic_time() + (gint64)service->failing.pause;
     g_mutex_lock(&service->lock);
     while (!service->ends && g_cond_wait_until(&service->comes, &service->lock, end))
         ;
@@ -192,7 +190,7 @@ static void write_run(Service *service, Run *run)
     }
     while (!try(run))
         pause_for(service);
-    service->failing = service->pause = 0;
+    service->failing = (DconfdbFailing){0};
 }
 
 /* ---- what waits */
