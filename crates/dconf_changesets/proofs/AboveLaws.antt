@@ -1,11 +1,11 @@
 -- The directories in which paths are.
-use Rattle.std.specs.Prelude.{◌≡◌, ◌⊎◌, ◌≤◌, ◌<◌, ℕ, zero, suc, Bool, true, false, if◌then◌else◌, List, [], ◌∷◌, ◌++◌, drop, length, take, min, refl}
+use Rattle.std.specs.Prelude.{◌≡◌, ◌⊎◌, ◌≤◌, ◌<◌, ℕ, zero, suc, true, false, List, [], ◌∷◌, ◌++◌, drop, length, take, min, refl}
 use Rattle.std.proofs.Common.{◌==◌, ◌+◌, inl, inr, sym, ap, ◌∙◌, subst, arith, eqb-true}
 use Rattle.std.proofs.lemmas.Bool.{eqb-false}
 use Rattle.dconf_model.proofs.ParentLaws.{by_bool}
-use Rattle.dconf_model.specs.Locks.{covers, is_below}
+use Rattle.dconf_model.specs.Locks.{covers}
 use Rattle.dconf_model.specs.Paths.{ends_with_slash}
-use Rattle.dconf_changesets.specs.Above.{IsShared, NoDirectoryIsPassedOver, is_shared, longest_shared, shared_within}
+use Rattle.dconf_changesets.specs.Above.{NoDirectoryIsPassedOver, is_shared, longest_shared}
 use Rattle.dconf_changesets.proofs.WordLaws.{below_cut, covers_how}
 
 within : (path other : List ℕ) (n : ℕ) → longest_shared path other n ≤ n

@@ -1,8 +1,7 @@
 -- Who says the newest word of a key.
-use Rattle.std.specs.Prelude.{◌≡◌, ◌-◌, ℕ, zero, suc, List, [], ◌∷◌, ◌++◌, length, refl}
+use Rattle.std.specs.Prelude.{◌≡◌, ◌-◌, ℕ, zero, suc, List, [], ◌∷◌, length, refl}
 use Rattle.std.proofs.Common.{ap, sym, ◌∙◌, arith}
-use Rattle.dconf_model.specs.Stores.Saying.{silent}
-use Rattle.dconf_changesets.specs.Asking.{TheNewestIsAsked, all_rows, asked_after, newest, said_in}
+use Rattle.dconf_changesets.specs.Asking.{TheNewestIsAsked, all_rows, newest, said_in}
 use Rattle.dconf_changesets.specs.Rows.{Row, later_word, said}
 use Rattle.dconf_changesets.proofs.WordLaws.{after_silent, later_assoc, said_append}
 

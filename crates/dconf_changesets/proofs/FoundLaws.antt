@@ -1,19 +1,16 @@
 -- What is found of a key in a set of changes.
-use Rattle.std.specs.Prelude.{◌≡◌, ◌⊎◌, ℕ, Bool, true, false, not, ◌&&◌, ◌||◌, if◌then◌else◌, List, [], ◌∷◌, ◌++◌, filter, fold, Option, Some, None, is_some, refl}
+use Rattle.std.specs.Prelude.{◌≡◌, ℕ, Bool, true, false, not, ◌||◌, if◌then◌else◌, List, [], ◌∷◌, ◌++◌, filter, Option, Some, None, is_some, refl}
 use Rattle.std.proofs.Common.{inl, inr, sym, ap, ◌∙◌, subst}
 use Rattle.std.specs.List.{AllByRecursion, list_any}
 use Rattle.std.specs.Str.{bytes_eq}
-use Rattle.std.proofs.lemmas.Bool.{or_parts}
 use Rattle.gv_model.specs.Tree.{Tree}
 use Rattle.dconf_model.proofs.ParentLaws.{by_bool}
 use Rattle.dconf_model.proofs.SameBytes.{itself, same_path}
-use Rattle.dconf_model.specs.Locks.{covers, is_below}
-use Rattle.dconf_model.specs.Paths.{ends_with_slash}
-use Rattle.dconf_model.specs.Stores.{Saying}
-use Rattle.dconf_model.specs.Stores.Saying.{silent, unset, sets}
+use Rattle.dconf_model.specs.Locks.{covers}
+use Rattle.dconf_model.specs.Stores.Saying.{silent, unset}
 use Rattle.dconf_changesets.specs.Differences.{AreInOrder}
 use Rattle.dconf_changesets.specs.Rows.{FoundIsSaid, IsRow, Row, changed, effect_of, found, found_above, found_by, is_staying, later_word, own_row, said, said_by, with_row, word_of}
-use Rattle.dconf_changesets.proofs.WordLaws.{after_silent, covers_how, covers_itself, kept_rows, later_counts, over_by_word, said_apart, said_covered, stays_apart, with_row_is}
+use Rattle.dconf_changesets.proofs.WordLaws.{after_silent, covers_how, kept_rows, later_counts, over_by_word, said_apart, stays_apart, with_row_is}
 
 -- ---- all of a list
 

@@ -1,6 +1,6 @@
 -- What is said to who waits until a change is made.
-use Rattle.std.proofs.Common.{◌≡◌, Bool, true, false, not, refl}
-use Rattle.std.specs.Prelude.{◌&&◌, ◌||◌, if◌then◌else◌}
+use Rattle.std.proofs.Common.{◌≡◌, Bool, true, false, refl}
+use Rattle.std.specs.Prelude.{if◌then◌else◌}
 use Rattle.dconf_changesets.specs.declared.making.ChangeKnown.{ChangeKnown}
 use Rattle.dconf_changesets.specs.declared.making.ChangeTask.TheVariants.{Made, Refused}
 use Rattle.dconf_changesets.specs.Making.{Answers, MadeMeansOnTheDisk, fails_by, is_made, said_at_last}

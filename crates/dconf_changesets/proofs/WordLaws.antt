@@ -1,7 +1,6 @@
 -- What a set of changes says of each key.
-use Rattle.std.specs.Prelude.{◌≡◌, ◌⊎◌, ℕ, Bool, true, false, not, ◌&&◌, ◌||◌, if◌then◌else◌, List, [], ◌∷◌, ◌++◌, filter, fold, length, drop, Option, Some, None, is_some, refl}
+use Rattle.std.specs.Prelude.{◌≡◌, ◌⊎◌, ℕ, Bool, true, false, not, ◌&&◌, ◌||◌, if◌then◌else◌, List, [], ◌∷◌, ◌++◌, filter, length, drop, Option, Some, None, is_some, refl}
 use Rattle.std.proofs.Common.{inl, inr, sym, ap, ◌∙◌, subst}
-use Rattle.std.specs.List.{AllByRecursion, list_any}
 use Rattle.std.specs.Str.{bytes_eq}
 use Rattle.std.proofs.lemmas.Bool.{and_from, and_parts, or_cases, or_left, or_right}
 use Rattle.std.proofs.lemmas.Bool.Decides.{Decides-eqb}
@@ -9,15 +8,13 @@ use Rattle.std.proofs.lemmas.List.{append_assoc}
 use Rattle.std.proofs.lemmas.Slice.Eq.{starts_is}
 use Rattle.gv_model.specs.Tree.{Tree}
 use Rattle.dconf_model.proofs.ParentLaws.{by_bool}
-use Rattle.dconf_model.proofs.PathMaps.{no_truth}
 use Rattle.dconf_model.proofs.SameBytes.{itself, same_path}
 use Rattle.dconf_model.specs.Locks.{covers, is_below}
 use Rattle.dconf_model.specs.Paths.{ends_with_slash}
 use Rattle.dconf_model.specs.Stores.{Saying}
 use Rattle.dconf_model.specs.Stores.Saying.{silent, unset, sets}
-use Rattle.dconf_changesets.specs.Rows.{FoundIsSaid, IsRow, LaterCounts, Row, changed, effect_of, found, found_above, found_by, is_staying, is_taking, later_word, own_effect, own_row, said, said_by, with_row, word_of}
-use Rattle.dconf_changesets.specs.declared.rows.Effect.{Effect}
-use Rattle.dconf_changesets.specs.declared.rows.Effect.TheVariants.{Stays, Goes, Takes}
+use Rattle.dconf_changesets.specs.Rows.{LaterCounts, Row, effect_of, is_staying, is_taking, later_word, own_effect, said, said_by, with_row, word_of}
+use Rattle.dconf_changesets.specs.declared.rows.Effect.TheVariants.{Stays, Goes}
 
 -- ---- paths
 

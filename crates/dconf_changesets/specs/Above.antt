@@ -1,5 +1,5 @@
 -- The directories in which a path is.
-use Rattle.std.specs.Prelude.{◌≡◌, ◌⊎◌, ◌≤◌, ◌<◌, ◌-◌, ℕ, zero, suc, Bool, true, false, ◌&&◌, if◌then◌else◌, List, length, take, min}
+use Rattle.std.specs.Prelude.{◌≡◌, ◌⊎◌, ◌≤◌, ◌<◌, ℕ, zero, suc, Bool, true, false, ◌&&◌, if◌then◌else◌, List, length, take, min}
 use Rattle.dconf_model.specs.Locks.{covers}
 use Rattle.dconf_model.specs.Paths.{ends_with_slash}
 

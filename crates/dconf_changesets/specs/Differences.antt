@@ -1,5 +1,5 @@
 -- Which changes make a difference to a database. dconf's DConfChangeset, "dconf_changeset_filter_changes" and "dconf_changeset_diff".
-use Rattle.std.specs.Prelude.{◌≡◌, ℕ, Bool, true, false, not, ◌&&◌, if◌then◌else◌, List, [], ◌∷◌, ◌++◌, Option, Some, None, is_some}
+use Rattle.std.specs.Prelude.{◌≡◌, ℕ, Bool, true, false, not, ◌&&◌, if◌then◌else◌, List, [], ◌∷◌, ◌++◌, Option, None, is_some}
 use Rattle.std.specs.List.{AllByRecursion, list_any}
 use Rattle.gv_model.specs.Tree.{Tree}
 use Rattle.dconf_model.specs.Locks.{covers}

@@ -1,6 +1,6 @@
 -- What a changeset says of each key. dconf's DConfChangeset, "dconf_changeset_set" and "dconf_changeset_change": a key is set or reset, a
 -- directory is reset with all that is in it, and a later change goes over an earlier one.
-use Rattle.std.specs.Prelude.{◌≡◌, ℕ, Bool, true, false, not, ◌&&◌, ◌||◌, if◌then◌else◌, List, [], ◌∷◌, ◌++◌, fold, filter, Option, Some, None, is_some}
+use Rattle.std.specs.Prelude.{◌≡◌, ℕ, Bool, true, false, not, ◌||◌, if◌then◌else◌, List, [], ◌∷◌, ◌++◌, fold, filter, Option, Some, None, is_some}
 use Rattle.std.specs.List.{AllByRecursion, list_any}
 use Rattle.std.specs.Str.{bytes_eq}
 use Rattle.gv_model.specs.Tree.{Tree}

@@ -1,4 +1,4 @@
-use Rattle.std.proofs.Common.{rules, ◌≡◌, ℕ, ◌+◌, ◌-◌, ◌<◌, ◌≤◌, ◌∙◌, sym, ap, arith, Bool, true, false}
+use Rattle.std.proofs.Common.{◌≡◌, ◌+◌, ◌-◌, ◌<◌, ◌∙◌, sym, ap, arith, true, false}
 use Rattle.dconf_changesets.specs.Above.{is_shared, longest_shared}
 use Rattle.dconf_changesets.proofs.AboveLaws.{longest_down, longest_here}
 use Rattle.dconf_changesets.proofs.above.longest_shared.Goals as goal
