@@ -290,8 +290,9 @@ static int start(Watching *watch)
     }
     if (!has_named_profile(watch))
         return 1;
-    watch->before = dconfdb_store_snapshot(watch->store);
-    warn_of_faults(watch, watch->before);
+    DconfdbSnapshot *now = dconfdb_store_snapshot(watch->store);
+    warn_of_faults(watch, now);
+    watch->before = now;
     return watch_until_interrupted(watch);
 }
 
