@@ -123,6 +123,9 @@ bool service_begin_writing(Service *service);
 /* Of the main thread: it waits to be written. */
 void service_add(Service *service, Change *change);
 
+/* Whether a change isn't answered yet. */
+bool service_has_waiting(Service *service);
+
 /* It writes what waits, and ends. */
 void service_stop_writing(Service *service);
 

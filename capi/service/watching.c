@@ -34,6 +34,16 @@ static void warn_of_fault(Writer *writer)
     dconfdb_snapshot_unref(now);
 }
 
+/* A change that waits is to be overtaken by what others changed since it came. */
+static void heed(Writer *writer)
+{
+    if (!service_has_waiting(writer->service))
+        return;
+    DconfdbSnapshot *now = dconfdb_store_snapshot(writer->store);
+    heed_others(writer->store, writer->told, now);
+    dconfdb_snapshot_unref(now);
+}
+
 /* `turn` is held. False: it failed. */
 static bool look(Writer *writer)
 {
@@ -43,6 +53,7 @@ static bool look(Writer *writer)
         return false;
     }
     warn_of_fault(writer);
+    heed(writer);
     tell_others(writer, NULL, NULL);
     return true;
 }

@@ -252,6 +252,14 @@ void service_add(Service *service, Change *change)
     g_mutex_unlock(&service->lock);
 }
 
+bool service_has_waiting(Service *service)
+{
+    g_mutex_lock(&service->lock);
+    bool has = service->settled < service->added;
+    g_mutex_unlock(&service->lock);
+    return has;
+}
+
 bool service_begin_writing(Service *service)
 {
     service->has_thread = thread_begin(&service->thread, work, service);
