@@ -115,7 +115,7 @@ static void hand_over(int folder, int file)
         return;
     if (made.st_gid != above.st_gid && fchown(file, (uid_t)-1, above.st_gid) == 0)
         made.st_gid = above.st_gid;
-    mode_t bits = dconfdb_lock_bits(above.st_mode, made.st_gid == above.st_gid);
+    mode_t bits = dconfdb_bits_for(above.st_mode, made.st_gid == above.st_gid, true);
     if ((made.st_mode & PERMISSION_BITS) != bits)
         fchmod(file, bits);
 }

@@ -64,6 +64,7 @@ size_t ends(const Written *room);
 enum { PART_OF_PATH = 4 };
 
 extern uint8_t file[]; /* a database */
+const void *empty_layer(void);
 
 void finds_database(void);
 void finds_turns(void);

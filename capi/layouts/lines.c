@@ -4,7 +4,7 @@
 #include <stdio.h>
 #include <string.h>
 
-bool dconfdb_keyfile_line(void *cursor, void *line);
+bool dconfdb_next_line(void *cursor, bool is_of_locks, void *line);
 
 /* Of two lines, the first names the group of the second's key. */
 enum { CURSOR_GROUP = 16, CURSOR_LINE = 32, CURSOR_PLACE = 40, CURSOR = 48, GROUP_AT = 1, VALUE_AT = 6 };
@@ -16,7 +16,7 @@ void finds_lines(void)
     Written line = room_of("DconfdbLine");
     lends(cursor, text, sizeof text - 1);
     lends(cursor + CURSOR_GROUP, text, 0);
-    is_so(dconfdb_keyfile_line(cursor, line.bytes) && dconfdb_keyfile_line(cursor, line.bytes), "DconfdbCursor");
+    is_so(dconfdb_next_line(cursor, false, line.bytes) && dconfdb_next_line(cursor, false, line.bytes), "DconfdbCursor");
     is_so(is_lent(cursor, "rest", 4) && is_lent(cursor + CURSOR_GROUP, "g", 1), "DconfdbCursor");
     is_so(cursor[CURSOR_LINE] == 2 && cursor[CURSOR_PLACE] == 1, "DconfdbCursor");
     lies("DconfdbCursor", "rest", 0, LENT);

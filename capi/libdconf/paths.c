@@ -15,7 +15,7 @@ static const char *fault_of(const gchar *text, Kind kind, gboolean is_relative)
     bool is_short;
     const uint8_t *bytes = (const uint8_t *)text;
     size_t len = strlen(text);
-    switch (is_relative ? dconfdb_relative_kind(bytes, len) : dconfdb_path_kind(bytes, len, &is_short)) {
+    switch (dconfdb_path_kind(bytes, len, is_relative, &is_short)) {
     case DCONFDB_PATH_KEY:
         return kind == OF_DIRECTORY ? "must end with a slash" : NULL;
     case DCONFDB_PATH_DIRECTORY:

@@ -140,7 +140,7 @@ const char *schemas_place(Schemas *schemas, const char *words)
         return "there is no ':' between a schema and a path";
     path++;
     bool is_short;
-    if (dconfdb_path_kind((const uint8_t *)path, strlen(path), &is_short) != DCONFDB_PATH_DIRECTORY)
+    if (dconfdb_path_kind((const uint8_t *)path, strlen(path), false, &is_short) != DCONFDB_PATH_DIRECTORY)
         return "the path is not a directory's";
     char *id = g_strndup(words, (size_t)(path - 1 - words));
     GSettingsSchema *schema = g_settings_schema_source_lookup(schemas->source, id, TRUE);

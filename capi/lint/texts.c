@@ -84,22 +84,20 @@ static void check_line(const Lint *lint, Place at, const DconfdbLine *line)
     g_free(path);
 }
 
-typedef bool Reads(DconfdbCursor *cursor, DconfdbLine *line);
-
-static void check_lines(const Lint *lint, const char *file, const char *text, size_t len, Reads *reads)
+static void check_lines(const Lint *lint, const char *file, const char *text, size_t len, bool is_of_locks)
 {
     DconfdbCursor cursor = {{(const uint8_t *)text, len}, DCONFDB_NOTHING, 0, 0};
     DconfdbLine line = {DCONFDB_LINE_SILENT, DCONFDB_NO_PATH, DCONFDB_NOTHING};
-    while (reads(&cursor, &line))
+    while (dconfdb_next_line(&cursor, is_of_locks, &line))
         check_line(lint, (Place){file, cursor.line}, &line);
 }
 
 void check_keyfile(const Lint *lint, const char *file, const char *text, size_t len)
 {
-    check_lines(lint, file, text, len, dconfdb_keyfile_line);
+    check_lines(lint, file, text, len, false);
 }
 
 void check_locks(const Lint *lint, const char *file, const char *text, size_t len)
 {
-    check_lines(lint, file, text, len, dconfdb_lock_line);
+    check_lines(lint, file, text, len, true);
 }

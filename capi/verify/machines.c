@@ -80,14 +80,14 @@ uint32_t dconfdb_fault_answer(uint32_t call, uint32_t kind)
     return fault_answers[call][kind];
 }
 
-uint32_t dconfdb_bits_for(uint32_t bits, bool has_group)
+uint32_t dconfdb_bits_for(uint32_t bits, bool has_group, bool is_lock)
 {
-    return bits_given(bits, has_group);
+    return is_lock ? lock_bits_given(bits, has_group) : bits_given(bits, has_group);
 }
 
-uint32_t dconfdb_lock_bits(uint32_t folder, bool has_group)
+uint32_t dconfdb_settling_after(uint32_t task, bool yes, const DconfdbSettling *known)
 {
-    return lock_bits_given(folder, has_group);
+    return settling_given(task, yes, known);
 }
 
 /* ---- a look */

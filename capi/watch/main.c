@@ -274,7 +274,7 @@ static int start_at(const char *folder, Watching *watch)
 static const char *fault_of_path(const char *path)
 {
     bool is_short = false;
-    uint32_t kind = dconfdb_path_kind((const uint8_t *)path, strlen(path), &is_short);
+    uint32_t kind = dconfdb_path_kind((const uint8_t *)path, strlen(path), false, &is_short);
     if (kind == DCONFDB_PATH_NOT_ABSOLUTE)
         return "NotAbsolute";
     if (kind == DCONFDB_PATH_DOUBLE_SLASH)

@@ -45,19 +45,16 @@ pub extern "C" fn dconfdb_owner_and_bits(
     }
 }
 
-/// The bits of a file that is to have these once it has its group, while it has that or another one.
+/// The bits of a file that is to have these once it has its group, while it has that or another one; or, of a lock's file that was just
+/// made (`is_lock`), by those of its folder, of which it has the group or another one.
 #[unsafe(no_mangle)]
-pub extern "C" fn dconfdb_bits_for(bits: u32, has_group: bool) -> u32
-    ensures { result ≡ bits_for bits has_group }
+pub extern "C" fn dconfdb_bits_for(bits: u32, has_group: bool, is_lock: bool) -> u32
+    ensures file { is_lock ≡ false → result ≡ bits_for bits has_group }
+    ensures lock { is_lock ≡ true → result ≡ lock_bits bits has_group }
 {
-    bits_for(bits, has_group)
-}
-
-/// The bits of a lock's file that was just made, by those of its folder, of which it has the group or
-/// another one.
-#[unsafe(no_mangle)]
-pub extern "C" fn dconfdb_lock_bits(folder: u32, has_group: bool) -> u32
-    ensures { result ≡ lock_bits folder has_group }
-{
-    lock_bits(folder, has_group)
+    if is_lock {
+        lock_bits(bits, has_group)
+    } else {
+        bits_for(bits, has_group)
+    }
 }

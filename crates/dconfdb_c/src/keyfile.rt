@@ -8,10 +8,30 @@ ghost use Rattle.keyfile_lines.specs.Told.{IsTold};
 
 use keyfile_lines::{Cursor, TextKind, ToldLine};
 
-/// What the next line of a keyfile says, whatever is wrong with those before it: the answers are, one after
-/// another, those of all lines that are left. False if there is none, and then nothing changes.
+/// What the next line of a keyfile says, or, where `is_of_locks`, of a lock file, whatever is wrong with those before it: the answers are,
+/// one after another, those of all lines that are left. False if there is none, and then nothing changes.
 #[unsafe(no_mangle)]
-pub extern "C" fn dconfdb_keyfile_line<'a>(cursor: &mut Cursor<'a>, line: &mut ToldLine<'a>) -> bool
+pub extern "C" fn dconfdb_next_line<'a>(
+    cursor: &mut Cursor<'a>,
+    is_of_locks: bool,
+    line: &mut ToldLine<'a>,
+) -> bool
+    ensures keyfile { is_of_locks ≡ false → IsTrue result → (answer : Answer) × (keyfile_answers cursor.old ≡ answer ∷ keyfile_answers cursor.new) × IsTold answer line.new }
+    ensures locks { is_of_locks ≡ true → IsTrue result → (answer : Answer) × (lock_answers cursor.old ≡ answer ∷ lock_answers cursor.new) × IsTold answer line.new }
+    ensures counted { IsTrue result → cursor.old.line < 18446744073709551615 → cursor.new.line ≡ cursor.old.line + 1 }
+    ensures no_key { is_of_locks ≡ false → result ≡ false → keyfile_answers cursor.old ≡ [] }
+    ensures no_lock { is_of_locks ≡ true → result ≡ false → lock_answers cursor.old ≡ [] }
+    ensures kept { result ≡ false → (cursor.new ≡ cursor.old) × (line.new ≡ line.old) }
+{
+    if is_of_locks {
+        lock_line(cursor, line)
+    } else {
+        keyfile_line(cursor, line)
+    }
+}
+
+/// That of a keyfile.
+fn keyfile_line<'a>(cursor: &mut Cursor<'a>, line: &mut ToldLine<'a>) -> bool
     ensures told { IsTrue result → (answer : Answer) × (keyfile_answers cursor.old ≡ answer ∷ keyfile_answers cursor.new) × IsTold answer line.new }
     ensures counted { IsTrue result → cursor.old.line < 18446744073709551615 → cursor.new.line ≡ cursor.old.line + 1 }
     ensures none { result ≡ false → keyfile_answers cursor.old ≡ [] }
@@ -26,9 +46,8 @@ pub extern "C" fn dconfdb_keyfile_line<'a>(cursor: &mut Cursor<'a>, line: &mut T
     }
 }
 
-/// The same of a lock file.
-#[unsafe(no_mangle)]
-pub extern "C" fn dconfdb_lock_line<'a>(cursor: &mut Cursor<'a>, line: &mut ToldLine<'a>) -> bool
+/// That of a lock file.
+fn lock_line<'a>(cursor: &mut Cursor<'a>, line: &mut ToldLine<'a>) -> bool
     ensures told { IsTrue result → (answer : Answer) × (lock_answers cursor.old ≡ answer ∷ lock_answers cursor.new) × IsTold answer line.new }
     ensures counted { IsTrue result → cursor.old.line < 18446744073709551615 → cursor.new.line ≡ cursor.old.line + 1 }
     ensures none { result ≡ false → lock_answers cursor.old ≡ [] }

@@ -5,6 +5,7 @@
 #![tactic(auto)]
 
 mod change;
+mod changed;
 mod children;
 mod due;
 mod entry;

@@ -135,20 +135,18 @@ pub extern "C" fn dconfdb_meets(one: &[u8], other: &[u8]) -> bool
 }
 
 /// What a text is as a path, however long it is: 0 a key's, 1 a directory's, 2 it doesn't start with `/`, 3 it has a zero byte, 4 it has
-/// `//`. `short` says whether it is no longer than a path may be.
+/// `//`. The same, where `is_relative`, of what follows the slash of a directory, and 5 if it starts with `/`. `short` says whether it is no
+/// longer than a path may be.
 #[unsafe(no_mangle)]
-pub extern "C" fn dconfdb_path_kind(text: &[u8], short: &mut bool) -> u32
-    ensures kind { result ≡ kind_number (kind_of text.now) }
+pub extern "C" fn dconfdb_path_kind(text: &[u8], is_relative: bool, short: &mut bool) -> u32
+    ensures kind { is_relative ≡ false → result ≡ kind_number (kind_of text.now) }
+    ensures relative { is_relative ≡ true → result ≡ kind_number (kind_below text.now) }
     ensures short { short.new ≡ is_short text.now }
 {
     *short = is_short(text);
-    number_of_kind(kind_of(text))
-}
-
-/// What a text is as what follows the slash of a directory: the same numbers, and 5 if it starts with `/`.
-#[unsafe(no_mangle)]
-pub extern "C" fn dconfdb_relative_kind(text: &[u8]) -> u32
-    ensures { result ≡ kind_number (kind_below text.now) }
-{
-    number_of_kind(kind_below(text))
+    if is_relative {
+        number_of_kind(kind_below(text))
+    } else {
+        number_of_kind(kind_of(text))
+    }
 }
