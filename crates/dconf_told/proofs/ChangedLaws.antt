@@ -1,6 +1,6 @@
 -- Whether anything is otherwise than before, by the keys that are listed and by the locks; and what is told is a change.
 use Rattle.std.specs.Prelude.{◌==◌, Contains, filter, map, string_bytes}
-use Rattle.std.proofs.Common.{Decides, ◌≡◌, ◌≢◌, ◌≤◌, ◌⊎◌, ◌∙◌, ◌&&◌, ◌||◌, ◌++◌, ℕ, Bool, true, false, cond, List, [], ◌∷◌, drop, length, not, ap, sym, refl, subst, inl, inr}
+use Rattle.std.proofs.Common.{Decides, ◌≡◌, ◌≢◌, ◌≤◌, ◌⊎◌, ◌∙◌, ◌&&◌, ◌||◌, ◌++◌, ℕ, Bool, true, false, cond, List, [], ◌∷◌, drop, length, not, suc, arith, ap, sym, refl, subst, inl, inr}
 use lib.Pointwise.{pointwise}
 use Rattle.std.specs.FinMap.{keys}
 use Rattle.std.specs.List.{list_any}
@@ -26,7 +26,7 @@ use Rattle.dconf_layers.proofs.PathTests.{any_passing}
 use Rattle.dconf_differences.specs.Differing.{AreDiffering, Differs, first_keys, with_first}
 use Rattle.dconf_seen.specs.Waiting.{may_write}
 use Rattle.dconf_seen.proofs.CoveringLaws.{locked_is_covered}
-use Rattle.dconf_told.specs.Changed.{HasOtherLocks, IsChanged, OfItselfNothingDiffers, SomeKeyDiffers, WhatIsToldIsAChange, is_to_remember, remembers, users_alone}
+use Rattle.dconf_told.specs.Changed.{HasOtherLocks, OfItselfNothingDiffers, SomeKeyDiffers, TellsOfChange, TellsOfKeys, WhatIsToldIsAChange, is_to_remember, remembers, users_alone}
 use Rattle.dconf_told.specs.Files.{are_other_files, has_same_fault, is_other_file}
 use Rattle.dconf_told.specs.Relocking.{have_same, locks_in}
 use Rattle.dconf_told.specs.Telling.{after_first, before_in}
@@ -65,7 +65,8 @@ is_listed l m asked paths p d has other =
     (any_passing p d.test asked ∙ both_true (d.test p) (list_any (bytes_eq p) asked) ((d.tells p).1 other) (find_text p asked has))))
 
 abbrev is_empty : List (List ℕ) → Bool
-is_empty paths = length paths == 0
+is_empty [] = true
+is_empty (p ∷ ps) = false
 
 one_of : (paths : List (List ℕ)) → not (is_empty paths) ≡ true → (p : List ℕ) × Contains paths p
 one_of [] e = absurd (no_truth e)
@@ -79,10 +80,10 @@ not_empty (q ∷ ps) p has = refl
 pub all_tell : (l m : Layers) (n : ℕ) (paths : List (List ℕ)) → length l.layers ≤ n → length m.layers ≤ n →
     AreDiffering l m (first_keys n l ++ first_keys n m) paths → Decides (not (is_empty paths)) (SomeKeyDiffers l m)
 all_tell l m n paths first second d = (
-    λ e. let w = one_of paths e in
-    let is = of_differing l m (first_keys n l ++ first_keys n m) paths w.0 d w.1 in
-    (w.0, subst (λ (ps : List (List ℕ)). Contains ps w.0) all is.0, is.1),
-    λ w. not_empty paths w.0 (is_listed l m (first_keys n l ++ first_keys n m) paths w.0 d (subst (λ (ps : List (List ℕ)). Contains ps w.0) (sym all) w.1) w.2),
+  λ e. let w = one_of paths e in
+      let is = of_differing l m (first_keys n l ++ first_keys n m) paths w.0 d w.1 in
+      (w.0, subst (λ (ps : List (List ℕ)). Contains ps w.0) all is.0, is.1),
+  λ w. not_empty paths w.0 (is_listed l m (first_keys n l ++ first_keys n m) paths w.0 d (subst (λ (ps : List (List ℕ)). Contains ps w.0) (sym all) w.1) w.2),
 )
   where
     all : first_keys n l ++ first_keys n m ≡ all_paths l.layers ++ all_paths m.layers
@@ -117,32 +118,37 @@ module _ (w : Bool) (s : Settings) (m : Layers) where
 
   pub first_tells : (paths : List (List ℕ)) → AreDiffering m (with_first m s) (first_keys 1 m ++ keys s.values) paths → Decides (not (is_empty paths)) (SomeKeyDiffers before m)
   first_tells paths d = (
-      λ e. let o = one_of paths e in
-      let other = turned o.0 (of_differing m (with_first m s) (first_keys 1 m ++ keys s.values) paths o.0 d o.1).1 in
-      (o.0, there_before o.0 other, other),
-      λ o. let other = turned_back o.0 o.2 in
-      not_empty paths o.0 (is_listed m (with_first m s) (first_keys 1 m ++ keys s.values) paths o.0 d (is_asked o.0 other) other),
+    λ e. let o = one_of paths e in
+        let other = turned o.0 (of_differing m (with_first m s) (first_keys 1 m ++ keys s.values) paths o.0 d o.1).1 in
+        (o.0, there_before o.0 other, other),
+    λ o. let other = turned_back o.0 o.2 in
+        not_empty paths o.0 (is_listed m (with_first m s) (first_keys 1 m ++ keys s.values) paths o.0 d (is_asked o.0 other) other),
   )
+
+positive : (n : ℕ) → (suc n == 0) ≡ false
+positive n = by_bool (suc n == 0) ((suc n == 0) ≡ false) (λ yes. let e = (Decides-eqb (suc n) 0).0 yes in absurd (omega (arith, e))) (λ other. other)
 
 -- by the texts that are listed
 listed : (items : List (String Global)) (is : Bool) → is ≡ (length items == 0) → not is ≡ not (is_empty (map string_bytes items))
 listed [] is e = ap not e
-listed (x ∷ xs) is e = ap not e
+listed (x ∷ xs) is e = ap not (e ∙ positive (length xs))
 
 pub all_listed : (l m : Layers) (n : ℕ) (items : List (String Global)) (is : Bool) → length l.layers ≤ n → length m.layers ≤ n →
-    AreDiffering l m (first_keys n l ++ first_keys n m) (map string_bytes items) → is ≡ (length items == 0) → Decides (not is) (SomeKeyDiffers l m)
-all_listed l m n items is first second d e = Decides-at (not is) (not (is_empty (map string_bytes items))) (listed items is e) (all_tell l m n (map string_bytes items) first second d)
+    AreDiffering l m (first_keys n l ++ first_keys n m) (map string_bytes items) → is ≡ (length items == 0) → TellsOfKeys (not is) l m
+all_listed l m n items is first second d e =
+    record { says = Decides-at (not is) (not (is_empty (map string_bytes items))) (listed items is e) (all_tell l m n (map string_bytes items) first second d) }
 
 pub first_listed : (w : Bool) (s : Settings) (m : Layers) (items : List (String Global)) (is : Bool) →
-    AreDiffering m (with_first m s) (first_keys 1 m ++ keys s.values) (map string_bytes items) → is ≡ (length items == 0) → Decides (not is) (SomeKeyDiffers (after_first w s m) m)
-first_listed w s m items is d e = Decides-at (not is) (not (is_empty (map string_bytes items))) (listed items is e) (first_tells w s m (map string_bytes items) d)
+    AreDiffering m (with_first m s) (first_keys 1 m ++ keys s.values) (map string_bytes items) → is ≡ (length items == 0) → TellsOfKeys (not is) (after_first w s m) m
+first_listed w s m items is d e =
+    record { says = Decides-at (not is) (not (is_empty (map string_bytes items))) (listed items is e) (first_tells w s m (map string_bytes items) d) }
 
 -- ---- the locks
 
 pub same_locks : (same : Bool) (l m : Layers) → have_same same l.layers ≡ true → Decides false (HasOtherLocks (before_in same l m) m)
 same_locks same l m has = (
-    λ e. absurd (no_truth e),
-    λ other. absurd (other (ap locks_in (others_before same l m ∙ ap (λ b. cond b (drop 1 m.layers) (drop 1 l.layers)) has))),
+  λ e. absurd (no_truth e),
+  λ other. absurd (other (ap locks_in (others_before same l m ∙ ap (λ b. cond b (drop 1 m.layers) (drop 1 l.layers)) has))),
 )
 
 pub other_locks : (same : Bool) (l m : Layers) (one two : List (List ℕ)) (is : Bool) → have_same same l.layers ≡ false →
@@ -154,11 +160,11 @@ other_locks same l m one two is has first second d =
 -- ---- all together
 
 pub changed_is : (same : Bool) (l m : Layers) (fs gs : List DconfdbFileSeen) (is w f k d : Bool) → is ≡ (w || (f || (k || d))) → Decides w (l.writable ≢ m.writable) →
-    f ≡ are_other_files fs gs → Decides k (HasOtherLocks (before_in same l m) m) → Decides d (SomeKeyDiffers (before_in same l m) m) → Decides is (IsChanged (before_in same l m) m fs gs)
+    f ≡ are_other_files fs gs → Decides k (HasOtherLocks (before_in same l m) m) → TellsOfKeys d (before_in same l m) m → TellsOfChange is (before_in same l m) m fs gs
 changed_is same l m fs gs is w f k d e dw df dk dd =
     let writer : Decides w ((before_in same l m).writable ≢ m.writable) = subst (λ (b : Bool). Decides w (b ≢ m.writable)) (sym (before_writable same l m)) dw in
     let files : Decides f (are_other_files fs gs ≡ true) = (λ t. sym df ∙ t, λ t. df ∙ t) in
-    Decides-at is (w || (f || (k || d))) e (Decides-or w (f || (k || d)) writer (Decides-or f (k || d) files (Decides-or k d dk dd)))
+    record { says = Decides-at is (w || (f || (k || d))) e (Decides-or w (f || (k || d)) writer (Decides-or f (k || d) files (Decides-or k d dk dd.says))) }
 
 -- ---- what is told is a change
 

@@ -1,5 +1,5 @@
 -- What a program is told after a look at the files, and what is remembered of what others changed between two looks.
-use Rattle.std.specs.Prelude.{◌≡◌, ◌≢◌, ◌⊎◌, ◌++◌, ◌&&◌, ℕ, Bool, List, [], Contains, drop, false, not, take, true}
+use Rattle.std.specs.Prelude.{◌≡◌, ◌≢◌, ◌⊎◌, ◌↔◌, ◌++◌, ◌&&◌, ℕ, IsTrue, Bool, List, [], Contains, drop, false, not, take, true}
 use Rattle.dconf_model.specs.Layers.{Layers, all_paths, visible}
 use Rattle.dconf_model.specs.Paths.{starts_with_slash}
 use Rattle.dconf_differences.specs.Differing.{AreDiffering, Differs, first_keys}
@@ -14,12 +14,20 @@ use Rattle.dconf_told.specs.declared.files.DconfdbFileSeen.{DconfdbFileSeen}
 abbrev pub SomeKeyDiffers : Layers → Layers → Type 0
 SomeKeyDiffers l m = (path : List ℕ) × Contains (all_paths l.layers ++ all_paths m.layers) path × Differs l m path
 
+-- it is said whether there is one
+pub record TellsOfKeys (is : Bool) (l m : Layers) : Type 0 where
+  pub says : IsTrue is ↔ SomeKeyDiffers l m
+
 abbrev pub HasOtherLocks : Layers → Layers → Type 0
 HasOtherLocks l m = locks_in (drop 1 l.layers) ≢ locks_in (drop 1 m.layers)
 
 -- Nobody could write and somebody can, or the other way round; or a file is another one; or other locks count; or a key is seen otherwise.
 abbrev pub IsChanged : Layers → Layers → List DconfdbFileSeen → List DconfdbFileSeen → Type 0
 IsChanged l m fs gs = (l.writable ≢ m.writable) ⊎ ((are_other_files fs gs ≡ true) ⊎ (HasOtherLocks l m ⊎ SomeKeyDiffers l m))
+
+-- it is said whether anything is
+pub record TellsOfChange (is : Bool) (l m : Layers) (fs gs : List DconfdbFileSeen) : Type 0 where
+  pub says : IsTrue is ↔ IsChanged l m fs gs
 
 -- whoever is told of a value, or of whether a path may be written, is told of a change
 abbrev pub WhatIsToldIsAChange : Type 0

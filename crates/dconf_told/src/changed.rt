@@ -1,7 +1,7 @@
 //! Whether anything is otherwise than before, and what is remembered of what others changed between two looks.
 ghost use Rattle.std.specs.Prelude.{◌≡◌, ◌≢◌, ◌↔◌, ◌||◌, ℕ, IfOk, IsTrue, List, map, string_bytes};
 ghost use Rattle.dconf_layers.specs.LayerSettings.{seen_in, settings_of};
-ghost use Rattle.dconf_told.specs.Changed.{AreRemembered, HasOtherLocks, IsChanged, SomeKeyDiffers, is_to_remember, users_alone};
+ghost use Rattle.dconf_told.specs.Changed.{AreRemembered, HasOtherLocks, TellsOfChange, TellsOfKeys, is_to_remember, users_alone};
 ghost use Rattle.dconf_told.specs.Telling.{after_first, before_in, ended};
 
 use crate::files::{DconfdbFileSeen, are_other_files};
@@ -25,7 +25,7 @@ pub fn is_changed<'a>(
     files_before: &[DconfdbFileSeen],
     files_after: &[DconfdbFileSeen],
 ) -> Result<bool, AllocError>
-    ensures { IfOk result (λ is. IsTrue is ↔ IsChanged (before_in same_others (seen_in before.entry) (seen_in after.entry)) (seen_in after.entry) files_before.now files_after.now) }
+    ensures { IfOk result (λ is. TellsOfChange is (before_in same_others (seen_in before.entry) (seen_in after.entry)) (seen_in after.entry) files_before.now files_after.now) }
 {
     let writer = is_other(before.writable, after.writable);
     let files = are_other_files(files_before, files_after);
@@ -81,7 +81,7 @@ fn some_key_differs<'a>(
     after: LentLayers<'a, '_>,
     same_others: bool,
 ) -> Result<bool, AllocError>
-    ensures { IfOk result (λ is. IsTrue is ↔ SomeKeyDiffers (before_in same_others (seen_in before.entry) (seen_in after.entry)) (seen_in after.entry)) }
+    ensures { IfOk result (λ is. TellsOfKeys is (before_in same_others (seen_in before.entry) (seen_in after.entry)) (seen_in after.entry)) }
 {
     if !same_others {
         return differs_in_all(alloc, before, after);
@@ -98,7 +98,7 @@ fn differs_in_all(
     before: LentLayers<'_, '_>,
     after: LentLayers<'_, '_>,
 ) -> Result<bool, AllocError>
-    ensures { IfOk result (λ is. IsTrue is ↔ SomeKeyDiffers (seen_in before.entry) (seen_in after.entry)) }
+    ensures { IfOk result (λ is. TellsOfKeys is (seen_in before.entry) (seen_in after.entry)) }
 {
     let count = most_layers(before, after);
     let paths = differing(alloc, before, after, count)?;
@@ -112,7 +112,7 @@ fn differs_in_first<'a>(
     was_writable: bool,
     after: LentLayers<'a, '_>,
 ) -> Result<bool, AllocError>
-    ensures { IfOk result (λ is. IsTrue is ↔ SomeKeyDiffers (after_first was_writable (settings_of first.entry) (seen_in after.entry)) (seen_in after.entry)) }
+    ensures { IfOk result (λ is. TellsOfKeys is (after_first was_writable (settings_of first.entry) (seen_in after.entry)) (seen_in after.entry)) }
 {
     let paths = differing_first(alloc, after, first)?;
     Ok(!paths.as_slice().is_empty())

@@ -1,6 +1,6 @@
 //! Whether anything is otherwise than before, and what is remembered of what others changed.
 ghost use Rattle.std.specs.Prelude.{◌≡◌, ◌≢◌, ℕ, IsTrue, List};
-ghost use Rattle.dconf_told.specs.Changed.{AreRemembered, IsChanged};
+ghost use Rattle.dconf_told.specs.Changed.{AreRemembered, TellsOfChange};
 ghost use Rattle.dconf_told.specs.Telling.{before_in};
 ghost use Rattle.dconfdb_calls.specs.Given.{HandsOut};
 ghost use Rattle.dconfdb_calls.specs.Listed.{ended};
@@ -25,10 +25,8 @@ pub extern "C" fn dconfdb_is_changed(
     files_after: &[DconfdbFileSeen],
     is: &mut bool,
 ) -> u32
-    ensures changed { result ≡ 0 → IsTrue is.new → IsChanged (before_in same_others (layers_of before.now was_writable) (layers_of after.now is_writable))
+    ensures done { result ≡ 0 → TellsOfChange is.new (before_in same_others (layers_of before.now was_writable) (layers_of after.now is_writable))
         (layers_of after.now is_writable) files_before.now files_after.now }
-    ensures whole { result ≡ 0 → IsChanged (before_in same_others (layers_of before.now was_writable) (layers_of after.now is_writable))
-        (layers_of after.now is_writable) files_before.now files_after.now → IsTrue is.new }
     ensures refused { result ≢ 0 → (result ≡ 1) × IsTrue is.new }
 {
     let before = LentLayers::new(was_writable, before);

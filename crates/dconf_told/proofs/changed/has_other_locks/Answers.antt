@@ -5,7 +5,7 @@ use Rattle.dconf_told.proofs.ChangedLaws.{other_locks, same_locks}
 use Rattle.dconf_told.proofs.changed.has_other_locks.Goals as goal
 
 pub returns-then-have_same : goal.returns-then-have_same
-returns-then-have_same t c = same_locks c.args.same_others (seen_in c.args.before) (seen_in c.args.after) (sym c.have_same.ensures ∙ c.if-have_same.true)
+returns-then-have_same c = same_locks c.args.same_others (seen_in c.args.before) (seen_in c.args.after) (sym c.have_same.ensures ∙ c.if-have_same.true)
 
 pub returns : goal.returns
 returns c =
