@@ -223,13 +223,11 @@ size_t dconfdb_put_children(const uint8_t *type_text, size_t type_text_len, cons
 
 /* Opens a layer of a file's bytes, or an empty one if there is no file (is_there false: the
  * bytes are not looked at). Else SHORT to BAD_TABLE, or UNSOUND with what is broken, which is all
- * zeros of the others; the layer is as it was. It asks each rule of each item. */
-uint32_t dconfdb_open(const uint8_t *file, size_t len, bool is_there, DconfdbLayer *layer, DconfdbUnsound *unsound);
-
-/* The same, of a file that replaced the one of `old`, which may be any layer: what is as in that isn't
- * asked anew. */
-uint32_t dconfdb_open_after(const DconfdbLayer *old, const uint8_t *file, size_t len, bool is_there, DconfdbLayer *layer,
-                            DconfdbUnsound *unsound);
+ * zeros of the others; the layer is as it was. `old` is the layer of the file that this one replaced, or any other: what is as in that isn't
+ * asked anew. Where its file was mapped, and may have been written over (`was_mapped`), or it is an empty one, each rule is asked of each
+ * item. */
+uint32_t dconfdb_open(const DconfdbLayer *old, bool was_mapped, const uint8_t *file, size_t len, bool is_there, DconfdbLayer *layer,
+                      DconfdbUnsound *unsound);
 
 /* The value that is seen at a key's path through layers, the first first. False, and `found` as it
  * was, where nothing is seen and where the text is no key's path. */
@@ -239,8 +237,9 @@ bool dconfdb_read(const DconfdbLayer *layers, size_t n, const uint8_t *path, siz
 bool dconfdb_read_default(const DconfdbLayer *layers, size_t n, bool writable, const uint8_t *path, size_t path_len,
                           DconfdbFound *found);
 
-/* The value that one layer has, whatever is locked: of the first, the user's own. `origin` is 0. */
-bool dconfdb_read_alone(const DconfdbLayer *layer, const uint8_t *path, size_t path_len, DconfdbFound *found);
+/* The value that one layer has, whatever is locked: of the first, the user's own. There is none if it isn't the user's (`is_users` false).
+ * `origin` is 0. */
+bool dconfdb_read_alone(const DconfdbLayer *layer, bool is_users, const uint8_t *path, size_t path_len, DconfdbFound *found);
 
 /* Whether a layer from the second on locks the key. */
 bool dconfdb_is_locked(const DconfdbLayer *layers, size_t n, const uint8_t *path, size_t path_len);
@@ -248,34 +247,48 @@ bool dconfdb_is_locked(const DconfdbLayer *layers, size_t n, const uint8_t *path
 /* Whether the first layer is the user's (`writable`), and the key is not locked. */
 bool dconfdb_is_writable(const DconfdbLayer *layers, size_t n, bool writable, const uint8_t *path, size_t path_len);
 
-/* What a directory has in any layer: names in the order of their bytes, a zero byte after each; a
- * directory's ends in '/'. `len` is how many bytes there are; where they are more than the room,
- * nothing is put into it. MEMORY or BAD_PATH, and then nothing is written. */
-uint32_t dconfdb_list(const DconfdbLayer *layers, size_t n, const uint8_t *directory, size_t directory_len, uint8_t *room,
-                      size_t room_len, size_t *len);
+/* What is listed of a directory. */
+enum {
+    DCONFDB_LIST_NAMES, /* of what it has in any layer; a directory's ends in '/' */
+    DCONFDB_LIST_OWN,   /* the same of the first layer alone, if it is the user's; else there are none */
+    DCONFDB_LIST_PATHS, /* of the keys below it that any layer has. Each item of the layers is named once, and nothing is searched for */
+    DCONFDB_LIST_LOCKS  /* the paths of the locks that start with it, of keys and of directories, of the layers after the first */
+};
 
-/* The paths of the keys below a directory that any layer has, in the same form. It names each item of the layers once, and
- * searches for nothing. */
-uint32_t dconfdb_paths_below(const DconfdbLayer *layers, size_t n, const uint8_t *directory, size_t directory_len, uint8_t *room,
-                             size_t room_len, size_t *len);
-
-/* The paths of the locks that start with a directory, of keys and of directories, of the layers
- * after the first, in the same form. */
-uint32_t dconfdb_locks(const DconfdbLayer *layers, size_t n, const uint8_t *directory, size_t directory_len, uint8_t *room,
-                       size_t room_len, size_t *len);
+/* They come in the order of their bytes, a zero byte after each. `len` is how many bytes there are; where they are more than the room,
+ * nothing is put into it. `writable`: the first layer is the user's. MEMORY or BAD_PATH, and then nothing is written. */
+uint32_t dconfdb_list(const DconfdbLayer *layers, size_t n, bool writable, const uint8_t *directory, size_t directory_len, uint32_t what,
+                      uint8_t *room, size_t room_len, size_t *len);
 
 /* The paths of the keys that are seen otherwise through other layers: another value is seen, or one
  * where none was, or a key is locked in one alone. A value in other bytes is the same one. Asked are
- * the keys of the first `count` layers of each: where those after the first are the same, its keys
- * are enough. They come in the same form. MEMORY. Locks of what no layer has: compare
- * dconfdb_locks. */
-uint32_t dconfdb_differs(const DconfdbLayer *layers, size_t n, const DconfdbLayer *other, size_t other_n, size_t count,
-                         uint8_t *room, size_t room_len, size_t *len);
+ * the keys of the first `count` layers of each. Where `same_others`, the other layers are these, but that `first` is the first of them, and
+ * asked are its keys and those of the first of these. They come in the same form. MEMORY. Locks of what no layer has: compare the lists of
+ * locks. */
+uint32_t dconfdb_differs(const DconfdbLayer *layers, size_t n, const DconfdbLayer *other, size_t other_n, size_t count, bool same_others,
+                         const DconfdbLayer *first, uint8_t *room, size_t room_len, size_t *len);
 
-/* The paths of the keys that would be seen otherwise if the first layer were this one: as dconfdb_differs
- * gives them, of the keys of the first layer and of this one. */
-uint32_t dconfdb_differs_first(const DconfdbLayer *layers, size_t n, const DconfdbLayer *first, uint8_t *room, size_t room_len,
-                               size_t *len);
+/* What is known of a database's file, and of what was made of it. */
+typedef struct {
+    size_t part; /* which part was made of it: of one that was read anew another one */
+    uint64_t device, inode;
+    size_t line; /* the fault that it has; zeros where it has none */
+    uint32_t code, errnum;
+    bool is_mapped;
+} DconfdbFileSeen;
+
+/* Whether anything is otherwise than before: somebody could write and nobody can, or the other way round; a file has another fault, or
+ * is mapped and was written over in its place; other locks count; or a key is seen otherwise. `same_others` is as for dconfdb_told. MEMORY,
+ * and then it is. */
+uint32_t dconfdb_is_changed(const DconfdbLayer *before, size_t before_n, const DconfdbLayer *after, size_t after_n, bool was_writable,
+                            bool is_writable, bool same_others, const DconfdbFileSeen *files_before, size_t files_before_n,
+                            const DconfdbFileSeen *files_after, size_t files_after_n, bool *is);
+
+/* The paths of the keys that are remembered of what others changed between two looks: those of which the user's file has another value, or
+ * has one on one side alone. Where the first layer isn't the user's on both sides, or who left the file noted what it changed, that is
+ * none. They come in the same form. MEMORY, and then nothing is written. */
+uint32_t dconfdb_remembered(const DconfdbLayer *before, size_t before_n, const DconfdbLayer *after, size_t after_n, bool was_writable,
+                            bool is_writable, bool is_noted, uint8_t *room, size_t room_len, size_t *len);
 
 /* What a file counts as that isn't sound. */
 enum {
@@ -307,14 +320,13 @@ uint32_t dconfdb_fate_text(size_t keys, size_t locks, bool is_first, bool is_asi
 
 /* The databases that a profile's text names, 64 at most. `names` is how many; where they are more
  * than the room, nothing is put into it. MEMORY, NOT_TEXT, or BAD_LINE to TOO_MANY with the line,
- * counted from 1; of the others it is 0. */
-uint32_t dconfdb_profile(const uint8_t *text, size_t len, DconfdbName *room, size_t room_len, size_t *names, size_t *line);
-
-/* The same where bad lines are passed over: those that dconfdb_profile would refuse after the databases
+ * counted from 1; of the others it is 0.
+ *
+ * Where `is_lenient`, bad lines are passed over: those that would be refused after the databases
  * so far, and those that are not UTF-8. `fault` is the number of the first one's, NOT_TEXT to TOO_MANY, and
  * `line` is its line; both are 0 where no line is bad. MEMORY, and then nothing is written. */
-uint32_t dconfdb_profile_lines(const uint8_t *text, size_t len, DconfdbName *room, size_t room_len, size_t *names, uint32_t *fault,
-                               size_t *line);
+uint32_t dconfdb_profile(const uint8_t *text, size_t len, bool is_lenient, DconfdbName *room, size_t room_len, size_t *names, uint32_t *fault,
+                         size_t *line);
 
 /* ---- where a store is, which profile it has, and which file a line of that means */
 
@@ -340,18 +352,13 @@ enum {
 /* What has to be asked to know a path: nothing; the current folder; the home that the system has for the user. Or there is none. */
 enum { DCONFDB_ASK_NOTHING, DCONFDB_ASK_CURRENT, DCONFDB_ASK_HOME, DCONFDB_ASK_NO_MORE };
 
-/* The path of the store's folder: what has to be asked to know it, and, by that (`base`), the path. False: there is none, and nothing is
- * written. */
-uint32_t dconfdb_folder_base(const DconfdbEnvironment *environment, uint32_t giver, const uint8_t *folder, size_t folder_len);
-bool dconfdb_folder(const DconfdbEnvironment *environment, uint32_t giver, const uint8_t *folder, size_t folder_len, const uint8_t *base,
-                    size_t base_len, DconfdbPath *path);
+/* The path of the store's folder, or of the profile that the environment names (`is_profile`): what has to be asked to know it, and, by that
+ * (`base`), the path. A folder that a program gives has its own profile. False: there is none, and nothing is written. */
+uint32_t dconfdb_place_base(const DconfdbEnvironment *environment, uint32_t giver, const uint8_t *folder, size_t folder_len, bool is_profile);
+bool dconfdb_place(const DconfdbEnvironment *environment, uint32_t giver, const uint8_t *folder, size_t folder_len, bool is_profile,
+                   const uint8_t *base, size_t base_len, DconfdbPath *path);
 
-/* The same of the profile that the environment names. A folder that a program gives has its own. */
-uint32_t dconfdb_named_profile_base(const DconfdbEnvironment *environment, uint32_t giver, const uint8_t *folder, size_t folder_len);
-bool dconfdb_named_profile(const DconfdbEnvironment *environment, uint32_t giver, const uint8_t *folder, size_t folder_len,
-                           const uint8_t *base, size_t base_len, DconfdbPath *path);
-
-/* Which profile counts: the first is looked at, and after each look comes a step. */
+/* Which profile counts: after each look comes a step, and before the first one. */
 enum {
     DCONFDB_PROFILE_NAMED, /* look at the one that is named */
     DCONFDB_PROFILE_OWN,   /* .. that in the store's folder */
@@ -359,33 +366,36 @@ enum {
     DCONFDB_PROFILE_USERS,  /* the line `user-db:user` counts */
     DCONFDB_PROFILE_COUNTS, /* the one that was looked at does */
     DCONFDB_PROFILE_NO_DATABASE,
-    DCONFDB_PROFILE_REFUSED
+    DCONFDB_PROFILE_REFUSED,
+    DCONFDB_PROFILE_BEGINS /* none was looked at */
 };
 
-/* What a look found. */
+/* A look at one, and what is known of it. */
+typedef struct {
+    uint32_t which;
+    bool is_named;             /* one is named */
+    bool fails, is_own;        /* reading it failed, by a fault of its own */
+    bool is_there;
+    bool is_lenient, has_kept; /* of whoever opens the store; which has kept a fault of a profile */
+} DconfdbProfileLook;
+
+/* As what it is told why that one isn't the profile. */
 enum {
-    DCONFDB_FOUND_THERE,
-    DCONFDB_FOUND_MISSING,
-    DCONFDB_FOUND_UNREADABLE, /* by its own fault */
-    DCONFDB_FOUND_UNKNOWN
+    DCONFDB_TELLING_NOTHING,
+    DCONFDB_TELLING_REFUSES, /* as why the store can't be opened */
+    DCONFDB_TELLING_KEPT     /* the store keeps it */
 };
 
-uint32_t dconfdb_profile_first(bool is_named);
-uint32_t dconfdb_profile_step(uint32_t which, uint32_t found, bool is_lenient);
-
-/* Whether it is told why that one isn't the profile. */
-bool dconfdb_profile_is_told(uint32_t which, uint32_t found);
+uint32_t dconfdb_profile_step(const DconfdbProfileLook *look, uint32_t *telling);
 
 /* The path of its file, by that of the store's folder, and that of the one that is named. */
 void dconfdb_profile_path(uint32_t which, const uint8_t *folder, size_t folder_len, const uint8_t *named, size_t named_len,
                           DconfdbPath *path);
 
-/* Whether the databases of the system that a profile of this path names are beside it, and not in the store's folder. */
-bool dconfdb_is_beside(const uint8_t *profile, size_t profile_len, bool is_given);
-
-/* The path of a database's file, by the path of the store's folder; kind and name are those of a DconfdbName. */
-void dconfdb_database_path(const uint8_t *folder, size_t folder_len, bool is_beside, uint32_t kind, const uint8_t *name,
-                           size_t name_len, DconfdbPath *path);
+/* The path of a database's file, by those of the store's folder and of the profile: the databases of the system may be beside that. `is_given`:
+ * the folder is given. Kind and name are those of a DconfdbName. */
+void dconfdb_database_path(const uint8_t *folder, size_t folder_len, const uint8_t *profile, size_t profile_len, bool is_given,
+                           uint32_t kind, const uint8_t *name, size_t name_len, DconfdbPath *path);
 
 /* Whether the first of a profile's databases is the user's, which can be changed. */
 bool dconfdb_has_users(const DconfdbName *names, size_t n);
@@ -640,6 +650,29 @@ enum {
 
 /* By a turn's outcome and its first fault. `before`: a change before this one may not be on the disk. */
 void dconfdb_ending(uint32_t outcome, uint32_t fault, bool before, DconfdbEnding *ending);
+
+/* Whether what the user's file is, is on the disk: what is asked of it, in this order, and what is known then. */
+enum {
+    DCONFDB_SETTLING_BEGINS,
+    DCONFDB_SETTLING_NOTES,  /* did who left the file note that it is there? */
+    DCONFDB_SETTLING_SETTLE, /* bring it there; is that done? */
+    DCONFDB_SETTLING_LOOK,   /* is it the same file still? */
+    DCONFDB_SETTLING_KNOWN,  /* over: it is there, and that is known from now on */
+    DCONFDB_SETTLING_DONE,   /* over: all was done that is to be done */
+    DCONFDB_SETTLING_FAILED  /* over: nobody knows that it is there */
+};
+
+/* What is known. */
+typedef struct {
+    bool has_file;    /* a database is the user's */
+    bool is_known;    /* that its file is on the disk */
+    bool is_unsynced; /* nothing is brought to the disk by this store */
+    bool is_in_turn;  /* nobody else changes the file meanwhile */
+    bool asks_only;   /* nothing is to be brought there now */
+} DconfdbSettling;
+
+/* The task that is due after that one, by its answer; of the first any will do. */
+uint32_t dconfdb_settling_after(uint32_t task, bool yes, const DconfdbSettling *known);
 
 /* Calls to which a fault may be another thing than that the change failed. */
 enum {

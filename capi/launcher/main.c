@@ -43,7 +43,7 @@ static Program *proved_program(void)
     const DconfdbBytes nothing = DCONFDB_NOTHING;
     if (!environment.counts)
         forget_environment();
-    return dconfdb_folder_base(&environment, DCONFDB_GIVEN_BY_NOBODY, nothing.at, nothing.len) == DCONFDB_ASK_HOME ? &homeless : &proved;
+    return dconfdb_place_base(&environment, DCONFDB_GIVEN_BY_NOBODY, nothing.at, nothing.len, false) == DCONFDB_ASK_HOME ? &homeless : &proved;
 }
 
 int main(int count, char **words)

@@ -67,6 +67,7 @@ enum { PART_OF_PATH = 4 };
 enum { WATCHED_NAME = 20 };
 
 extern uint8_t file[]; /* a database */
+const void *empty_layer(void);
 
 void finds_database(void);
 void finds_turns(void);

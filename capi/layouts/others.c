@@ -10,6 +10,10 @@ uint32_t dconfdb_told(const void *before, size_t before_n, const void *after, si
 uint32_t dconfdb_leave_out(const void *notes, size_t n, const void *seen, size_t seen_n, const void *edits, size_t count, uint64_t now, bool *room,
                            size_t room_len, size_t *len);
 uint32_t dconfdb_note_seen(const void *notes, size_t n, const void *seen, size_t seen_n, uint64_t now, void *room, size_t room_len, size_t *len);
+uint32_t dconfdb_settling_after(uint32_t task, bool yes, const void *known);
+uint32_t dconfdb_is_changed(const void *before, size_t before_n, const void *after, size_t after_n, bool was_writable, bool is_writable,
+                            bool same_others, const void *files_before, size_t files_before_n, const void *files_after, size_t files_after_n,
+                            bool *is);
 void dconfdb_ending(uint32_t outcome, uint32_t fault, bool before, void *ending);
 
 /* ---- two times, of which the second is asked for */
@@ -178,8 +182,69 @@ static void tries_key(void)
     printf("TAKES(DconfdbKeyAsked, %d);\n", KEY);
 }
 
+/* ---- whether the user's file is on the disk, of which each field in turn changes what is asked next */
+
+enum { HAS_FILE, IS_KNOWN, IS_UNSYNCED, IS_IN_TURN, ASKS_ONLY, SETTLING };
+
+/* Whether that comes after a task that was answered so, where there is a file, and that is known, too. */
+static bool comes(uint32_t next, uint32_t task, bool yes, size_t known)
+{
+    uint8_t settling[SETTLING] = {1};
+    settling[known] = 1;
+    return dconfdb_settling_after(task, yes, settling) == next;
+}
+
+static void tries_settling(void)
+{
+    const uint8_t nothing[SETTLING] = {0};
+    bool are = dconfdb_settling_after(0, true, nothing) == 4 && comes(1, 0, true, HAS_FILE) && comes(4, 0, true, IS_KNOWN);
+    are = are && comes(2, 1, false, HAS_FILE) && comes(6, 1, false, ASKS_ONLY);
+    are = are && comes(3, 2, true, HAS_FILE) && comes(5, 2, true, IS_UNSYNCED) && comes(4, 2, true, IS_IN_TURN);
+    is_so(are, "DconfdbSettling");
+    lies("DconfdbSettling", "has_file", HAS_FILE, FLAG);
+    lies("DconfdbSettling", "is_known", IS_KNOWN, FLAG);
+    lies("DconfdbSettling", "is_unsynced", IS_UNSYNCED, FLAG);
+    lies("DconfdbSettling", "is_in_turn", IS_IN_TURN, FLAG);
+    lies("DconfdbSettling", "asks_only", ASKS_ONLY, FLAG);
+    printf("TAKES(DconfdbSettling, %d);\n", SETTLING);
+}
+
+/* ---- a file before a look and after it, the second of two, of which one is mapped */
+
+enum { FILE_PART = 0, DEVICE = 8, INODE = 16, FAULT_LINE = 24, FAULT_CODE = 32, ERRNUM = 36, IS_MAPPED = 40, FILE_SEEN = 48 };
+
+/* Whether anything is otherwise where the file has another number there after the look. */
+static bool differs_at(size_t at, bool is_mapped, bool is_new)
+{
+    _Alignas(16) uint8_t before[2 * FILE_SEEN] = {0}, after[2 * FILE_SEEN] = {0};
+    bool is = false;
+    before[FILE_SEEN + IS_MAPPED] = is_mapped;
+    after[FILE_SEEN + FILE_PART] = is_new;
+    after[FILE_SEEN + at] = at == IS_MAPPED ? 1 : 2;
+    is_so(dconfdb_is_changed(file, 0, file, 0, false, false, false, before, 2, after, 2, &is) == 0, "dconfdb_is_changed");
+    return is;
+}
+
+static void tries_file_seen(void)
+{
+    bool are = differs_at(FAULT_LINE, false, false) && differs_at(FAULT_CODE, false, false) && differs_at(ERRNUM, false, false);
+    are = are && differs_at(FILE_PART, true, false) && !differs_at(FILE_PART, false, false);
+    are = are && !differs_at(DEVICE, true, true) && !differs_at(INODE, true, true) && differs_at(IS_MAPPED, true, true);
+    is_so(are, "DconfdbFileSeen");
+    lies("DconfdbFileSeen", "part", FILE_PART, WORD);
+    lies("DconfdbFileSeen", "device", DEVICE, WORD);
+    lies("DconfdbFileSeen", "inode", INODE, WORD);
+    lies("DconfdbFileSeen", "line", FAULT_LINE, WORD);
+    lies("DconfdbFileSeen", "code", FAULT_CODE, NUMBER);
+    lies("DconfdbFileSeen", "errnum", ERRNUM, NUMBER);
+    lies("DconfdbFileSeen", "is_mapped", IS_MAPPED, FLAG);
+    printf("TAKES(DconfdbFileSeen, %d);\n", FILE_SEEN);
+}
+
 void finds_others(void)
 {
+    tries_settling();
+    tries_file_seen();
     tries_times();
     tries_asked();
     tries_seen();

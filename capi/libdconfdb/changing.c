@@ -142,6 +142,16 @@ bool change_is_well(DconfdbStore *store, Asking *asking, DconfdbError *error)
     return make(&it, false) == DCONFDB_MAKING_NOTHING;
 }
 
+/* Whether a part's file is on the disk, as far as this store knows, and who left it noted. */
+static bool is_synced(const Changing *it, const Part *own)
+{
+    const DconfdbSettling known = {.has_file = true, .is_known = own->is_settled, .is_in_turn = true, .asks_only = true};
+    uint32_t task = dconfdb_settling_after(DCONFDB_SETTLING_BEGINS, true, &known);
+    if (task == DCONFDB_SETTLING_NOTES)
+        task = dconfdb_settling_after(task, order_is_synced(it->order, it->edited->store->own_name, &own->state), &known);
+    return task == DCONFDB_SETTLING_KNOWN;
+}
+
 /* What others are to know of it. Where it can't be told, nothing is. */
 int changing_note(Changing *it)
 {
@@ -153,8 +163,7 @@ int changing_note(Changing *it)
     const Part *own = now->parts[0];
     if (ending.is_there && !asking_note(asking, now, it->order))
         return 0;
-    bool is_synced = own->is_settled || order_is_synced(it->order, store->own_name, &own->state);
-    order_write(it->order, it->edited->lock->file, store->own_name, &own->state, is_synced);
+    order_write(it->order, it->edited->lock->file, store->own_name, &own->state, is_synced(it, own));
     store_forget_seen(store);
     if (ending.is_there && asking->count > 0)
         store->noted = asking->asked[asking->count - 1].when;

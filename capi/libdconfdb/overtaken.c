@@ -77,36 +77,29 @@ static FileState left_of(const DconfdbStore *store, const FileState *file)
     return left;
 }
 
-/* What differs between two files, or NULL. One that went has nothing of what it had. */
-static Seen *what_differs(const DconfdbStore *store, const DconfdbSnapshot *before, const DconfdbSnapshot *after)
+/* Whether both have the same part: of itself nothing is remembered, as is proved. */
+static bool have_same_part(const DconfdbSnapshot *before, const DconfdbSnapshot *after)
 {
-    bool are_users = before->is_writable && after->is_writable && before->count > 0 && after->count > 0;
-    if (!are_users || before->parts[0] == after->parts[0])
-        return NULL;
-    Seen *seen = malloc(sizeof *seen);
-    char *paths = snapshot_own_differences(after, before);
-    if (!seen || !paths) {
-        free(seen);
-        free(paths);
-        return NULL;
-    }
-    *seen = (Seen){NULL, left_of(store, &after->parts[0]->state), paths};
-    return seen;
+    return before->count > 0 && after->count > 0 && before->parts[0] == after->parts[0];
 }
 
-static void heed(DconfdbStore *store, const DconfdbSnapshot *before, const DconfdbSnapshot *after)
+/* Without memory nothing is remembered. */
+static void heed(DconfdbStore *store, const DconfdbSnapshot *before, const DconfdbSnapshot *after, bool is_noted)
 {
-    Seen *seen = what_differs(store, before, after);
-    if (seen) {
-        seen->next = store->seen;
-        store->seen = seen;
+    char *paths = have_same_part(before, after) ? NULL : snapshot_remembered(before, after, is_noted);
+    Seen *seen = paths && *paths ? malloc(sizeof *seen) : NULL;
+    if (!seen) {
+        free(paths);
+        return;
     }
+    *seen = (Seen){store->seen, left_of(store, &after->parts[0]->state), paths};
+    store->seen = seen;
 }
 
 void heed_others(DconfdbStore *store, const DconfdbSnapshot *before, const DconfdbSnapshot *after)
 {
     pthread_mutex_lock(&store->refreshing);
-    heed(store, before, after);
+    heed(store, before, after, false);
     pthread_mutex_unlock(&store->refreshing);
 }
 
@@ -179,12 +172,12 @@ static bool note_others(const DconfdbStore *store, Asking *asking, Order *order)
     return order_note_seen(order, asking->seen, asking->seen_count);
 }
 
-/* Looks at the files. Where who left the user's file noted what it changed, that needs no list. */
+/* Looks at the files, and heeds what others changed. */
 static bool refresh_and_heed(DconfdbStore *store, const DconfdbSnapshot *before, int turn, const Order *order, DconfdbError *error)
 {
     bool done = store_refresh(store, turn, error);
-    if (done && !order_has_left(order, store->own_name, &store->now->parts[0]->state))
-        heed(store, before, store->now);
+    if (done)
+        heed(store, before, store->now, order_has_left(order, store->own_name, &store->now->parts[0]->state));
     return done;
 }
 

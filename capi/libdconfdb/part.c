@@ -56,6 +56,8 @@ bool part_blame(Part *part, const DconfdbError *fault, DconfdbError *error)
     return true;
 }
 
+static const DconfdbLayer no_layer = DCONFDB_EMPTY_LAYER;
+
 /* Reads what can be read of a file that is no sound database, instead of its bytes. Where nothing can the layer stays empty. */
 static bool part_mend(Part *part, const DconfdbError *fault, DconfdbError *error)
 {
@@ -66,7 +68,7 @@ static bool part_mend(Part *part, const DconfdbError *fault, DconfdbError *error
         return refuse_memory(error);
     file_release(&part->bytes);
     part->bytes = mended;
-    uint32_t number = mended.at ? dconfdb_open(mended.at, mended.len, true, &part->layer, &broken) : DCONFDB_OK;
+    uint32_t number = mended.at ? dconfdb_open(&no_layer, false, mended.at, mended.len, true, &part->layer, &broken) : DCONFDB_OK;
     if (number != DCONFDB_OK)
         return refuse_call(error, number, part->name, nowhere);
     if (saved.standing == DCONFDB_MENDED_WHOLE)
@@ -80,15 +82,13 @@ static bool part_mend(Part *part, const DconfdbError *fault, DconfdbError *error
 /* Opens what a file holds that is there instead of the old part's. The bytes are the part's, or are freed. */
 Part *part_open(const Asked *asked, FileState state, FileBytes bytes, const Part *old, DconfdbError *error)
 {
-    static const DconfdbLayer empty = DCONFDB_EMPTY_LAYER;
     DconfdbError fault;
     DconfdbUnsound broken = {0, 0, false};
     Part *part = part_new(asked->name, state, bytes, error);
     if (!part)
         return NULL;
-    /* What is mapped may have been written over, and then it is what it was no longer. */
-    const DconfdbLayer *like = old && !old->bytes.is_mapped ? &old->layer : &empty;
-    uint32_t number = dconfdb_open_after(like, bytes_of(bytes.at), bytes.len, state.is_there, &part->layer, &broken);
+    uint32_t number = dconfdb_open(old ? &old->layer : &no_layer, old && old->bytes.is_mapped, bytes_of(bytes.at), bytes.len, state.is_there,
+                                   &part->layer, &broken);
     if (number == DCONFDB_OK)
         return part;
     refuse_database(asked->is_lenient ? &fault : error, number, asked->name, &broken, (Place){.database = asked->index});

@@ -61,12 +61,13 @@ static int ask(uint32_t what, char **answer)
 
 /* ---- the paths */
 
-/* Of the folder, or of the profile. */
-typedef bool Path(const DconfdbEnvironment *environment, uint32_t giver, const uint8_t *folder, size_t folder_len, const uint8_t *base,
-                  size_t base_len, DconfdbPath *path);
+static uint32_t base_of(const Asked *asked, bool is_profile)
+{
+    return dconfdb_place_base(&asked->environment, asked->giver, asked->folder.at, asked->folder.len, is_profile);
+}
 
-/* Gives the path, or NULL if there is none; and 0, or errno. */
-static int find_path(const Asked *asked, uint32_t what, Path *path_of, char **text)
+/* Gives the path of the folder, or of the profile, or NULL if there is none; and 0, or errno. */
+static int find_path(const Asked *asked, uint32_t what, bool is_profile, char **text)
 {
     DconfdbPath path = DCONFDB_NO_PATH;
     char *answer;
@@ -74,7 +75,7 @@ static int find_path(const Asked *asked, uint32_t what, Path *path_of, char **te
     if (fault != 0)
         return fault;
     DconfdbBytes base = text_bytes(answer ? answer : "");
-    bool is = path_of(&asked->environment, asked->giver, asked->folder.at, asked->folder.len, base.at, base.len, &path);
+    bool is = dconfdb_place(&asked->environment, asked->giver, asked->folder.at, asked->folder.len, is_profile, base.at, base.len, &path);
     *text = is ? path_text(&path) : NULL;
     free(answer);
     return is && !*text ? ENOMEM : 0;
@@ -90,16 +91,15 @@ static bool refuse_folder(DconfdbError *error, int fault, const char *of)
 
 static bool find_folder(const Asked *asked, StorePlace *place, DconfdbError *error)
 {
-    uint32_t what = dconfdb_folder_base(&asked->environment, asked->giver, asked->folder.at, asked->folder.len);
+    uint32_t what = base_of(asked, false);
     const char *of = what == DCONFDB_ASK_HOME ? "the user's home" : "the folder of $DCONFDB_STORE";
-    int fault = find_path(asked, what, dconfdb_folder, &place->folder);
+    int fault = find_path(asked, what, false, &place->folder);
     return place->folder || refuse_folder(error, fault, place->is_given ? (const char *)asked->folder.at : of);
 }
 
 static bool find_profile(const Asked *asked, StorePlace *place, DconfdbError *error)
 {
-    uint32_t what = dconfdb_named_profile_base(&asked->environment, asked->giver, asked->folder.at, asked->folder.len);
-    int fault = find_path(asked, what, dconfdb_named_profile, &place->profile);
+    int fault = find_path(asked, base_of(asked, true), true, &place->profile);
     return fault == 0 || refuse_file(error, fault, "the profile of $DCONFDB_PROFILE", nowhere);
 }
 

@@ -24,11 +24,12 @@ static DconfdbError *profile_fault_of(DconfdbStore *store)
 
 /* ---- the databases of a profile */
 
-/* The file of a line, by the store's folder; or NULL. */
-static char *file_of(const char *folder, bool is_beside, const DconfdbName *database)
+/* The file of a line of a profile; or NULL. */
+static char *file_of(const StorePlace *place, const char *profile, const DconfdbName *database)
 {
     DconfdbPath path = DCONFDB_NO_PATH;
-    dconfdb_database_path((const uint8_t *)folder, strlen(folder), is_beside, database->kind, database->name.at, database->name.len, &path);
+    const DconfdbBytes folder = text_bytes(place->folder), of = text_bytes(profile);
+    dconfdb_database_path(folder.at, folder.len, of.at, of.len, place->is_given, database->kind, database->name.at, database->name.len, &path);
     return path_text(&path);
 }
 
@@ -36,10 +37,10 @@ static char *file_of(const char *folder, bool is_beside, const DconfdbName *data
  * lines are passed over. */
 static uint32_t read_all_names(const uint8_t *text, size_t len, DconfdbName *names, size_t *count, size_t *line)
 {
-    uint32_t fault = DCONFDB_OK, number = dconfdb_profile(text, len, names, MOST_DATABASES, count, line);
+    uint32_t fault = DCONFDB_OK, number = dconfdb_profile(text, len, false, names, MOST_DATABASES, count, &fault, line);
     if (number != DCONFDB_NOT_TEXT)
         return number;
-    number = dconfdb_profile_lines(text, len, names, MOST_DATABASES, count, &fault, line);
+    number = dconfdb_profile(text, len, true, names, MOST_DATABASES, count, &fault, line);
     return number == DCONFDB_OK ? fault : number;
 }
 
@@ -51,7 +52,7 @@ static uint32_t read_names(DconfdbStore *store, const char *profile, const uint8
     uint32_t fault = DCONFDB_OK;
     if (!store->options.is_lenient)
         return read_all_names(text, len, names, count, line);
-    uint32_t number = dconfdb_profile_lines(text, len, names, MOST_DATABASES, count, &fault, line);
+    uint32_t number = dconfdb_profile(text, len, true, names, MOST_DATABASES, count, &fault, line);
     if (number == DCONFDB_OK && fault != DCONFDB_OK)
         refuse_call(profile_fault_of(store), fault, profile, (Place){.line = *line});
     return number;
@@ -66,9 +67,8 @@ static bool name_files(DconfdbStore *store, const char *profile, const uint8_t *
     uint32_t number = read_names(store, profile, text, len, names, &count, &line);
     if (number != DCONFDB_OK)
         return refuse_call(error, number, profile, (Place){.line = line});
-    bool is_beside = dconfdb_is_beside((const uint8_t *)profile, strlen(profile), store->place.is_given);
     for (; store->count < count; store->count++) {
-        store->files[store->count] = file_of(store->place.folder, is_beside, &names[store->count]);
+        store->files[store->count] = file_of(&store->place, profile, &names[store->count]);
         if (!store->files[store->count])
             return refuse_memory(error);
     }
@@ -104,27 +104,40 @@ static void look_release(Look *look)
     look->path = NULL;
 }
 
-static uint32_t found_of(int fault, const FileState *state)
+/* The one that is looked at first. */
+static uint32_t first_of(const StorePlace *place)
 {
-    if (fault == 0)
-        return state->is_there ? DCONFDB_FOUND_THERE : DCONFDB_FOUND_MISSING;
-    return is_files_own(fault) ? DCONFDB_FOUND_UNREADABLE : DCONFDB_FOUND_UNKNOWN;
+    const DconfdbProfileLook none = {.which = DCONFDB_PROFILE_BEGINS, .is_named = place->profile != NULL};
+    uint32_t telling;
+    return dconfdb_profile_step(&none, &telling);
+}
+
+/* What comes after a look at one, which is told as the call says. */
+static uint32_t step_after(DconfdbStore *store, const Look *look, int fault, const FileState *state, DconfdbError *error)
+{
+    const DconfdbProfileLook known = {.which = look->step,
+                                      .is_named = store->place.profile != NULL,
+                                      .fails = fault != 0,
+                                      .is_own = fault != 0 && is_files_own(fault),
+                                      .is_there = fault == 0 && state->is_there,
+                                      .is_lenient = store->options.is_lenient,
+                                      .has_kept = store->profile_fault.code != DCONFDB_ERROR_NONE};
+    uint32_t telling = DCONFDB_TELLING_NOTHING, step = dconfdb_profile_step(&known, &telling);
+    if (telling != DCONFDB_TELLING_NOTHING)
+        refuse_file(telling == DCONFDB_TELLING_REFUSES ? error : &store->profile_fault, fault != 0 ? fault : ENOENT, look->path, nowhere);
+    return step;
 }
 
 /* Looks at the one that comes next. False: no memory is left. */
 static bool look_at_next(DconfdbStore *store, Look *look, DconfdbError *error)
 {
     FileState state;
-    uint32_t which = look->step;
     look_release(look);
-    look->path = path_of(&store->place, which);
+    look->path = path_of(&store->place, look->step);
     if (!look->path)
         return refuse_memory(error);
     int fault = file_read(NO_FOLDER, look->path, false, NULL, LARGEST_PROFILE, &look->text, &state);
-    uint32_t found = found_of(fault, &state);
-    look->step = dconfdb_profile_step(which, found, store->options.is_lenient);
-    if (dconfdb_profile_is_told(which, found))
-        refuse_file(look->step == DCONFDB_PROFILE_REFUSED ? error : profile_fault_of(store), fault != 0 ? fault : ENOENT, look->path, nowhere);
+    look->step = step_after(store, look, fault, &state, error);
     return true;
 }
 
@@ -147,7 +160,7 @@ static bool take_profile(DconfdbStore *store, const Look *look, DconfdbError *er
 
 bool store_find_files(DconfdbStore *store, DconfdbError *error)
 {
-    Look look = {dconfdb_profile_first(store->place.profile != NULL), NULL, {NULL, 0, false}};
+    Look look = {first_of(&store->place), NULL, {NULL, 0, false}};
     bool done = true;
     while (done && look.step <= DCONFDB_PROFILE_EVERYONES)
         done = look_at_next(store, &look, error);
@@ -182,7 +195,7 @@ static char *with_files(const DconfdbStore *store, const char *first, const char
 /* The profile that is looked at first, that of all users, and the databases; or NULL. */
 char *store_file_names(const DconfdbStore *store, size_t *size)
 {
-    char *first = path_of(&store->place, dconfdb_profile_first(store->place.profile != NULL));
+    char *first = path_of(&store->place, first_of(&store->place));
     char *everyones = path_of(&store->place, DCONFDB_PROFILE_EVERYONES);
     char *names = first && everyones ? with_files(store, first, everyones, size) : NULL;
     free(first);

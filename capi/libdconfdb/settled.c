@@ -34,15 +34,30 @@ static bool is_noted_settled(DconfdbStore *store, const Part *own)
     return is;
 }
 
-bool settle_store(DconfdbStore *store, DconfdbError *error)
+/* Carries out a task, and gives its answer. */
+static bool carry_out(DconfdbStore *store, Part *own, uint32_t task, DconfdbError *error)
 {
     FileState state;
+    switch (task) {
+    case DCONFDB_SETTLING_NOTES:
+        return is_noted_settled(store, own);
+    case DCONFDB_SETTLING_SETTLE:
+        return store_settle_own(store, part_is_readable(own) ? store->own_name : NULL, error);
+    default:
+        return file_look(store->user_file, &state) == 0 && part_sameness(own, &state) == DCONFDB_FILE_SAME;
+    }
+}
+
+bool settle_store(DconfdbStore *store, DconfdbError *error)
+{
     pthread_mutex_lock(&store->refreshing);
     Part *own = store->user_file ? store->now->parts[0] : NULL;
-    bool is_known = !own || own->is_settled || is_noted_settled(store, own);
-    bool done = is_known || store_settle_own(store, part_is_readable(own) ? store->own_name : NULL, error);
-    if (own && done)
-        own->is_settled = is_known || (!store->options.is_unsynced && file_look(store->user_file, &state) == 0 && part_sameness(own, &state) == DCONFDB_FILE_SAME);
+    const DconfdbSettling known = {.has_file = own != NULL, .is_known = own && own->is_settled, .is_unsynced = store->options.is_unsynced};
+    uint32_t task = dconfdb_settling_after(DCONFDB_SETTLING_BEGINS, true, &known);
+    while (task < DCONFDB_SETTLING_KNOWN)
+        task = dconfdb_settling_after(task, carry_out(store, own, task, error), &known);
+    if (own)
+        own->is_settled = task == DCONFDB_SETTLING_KNOWN;
     pthread_mutex_unlock(&store->refreshing);
-    return done;
+    return task != DCONFDB_SETTLING_FAILED;
 }

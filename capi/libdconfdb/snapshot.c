@@ -156,7 +156,7 @@ bool dconfdb_snapshot_read_default(const DconfdbSnapshot *snapshot, const char *
 bool dconfdb_snapshot_read_user(const DconfdbSnapshot *snapshot, const char *path, DconfdbValue *value)
 {
     DconfdbFound *found = room_in(value);
-    return snapshot->is_writable && dconfdb_read_alone(&snapshot->layers[0], bytes_of(path), strlen(path), found);
+    return dconfdb_read_alone(snapshot->layers, snapshot->is_writable, bytes_of(path), strlen(path), found);
 }
 
 bool dconfdb_snapshot_is_locked(const DconfdbSnapshot *snapshot, const char *path)
@@ -171,24 +171,29 @@ bool dconfdb_snapshot_is_writable(const DconfdbSnapshot *snapshot, const char *p
 
 /* ---- what is listed */
 
+static uint32_t lists_as(const DconfdbSnapshot *snapshot, const void *directory, uint32_t what, uint8_t *room, size_t room_len, size_t *len)
+{
+    return dconfdb_list(snapshot->layers, snapshot->count, snapshot->is_writable, directory, strlen(directory), what, room, room_len, len);
+}
+
 static uint32_t lists_names(const DconfdbSnapshot *snapshot, const void *of, uint8_t *room, size_t room_len, size_t *len)
 {
-    return dconfdb_list(snapshot->layers, snapshot->count, of, strlen(of), room, room_len, len);
+    return lists_as(snapshot, of, DCONFDB_LIST_NAMES, room, room_len, len);
 }
 
 static uint32_t lists_users_names(const DconfdbSnapshot *snapshot, const void *of, uint8_t *room, size_t room_len, size_t *len)
 {
-    return dconfdb_list(snapshot->layers, snapshot->is_writable ? 1 : 0, of, strlen(of), room, room_len, len);
+    return lists_as(snapshot, of, DCONFDB_LIST_OWN, room, room_len, len);
 }
 
 static uint32_t lists_locks(const DconfdbSnapshot *snapshot, const void *of, uint8_t *room, size_t room_len, size_t *len)
 {
-    return dconfdb_locks(snapshot->layers, snapshot->count, of, strlen(of), room, room_len, len);
+    return lists_as(snapshot, of, DCONFDB_LIST_LOCKS, room, room_len, len);
 }
 
 static uint32_t lists_paths(const DconfdbSnapshot *snapshot, const void *of, uint8_t *room, size_t room_len, size_t *len)
 {
-    return dconfdb_paths_below(snapshot->layers, snapshot->count, of, strlen(of), room, room_len, len);
+    return lists_as(snapshot, of, DCONFDB_LIST_PATHS, room, room_len, len);
 }
 
 /* Calls with a room of so many bytes, and else with one that is enough. */

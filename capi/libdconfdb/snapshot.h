@@ -37,8 +37,8 @@ char *snapshot_listed_in(size_t len, Lists *lists, const DconfdbSnapshot *snapsh
 
 /* ---- two of them */
 
-/* The paths of what the first databases have otherwise, whatever the others say; or NULL. */
-char *snapshot_own_differences(const DconfdbSnapshot *snapshot, const DconfdbSnapshot *other);
+/* The paths that are remembered of what others changed, or NULL: no memory is left. `is_noted`: who left the file noted what it changed. */
+char *snapshot_remembered(const DconfdbSnapshot *before, const DconfdbSnapshot *after, bool is_noted);
 
 /* Whether a key is seen otherwise, or may be set or not, or a file can be read or not. */
 bool snapshot_is_news(const DconfdbSnapshot *before, const DconfdbSnapshot *after);

@@ -61,9 +61,16 @@ static int remove_new(Changing *it)
 static int settle(Changing *it)
 {
     Part *old = it->old;
-    bool is_known = old->is_settled || order_is_synced(it->order, it->replacing.name, &old->state);
-    int fault = is_known ? 0 : replacing_settle(&it->replacing, part_is_readable(old));
-    old->is_settled = is_known || (fault == 0 && !it->replacing.is_unsynced);
+    const DconfdbSettling known = {.has_file = true, .is_known = old->is_settled, .is_unsynced = it->replacing.is_unsynced, .is_in_turn = true};
+    uint32_t task = dconfdb_settling_after(DCONFDB_SETTLING_BEGINS, true, &known);
+    int fault = 0;
+    if (task == DCONFDB_SETTLING_NOTES)
+        task = dconfdb_settling_after(task, order_is_synced(it->order, it->replacing.name, &old->state), &known);
+    if (task == DCONFDB_SETTLING_SETTLE) {
+        fault = replacing_settle(&it->replacing, part_is_readable(old));
+        task = dconfdb_settling_after(task, fault == 0, &known);
+    }
+    old->is_settled = task == DCONFDB_SETTLING_KNOWN;
     return fault;
 }
 

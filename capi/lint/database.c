@@ -13,12 +13,12 @@ typedef uint32_t Lists(const DconfdbLayer *layers, uint8_t *room, size_t room_le
 
 static uint32_t lists_keys(const DconfdbLayer *layers, uint8_t *room, size_t room_len, size_t *len)
 {
-    return dconfdb_differs(layers + 1, 1, layers, 1, 1, room, room_len, len);
+    return dconfdb_list(layers + 1, 1, true, (const uint8_t *)"/", 1, DCONFDB_LIST_PATHS, room, room_len, len);
 }
 
 static uint32_t lists_locks(const DconfdbLayer *layers, uint8_t *room, size_t room_len, size_t *len)
 {
-    return dconfdb_locks(layers, 2, (const uint8_t *)"/", 1, room, room_len, len);
+    return dconfdb_list(layers, 2, false, (const uint8_t *)"/", 1, DCONFDB_LIST_LOCKS, room, room_len, len);
 }
 
 static char *listed(Lists *lists, const DconfdbLayer *layers)
@@ -45,7 +45,7 @@ static char *listed(Lists *lists, const DconfdbLayer *layers)
 static GVariant *value_of(const DconfdbLayer *layer, const char *path)
 {
     DconfdbFound found = {DCONFDB_NOTHING, DCONFDB_NOTHING, 0};
-    if (!dconfdb_read_alone(layer, (const uint8_t *)path, strlen(path), &found))
+    if (!dconfdb_read_alone(layer, true, (const uint8_t *)path, strlen(path), &found))
         return NULL;
     return value_of_bytes(&found.value, &found.type_text);
 }
@@ -89,9 +89,9 @@ void check_database(const Lint *lint, const char *file, FileBytes *bytes)
     FileBytes mended = {NULL, 0, false};
     Saved saved = {0, 0, DCONFDB_MENDED_WHOLE};
     Place at = {file, 0};
-    uint32_t number = dconfdb_open(bytes->at, bytes->len, true, &layers[1], &broken), opened = number;
+    uint32_t number = dconfdb_open(&layers[0], false, bytes->at, bytes->len, true, &layers[1], &broken), opened = number;
     if (number != DCONFDB_OK && repair(bytes, &mended, &saved) == DCONFDB_OK && mended.at)
-        opened = dconfdb_open(mended.at, mended.len, true, &layers[1], &nothing);
+        opened = dconfdb_open(&layers[0], false, mended.at, mended.len, true, &layers[1], &nothing);
     if (saved.standing != DCONFDB_MENDED_WHOLE)
         find_fault(at, number, &broken);
     if (opened == DCONFDB_OK)

@@ -49,11 +49,11 @@ static void try_differences(const DconfdbLayer *old, const DconfdbLayer *new, co
     static uint8_t one[ROOM], other[ROOM];
     DconfdbLayer before[] = {*old, *site}, after[] = {*new, *site};
     size_t len = 0, first = 0;
-    TRY(dconfdb_differs(after, 2, before, 2, 1, one, ROOM, &len) == DCONFDB_OK && len <= ROOM);
-    TRY(dconfdb_differs_first(after, 2, old, other, ROOM, &first) == DCONFDB_OK && first == len);
+    TRY(dconfdb_differs(after, 2, before, 2, 1, false, old, one, ROOM, &len) == DCONFDB_OK && len <= ROOM);
+    TRY(dconfdb_differs(after, 2, before, 2, 1, true, old, other, ROOM, &first) == DCONFDB_OK && first == len);
     TRY(memcmp(one, other, len) == 0);
-    TRY(dconfdb_differs(after, 0, before, 1, 1, one, ROOM, &len) == DCONFDB_OK && len <= ROOM);
-    TRY(dconfdb_differs_first(after, 0, old, other, ROOM, &first) == DCONFDB_OK && first == len);
+    TRY(dconfdb_differs(after, 0, before, 1, 1, false, old, one, ROOM, &len) == DCONFDB_OK && len <= ROOM);
+    TRY(dconfdb_differs(after, 0, before, 1, 1, true, old, other, ROOM, &first) == DCONFDB_OK && first == len);
     TRY(memcmp(one, other, len) == 0);
 }
 
@@ -61,8 +61,8 @@ static void try_one(const DconfdbLayer *old, const uint8_t *file, size_t len, co
 {
     DconfdbLayer alone = empty, after = empty;
     DconfdbUnsound broken = unbroken, told = unbroken;
-    uint32_t number = dconfdb_open(file, len, true, &alone, &broken);
-    TRY(dconfdb_open_after(old, file, len, true, &after, &told) == number);
+    uint32_t number = dconfdb_open(&empty, false, file, len, true, &alone, &broken);
+    TRY(dconfdb_open(old, false, file, len, true, &after, &told) == number);
     TRY(broken.rule == told.rule && broken.item == told.item && broken.has_item == told.has_item);
     TRY(is_same_layer(&alone, &after));
     asked++;
@@ -99,11 +99,11 @@ int main(int argc, char **argv)
     DconfdbUnsound broken = unbroken;
     TRY(argc == 2);
     File sites = read_whole(argv[1]);
-    TRY(dconfdb_open(sites.at, sites.len, true, &site, &broken) == DCONFDB_OK);
+    TRY(dconfdb_open(&empty, false, sites.at, sites.len, true, &site, &broken) == DCONFDB_OK);
     while (scanf("%4095s %4095s", name, before) == 2) {
         File file = read_whole(name), old = read_whole(before);
         DconfdbLayer layer = empty;
-        TRY(dconfdb_open(old.at, old.len, true, &layer, &broken) == DCONFDB_OK);
+        TRY(dconfdb_open(&empty, false, old.at, old.len, true, &layer, &broken) == DCONFDB_OK);
         try_one(&layer, file.at, file.len, &site);
         try_one(&empty, file.at, file.len, &site);
         if (strcmp(name, before) == 0)

@@ -86,6 +86,11 @@ uint32_t dconfdb_standing(uint32_t purpose, const DconfdbStood *stood, uint32_t 
     return standing_given(purpose, stood, fault);
 }
 
+uint32_t dconfdb_settling_after(uint32_t task, bool yes, const DconfdbSettling *known)
+{
+    return settling_given(task, yes, known);
+}
+
 uint32_t dconfdb_file_bits(bool of_lock, uint32_t bits, bool has_group)
 {
     return of_lock ? lock_bits_given(bits, has_group) : bits_given(bits, has_group);

@@ -49,9 +49,9 @@ uint64_t file_clock(void)
     return any_u64();
 }
 
-uint32_t dconfdb_open(const uint8_t *file, size_t len, bool is_trusted, DconfdbLayer *layer, DconfdbUnsound *broken)
+uint32_t dconfdb_open(const DconfdbLayer *old, bool was_mapped, const uint8_t *file, size_t len, bool is_there, DconfdbLayer *layer, DconfdbUnsound *broken)
 {
-    (void)file, (void)len, (void)is_trusted, (void)layer, (void)broken;
+    (void)old, (void)was_mapped, (void)file, (void)len, (void)is_there, (void)layer, (void)broken;
     return any_u32();
 }
 

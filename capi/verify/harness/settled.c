@@ -67,7 +67,7 @@ bool refuse_outcome(DconfdbError *error, uint32_t outcome, const char *name)
     return false;
 }
 
-/* harness settle_store: unwind 20, quick */
+/* harness settle_store: unwind 20, with machines.c, quick */
 int settle_store_(void)
 {
     static char folder[] = "/f";

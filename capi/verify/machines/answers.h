@@ -171,4 +171,21 @@ static const uint64_t wait_passed[WAIT_TIMES] = {0, 1, 2, UINT64_MAX / 1000000};
 /* After an answer that isn't given there, or beyond the bounds. */
 enum { BEYOND = 65535 };
 
+/* What is asked of whether the user's file is on the disk. */
+static inline uint32_t settling_given(uint32_t task, bool yes, const DconfdbSettling *known)
+{
+    switch (task) {
+    case DCONFDB_SETTLING_BEGINS:
+        return !known->has_file || known->is_known ? DCONFDB_SETTLING_KNOWN : DCONFDB_SETTLING_NOTES;
+    case DCONFDB_SETTLING_NOTES:
+        return yes ? DCONFDB_SETTLING_KNOWN : known->asks_only ? DCONFDB_SETTLING_FAILED : DCONFDB_SETTLING_SETTLE;
+    case DCONFDB_SETTLING_SETTLE:
+        if (!yes)
+            return DCONFDB_SETTLING_FAILED;
+        return known->is_unsynced ? DCONFDB_SETTLING_DONE : known->is_in_turn ? DCONFDB_SETTLING_KNOWN : DCONFDB_SETTLING_LOOK;
+    default:
+        return yes ? DCONFDB_SETTLING_KNOWN : DCONFDB_SETTLING_DONE;
+    }
+}
+
 #endif

@@ -442,7 +442,7 @@ static void compare_bits(void)
 {
     for (uint32_t bits = 0; bits < 65536; bits++) {
         for (int has_group = 0; has_group < 2; has_group++) {
-            if (dconfdb_file_bits(false, bits, has_group) != bits_given(bits, has_group))
+            if (dconfdb_file_bits(false, bits, has_group, false) != bits_given(bits, has_group))
                 fail("bits_for", "other bits than are given");
             if (dconfdb_file_bits(true, bits, has_group) != lock_bits_given(bits, has_group))
                 fail("lock_bits", "other bits than are given");
@@ -472,6 +472,17 @@ static void compare_standings(void)
                                          .may_stop = (i & 32) != 0, .is_named = (i & 64) != 0, .links = i % 3});
 }
 
+static void compare_settling(void)
+{
+    for (uint32_t bits = 0; bits < 128; bits++) {
+        for (uint32_t task = DCONFDB_SETTLING_BEGINS; task < DCONFDB_SETTLING_KNOWN; task++) {
+            const DconfdbSettling known = {bits & 1, bits & 2, bits & 4, bits & 8, bits & 16};
+            if (dconfdb_settling_after(task, bits & 32, &known) != settling_given(task, bits & 32, &known))
+                fail("settling_after", "another task than is given");
+        }
+    }
+}
+
 int main(void)
 {
     printf("/* Made by machines/explore of the archive of the proved calls: machines/compare says whether it is so still. */\n");
@@ -482,5 +493,6 @@ int main(void)
     print_fault_answers();
     compare_bits();
     compare_standings();
+    compare_settling();
     return 0;
 }

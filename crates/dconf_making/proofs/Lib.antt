@@ -1,2 +1,3 @@
 pub mod EndingLaws
 pub mod MakingLaws
+pub mod SettlingLaws

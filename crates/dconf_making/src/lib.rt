@@ -1,17 +1,20 @@
-//! A change around a turn: what is asked before there are bytes to write, by [`Making`]; and what its program has when it is over,
-//! by [`ending_of`].
+//! A change around a turn: what is asked before there are bytes to write, by [`Making`]; what its program has when it is over,
+//! by [`ending_of`]; and whether its file is on the disk, by [`settling_after`].
 //!
 //! Nothing is kept here. Whoever asks says what it knows, and does as it is told.
 #![tactic(auto)]
 
 ghost use Rattle.dconf_making.specs.Endings.{EndingsAreSo};
 ghost use Rattle.dconf_making.specs.Making.{NothingUnexpected};
+ghost use Rattle.dconf_making.specs.Settling.{SettledMeansOnDisk};
 
 mod ending;
 mod making;
+mod settling;
 
 pub use ending::{DconfdbEnding, Ending, Newest, Told, ending_by, ending_of};
 pub use making::{Ask, Found, Making};
+pub use settling::{Settling, SettlingKnown, number_of_settling, settling_after};
 
 /// The newest settings are those that the file holds, and no fault is told only where that is on the disk.
 pub fn endings_are_so()
@@ -21,4 +24,10 @@ pub fn endings_are_so()
 /// Nothing is written that is not as expected, or that is all left out; and what is there already only after a change that failed.
 pub fn nothing_unexpected_is_written()
     ensures { NothingUnexpected }
+{}
+
+/// It is known to be on the disk exactly if it was known or noted before, or was brought there now, and is the same file. Nobody is told that it
+/// isn't, unless it couldn't be brought there.
+pub fn settled_means_on_disk()
+    ensures { SettledMeansOnDisk }
 {}

@@ -7,10 +7,10 @@ use Rattle.dconf_places.specs.Places.Giver.{nobody, program, user}
 use Rattle.dconf_places.specs.Places.Spot.{in_root, in_current, in_home, nowhere}
 use Rattle.dconf_places.specs.declared.profile.Candidate.{Candidate}
 use Rattle.dconf_places.specs.declared.profile.Candidate.TheVariants.{Named, Own, Everyones}
-use Rattle.dconf_places.specs.declared.profile.Found.{Found}
-use Rattle.dconf_places.specs.declared.profile.Found.TheVariants.{There, Missing, Unreadable, Unknown}
 use Rattle.dconf_places.specs.declared.profile.ProfileStep.{ProfileStep}
 use Rattle.dconf_places.specs.declared.profile.ProfileStep.TheVariants.{Look, Counts, UsersAlone, NoDatabase, Refused}
+use Rattle.dconf_places.specs.declared.profile.Telling.{Telling}
+use Rattle.dconf_places.specs.declared.profile.Telling.TheVariants.{Nothing, Refuses, Kept}
 
 abbrev pub giver_numbered : ℕ → List ℕ → Giver
 giver_numbered n folder = if n == 0 then nobody else if n == 1 then program folder else user folder
@@ -29,8 +29,10 @@ candidate_number Everyones = 2
 abbrev pub candidate_numbered : ℕ → Candidate
 candidate_numbered n = if n == 0 then Named else if n == 1 then Own else Everyones
 
-abbrev pub found_numbered : ℕ → Found
-found_numbered n = if n == 0 then There else if n == 1 then Missing else if n == 2 then Unreadable else Unknown
+abbrev pub telling_number : Telling → ℕ
+telling_number Nothing = 0
+telling_number Refuses = 1
+telling_number Kept = 2
 
 abbrev pub step_number : ProfileStep → ℕ
 step_number (Look it) = candidate_number it

@@ -69,6 +69,10 @@ profile_of v nobody = profile_in v
 profile_of v (program folder) = nowhere
 profile_of v (user folder) = profile_in v
 
+-- the folder, or the profile that is named
+abbrev pub spot_for : Bool → Variables → Giver → Spot
+spot_for is_profile v giver = if is_profile then profile_of v giver else folder_of v giver
+
 -- The whole path, by the folder that it begins in. A home counts by its whole path.
 abbrev pub path_at : Spot → List ℕ → Option (List ℕ)
 path_at (in_root path) base = Some path

@@ -1,5 +1,5 @@
 -- Which profile counts, by what a look at each found.
-use Rattle.std.specs.Prelude.{ℕ, List, ◌++◌, codes, Bool, true, false, if◌then◌else◌}
+use Rattle.std.specs.Prelude.{ℕ, List, ◌++◌, codes, Bool, true, false, not, if◌then◌else◌}
 use Rattle.dconf_places.specs.Places.{everyones_profile}
 use Rattle.dconf_places.specs.declared.profile.Candidate.{Candidate}
 use Rattle.dconf_places.specs.declared.profile.Candidate.TheVariants.{Named, Own, Everyones}
@@ -7,6 +7,8 @@ use Rattle.dconf_places.specs.declared.profile.Found.{Found}
 use Rattle.dconf_places.specs.declared.profile.Found.TheVariants.{There, Missing, Unreadable, Unknown}
 use Rattle.dconf_places.specs.declared.profile.ProfileStep.{ProfileStep}
 use Rattle.dconf_places.specs.declared.profile.ProfileStep.TheVariants.{Look, Counts, UsersAlone, NoDatabase, Refused}
+use Rattle.dconf_places.specs.declared.profile.Telling.{Telling}
+use Rattle.dconf_places.specs.declared.profile.Telling.TheVariants.{Nothing, Refuses, Kept}
 
 -- its file, by the store's folder and the profile that is named
 abbrev pub candidate_path : Candidate → List ℕ → List ℕ → List ℕ
@@ -48,3 +50,21 @@ is_told it There = false
 is_told it Missing = is_named it
 is_told it Unreadable = true
 is_told it Unknown = true
+
+-- ---- how it is told
+
+-- by what the system says of the file: it fails or not, by its own fault or not
+abbrev pub found_by : Bool → Bool → Bool → Found
+found_by fails is_own is_there = if fails then (if is_own then Unreadable else Unknown) else if is_there then There else Missing
+
+-- Where the store can't be opened, that is why. Else the store keeps the first that is told.
+abbrev pub is_refused : ProfileStep → Bool
+is_refused (Look it) = false
+is_refused Counts = false
+is_refused UsersAlone = false
+is_refused NoDatabase = false
+is_refused Refused = true
+
+abbrev pub told_as : Candidate → Found → Bool → Bool → Telling
+told_as it found lenient has_kept =
+    if not (is_told it found) then Nothing else if is_refused (profile_step it found lenient) then Refuses else if has_kept then Nothing else Kept

@@ -18,7 +18,7 @@ pub use files::{
 };
 pub use location::{Environment, Given, Location};
 pub use parts::PathParts;
-pub use profile::{Candidate, Found, ProfileStep, is_told, profile_step};
+pub use profile::{Candidate, Found, ProfileStep, Telling, is_told, profile_step, told_as};
 
 /// A program that has more rights than whoever started it finds the same store and profile, whatever the variables say.
 pub fn no_variable_counts_for_more_rights()

@@ -1,7 +1,7 @@
 //! Where the folder of a store is, and the profile that is named.
 ghost use Rattle.std.specs.Prelude.{◌≡◌, option_map};
 ghost use Rattle.dconf_places.specs.Numbers.{base_number, giver_numbered};
-ghost use Rattle.dconf_places.specs.Places.{default_folder, folder_of, has_slash, path_at, profile_in, profile_of, spot_of};
+ghost use Rattle.dconf_places.specs.Places.{default_folder, folder_of, has_slash, path_at, profile_in, profile_of, spot_for, spot_of};
 ghost use Rattle.dconf_places.specs.Told.{giver_of, spot_at, text_of, variables_of};
 
 use crate::parts::PathParts;
@@ -60,6 +60,17 @@ pub enum Location<'a> {
 }
 
 impl<'a> Location<'a> {
+    /// That of a store's folder, or of the profile that is named.
+    pub fn of(environment: &Environment<'a>, given: Given<'a>, is_profile: bool) -> Location<'a>
+        ensures { spot_at result ≡ spot_for is_profile (variables_of environment.now) (giver_of given.entry) }
+    {
+        if is_profile {
+            Location::of_profile(environment, given)
+        } else {
+            Location::of_folder(environment, given)
+        }
+    }
+
     /// That of a store's folder.
     pub fn of_folder(environment: &Environment<'a>, given: Given<'a>) -> Location<'a>
         ensures { spot_at result ≡ folder_of (variables_of environment.now) (giver_of given.entry) }

@@ -1,7 +1,7 @@
 //! Which profile counts, by what a look at each found.
 ghost use Rattle.std.specs.Prelude.{◌≡◌};
-ghost use Rattle.dconf_places.specs.Numbers.{candidate_number, candidate_numbered, found_numbered, step_number};
-ghost use Rattle.dconf_places.specs.ProfileSteps.{after, candidate_path, first_candidate, if_missing, is_told, profile_step};
+ghost use Rattle.dconf_places.specs.Numbers.{candidate_number, candidate_numbered, step_number, telling_number};
+ghost use Rattle.dconf_places.specs.ProfileSteps.{after, candidate_path, first_candidate, found_by, if_missing, is_refused, is_told, profile_step, told_as};
 ghost use Rattle.dconf_places.specs.Told.{text_of};
 
 use crate::files::EVERYONES_PROFILE;
@@ -78,15 +78,15 @@ pub enum Found {
 }
 
 impl Found {
-    /// That of a number: 0 there, 1 missing, 2 unreadable, and else unknown.
-    pub fn of_number(number: u32) -> Found
-        ensures { result ≡ found_numbered number }
+    /// By what the system says of the file: reading it fails, by a fault of the file's own or by another one, or it is there or not.
+    pub fn by(fails: bool, is_own: bool, is_there: bool) -> Found
+        ensures { result ≡ found_by fails is_own is_there }
     {
-        match number {
-            0 => Found::There,
-            1 => Found::Missing,
-            2 => Found::Unreadable,
-            _ => Found::Unknown,
+        match (fails, is_own, is_there) {
+            (true, true, _) => Found::Unreadable,
+            (true, false, _) => Found::Unknown,
+            (false, _, true) => Found::There,
+            (false, _, false) => Found::Missing,
         }
     }
 }
@@ -144,6 +144,53 @@ pub fn is_told(candidate: Candidate, found: Found) -> bool
         Found::Unreadable => true,
         Found::Unknown => true,
     }
+}
+
+/// As what it is told why a profile isn't the one that counts.
+#[derive(Clone, Copy)]
+pub enum Telling {
+    /// It isn't.
+    Nothing,
+    /// As why the store can't be opened.
+    Refuses,
+    /// The store keeps it, which has kept none so far.
+    Kept,
+}
+
+impl Telling {
+    /// Its number: 0 nothing, 1 refuses, 2 kept.
+    pub fn number(self) -> u32
+        ensures { result ≡ telling_number self }
+    {
+        match self {
+            Telling::Nothing => 0,
+            Telling::Refuses => 1,
+            Telling::Kept => 2,
+        }
+    }
+}
+
+/// As what it is told: the first such fault is kept.
+pub fn told_as(candidate: Candidate, found: Found, is_lenient: bool, has_kept: bool) -> Telling
+    ensures { result ≡ told_as candidate found is_lenient has_kept }
+{
+    if !is_told(candidate, found) {
+        return Telling::Nothing;
+    }
+    if is_refused(profile_step(candidate, found, is_lenient)) {
+        return Telling::Refuses;
+    }
+    if has_kept {
+        Telling::Nothing
+    } else {
+        Telling::Kept
+    }
+}
+
+fn is_refused(step: ProfileStep) -> bool
+    ensures { result ≡ is_refused step }
+{
+    matches!(step, ProfileStep::Refused)
 }
 
 fn if_missing(candidate: Candidate, is_lenient: bool) -> ProfileStep

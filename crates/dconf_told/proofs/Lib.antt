@@ -3,3 +3,4 @@ pub mod TellingLaws
 pub mod OthersLaws
 pub mod SearchLaws
 pub mod RelockedLaws
+pub mod ChangedLaws

@@ -50,7 +50,7 @@ none_or_there (s ∷ later) p = this_or_later s later p (none_or_there later p) 
 shows_none : (l : Layers) (p : List ℕ) → NoneHas l.layers p → visible l p ≡ None
 shows_none l p n = ap (λ o. option_and_then held_value (option_map (λ p. p.1) o)) (n (level l p) (level l p))
 
-there : (l m : Layers) (p : List ℕ) → visible l p ≢ visible m p → Contains (all_paths l.layers ++ all_paths m.layers) p
+pub there : (l m : Layers) (p : List ℕ) → visible l p ≢ visible m p → Contains (all_paths l.layers ++ all_paths m.layers) p
 there l m p other = elim (none_or_there l.layers p) [
   | inr has ↦ Contains-append_left (all_paths l.layers) (all_paths m.layers) p has
   | inl n ↦ elim (none_or_there m.layers p) [

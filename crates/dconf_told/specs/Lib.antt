@@ -2,3 +2,5 @@ pub mod Types
 pub mod Seeing
 pub mod Telling
 pub mod Relocking
+pub mod Files
+pub mod Changed

@@ -208,7 +208,7 @@ impl<'a> Telling<'a, '_> {
 }
 
 /// How many layers there are, before or after, whichever are more.
-fn most_layers(before: LentLayers<'_, '_>, after: LentLayers<'_, '_>) -> usize
+pub(crate) fn most_layers(before: LentLayers<'_, '_>, after: LentLayers<'_, '_>) -> usize
     ensures before { length (seen_in before.entry).layers ≤ result }
     ensures after { length (seen_in after.entry).layers ≤ result }
 {

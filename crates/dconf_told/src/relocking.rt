@@ -37,7 +37,7 @@ pub fn relocked(
 }
 
 /// Whether the layers before but for the first count as those after: there is a first one.
-fn have_same(before: LentLayers<'_, '_>, same_others: bool) -> bool
+pub(crate) fn have_same(before: LentLayers<'_, '_>, same_others: bool) -> bool
     ensures { result ≡ have_same same_others (seen_in before.entry).layers }
 {
     same_others && !before.layers.is_empty()

@@ -5,6 +5,7 @@
 #![tactic(auto)]
 
 mod change;
+mod changed;
 mod changesets;
 mod children;
 mod due;

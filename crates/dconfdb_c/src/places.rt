@@ -1,76 +1,48 @@
 //! Where a store is, which profile it has, and which file a line of that means.
-ghost use Rattle.std.specs.Prelude.{◌≡◌, List, IsTrue, None, Some, false, map};
+ghost use Rattle.std.specs.Prelude.{◌≡◌, ◌≢◌, List, IsTrue, None, Some, false, map};
 ghost use Rattle.dconf_model.specs.Profiles.{Database, has_writable};
-ghost use Rattle.dconf_places.specs.Numbers.{base_number, candidate_number, candidate_numbered, found_numbered, giver_numbered, kind_numbered, step_number};
-ghost use Rattle.dconf_places.specs.Places.{database_path, folder_of, is_beside, path_at, profile_of};
-ghost use Rattle.dconf_places.specs.ProfileSteps.{candidate_path, first_candidate, is_told, profile_step};
+ghost use Rattle.dconf_places.specs.Numbers.{base_number, candidate_number, candidate_numbered, giver_numbered, kind_numbered, step_number, telling_number};
+ghost use Rattle.dconf_places.specs.Places.{database_path, is_beside, path_at, spot_for};
+ghost use Rattle.dconf_places.specs.ProfileSteps.{candidate_path, first_candidate, found_by, profile_step, told_as};
 ghost use Rattle.dconf_places.specs.Told.{spot_at, text_of, variables_of};
 ghost use Rattle.dconfdb_calls.specs.Named.{named, told};
 
 use dconf_places::{
-    Candidate, Environment, Found, Given, Location, PathParts, database_path, is_beside, is_told,
-    kind_of_number, profile_step,
+    Candidate, Environment, Found, Given, Location, PathParts, database_path, is_beside,
+    kind_of_number, profile_step, told_as,
 };
 use dconfdb_calls::DconfdbName;
 
-/// What has to be asked to know the path of a store's folder: 0 nothing, 1 the current folder, 2 the
-/// home that the system has for the user; 3 there is none. `giver` is 0 where nobody gives the folder, 1
-/// where a program does that calls the library, and else a user.
+/// What has to be asked to know the path of a store's folder, or of the profile that the environment names (`is_profile`): 0 nothing, 1 the
+/// current folder, 2 the home that the system has for the user; 3 there is none. `giver` is 0 where nobody gives the folder, 1 where a
+/// program does that calls the library, and else a user.
 #[unsafe(no_mangle)]
-pub extern "C" fn dconfdb_folder_base<'a>(
+pub extern "C" fn dconfdb_place_base<'a>(
     environment: &Environment<'a>,
     giver: u32,
     folder: &'a [u8],
+    is_profile: bool,
 ) -> u32
-    ensures { result ≡ base_number (folder_of (variables_of environment.now) (giver_numbered giver folder.entry.now)) }
+    ensures { result ≡ base_number (spot_for is_profile (variables_of environment.now) (giver_numbered giver folder.entry.now)) }
 {
-    Location::of_folder(environment, Given::of_number(giver, folder)).base_number()
+    Location::of(environment, Given::of_number(giver, folder), is_profile).base_number()
 }
 
 /// That path, by what was asked. Without one nothing is written.
 #[unsafe(no_mangle)]
-pub extern "C" fn dconfdb_folder<'a>(
+pub extern "C" fn dconfdb_place<'a>(
     environment: &Environment<'a>,
     giver: u32,
     folder: &'a [u8],
+    is_profile: bool,
     base: &'a [u8],
     path: &mut PathParts<'a>,
 ) -> bool
-    ensures some { IsTrue result → path_at (folder_of (variables_of environment.now) (giver_numbered giver folder.entry.now)) base.entry.now ≡ Some (text_of path.new) }
-    ensures none { result ≡ false → path_at (folder_of (variables_of environment.now) (giver_numbered giver folder.entry.now)) base.entry.now ≡ None }
+    ensures some { IsTrue result → path_at (spot_for is_profile (variables_of environment.now) (giver_numbered giver folder.entry.now)) base.entry.now ≡ Some (text_of path.new) }
+    ensures none { result ≡ false → path_at (spot_for is_profile (variables_of environment.now) (giver_numbered giver folder.entry.now)) base.entry.now ≡ None }
     ensures kept { result ≡ false → path.new ≡ path.old }
 {
-    let location = Location::of_folder(environment, Given::of_number(giver, folder));
-    put_path(location, base, path)
-}
-
-/// What has to be asked to know the path of the profile that the environment names, as
-/// `dconfdb_folder_base` has it.
-#[unsafe(no_mangle)]
-pub extern "C" fn dconfdb_named_profile_base<'a>(
-    environment: &Environment<'a>,
-    giver: u32,
-    folder: &'a [u8],
-) -> u32
-    ensures { result ≡ base_number (profile_of (variables_of environment.now) (giver_numbered giver folder.entry.now)) }
-{
-    Location::of_profile(environment, Given::of_number(giver, folder)).base_number()
-}
-
-/// That path, by what was asked. Without one nothing is written.
-#[unsafe(no_mangle)]
-pub extern "C" fn dconfdb_named_profile<'a>(
-    environment: &Environment<'a>,
-    giver: u32,
-    folder: &'a [u8],
-    base: &'a [u8],
-    path: &mut PathParts<'a>,
-) -> bool
-    ensures some { IsTrue result → path_at (profile_of (variables_of environment.now) (giver_numbered giver folder.entry.now)) base.entry.now ≡ Some (text_of path.new) }
-    ensures none { result ≡ false → path_at (profile_of (variables_of environment.now) (giver_numbered giver folder.entry.now)) base.entry.now ≡ None }
-    ensures kept { result ≡ false → path.new ≡ path.old }
-{
-    let location = Location::of_profile(environment, Given::of_number(giver, folder));
+    let location = Location::of(environment, Given::of_number(giver, folder), is_profile);
     put_path(location, base, path)
 }
 
@@ -88,15 +60,6 @@ fn put_path<'a>(location: Location<'a>, base: &'a [u8], path: &mut PathParts<'a>
     }
 }
 
-/// The profile that is looked at first: 0 the one that is named, 1 that in the store's folder; and 2 is
-/// that of all users.
-#[unsafe(no_mangle)]
-pub extern "C" fn dconfdb_profile_first(is_named: bool) -> u32
-    ensures { result ≡ candidate_number (first_candidate is_named) }
-{
-    Candidate::first(is_named).number()
-}
-
 /// The path of a profile's file, by that of the store's folder and of the one that is named.
 #[unsafe(no_mangle)]
 pub extern "C" fn dconfdb_profile_path<'a>(
@@ -110,48 +73,58 @@ pub extern "C" fn dconfdb_profile_path<'a>(
     *path = Candidate::of_number(candidate).path(folder, named);
 }
 
-/// What comes after a look at a profile, which is there (0), is missing (1), can't be read by its own fault
-/// (2), or not in this moment: a look at the one of that number; 3 the line `user-db:user` counts, 4 the
-/// one that was looked at counts, 5 the store has no database, 6 it can't be opened.
-#[unsafe(no_mangle)]
-pub extern "C" fn dconfdb_profile_step(candidate: u32, found: u32, is_lenient: bool) -> u32
-    ensures { result ≡ step_number (profile_step (candidate_numbered candidate) (found_numbered found) is_lenient) }
-{
-    profile_step(
-        Candidate::of_number(candidate),
-        Found::of_number(found),
-        is_lenient,
-    )
-    .number()
+/// What is known of a look at a profile.
+#[repr(C)]
+#[derive(Clone, Copy)]
+pub struct DconfdbProfileLook {
+    /// Which one: 0 that is named, 1 that in the store's folder, and else that of all users; 7 none was looked at.
+    pub which: u32,
+    /// One is named.
+    pub is_named: bool,
+    /// Reading it failed,
+    pub fails: bool,
+    /// by a fault of its own.
+    pub is_own: bool,
+    /// It is there.
+    pub is_there: bool,
+    /// Whoever opens the store is lenient.
+    pub is_lenient: bool,
+    /// The store has kept a fault of one.
+    pub has_kept: bool,
 }
 
-/// Whether it is told why a profile isn't the one that counts.
+/// What comes first, or after a look at a profile: a look at the one of that number; 3 the line `user-db:user` counts, 4 the one that was looked at
+/// counts, 5 the store has no database, 6 it can't be opened. `telling` is as what it is told why that one isn't the profile: 0 it isn't, 1
+/// as why the store can't be opened, 2 the store keeps it.
 #[unsafe(no_mangle)]
-pub extern "C" fn dconfdb_profile_is_told(candidate: u32, found: u32) -> bool
-    ensures { result ≡ is_told (candidate_numbered candidate) (found_numbered found) }
+pub extern "C" fn dconfdb_profile_step(look: &DconfdbProfileLook, telling: &mut u32) -> u32
+    ensures first { look.now.which ≡ 7 → result ≡ candidate_number (first_candidate look.now.is_named) }
+    ensures step { look.now.which ≢ 7 → result ≡ step_number (profile_step (candidate_numbered look.now.which) (found_by look.now.fails look.now.is_own look.now.is_there) look.now.is_lenient) }
+    ensures telling { telling.new ≡ telling_number (told_as (candidate_numbered look.now.which) (found_by look.now.fails look.now.is_own look.now.is_there) look.now.is_lenient look.now.has_kept) }
 {
-    is_told(Candidate::of_number(candidate), Found::of_number(found))
+    let candidate = Candidate::of_number(look.which);
+    let found = Found::by(look.fails, look.is_own, look.is_there);
+    *telling = told_as(candidate, found, look.is_lenient, look.has_kept).number();
+    if look.which == 7 {
+        Candidate::first(look.is_named).number()
+    } else {
+        profile_step(candidate, found, look.is_lenient).number()
+    }
 }
 
-/// Whether the databases of the system that a profile names are beside it.
-#[unsafe(no_mangle)]
-pub extern "C" fn dconfdb_is_beside(profile: &[u8], is_given: bool) -> bool
-    ensures { result ≡ is_beside profile.now is_given }
-{
-    is_beside(profile, is_given)
-}
-
-/// The path of a database's file, by that of the store's folder.
+/// The path of a database's file, by that of the store's folder and of the profile that names it. `is_given`: whoever asks gives the folder.
 #[unsafe(no_mangle)]
 pub extern "C" fn dconfdb_database_path<'a>(
     folder: &'a [u8],
-    beside: bool,
+    profile: &[u8],
+    is_given: bool,
     kind: u32,
     name: &'a [u8],
     path: &mut PathParts<'a>,
 )
-    ensures { text_of path.new ≡ database_path folder.entry.now beside (record { kind = kind_numbered kind; name = name.entry.now }) }
+    ensures { text_of path.new ≡ database_path folder.entry.now (is_beside profile.now is_given) (record { kind = kind_numbered kind; name = name.entry.now }) }
 {
+    let beside = is_beside(profile, is_given);
     *path = database_path(folder, beside, kind_of_number(kind), name);
 }
 

@@ -58,21 +58,26 @@ pub extern "C" fn dconfdb_read_default<'a>(
     }
 }
 
-/// The value that one layer has at a path, whether or not it is locked: the user's own, of the
-/// first. Its `origin` is 0. False as for `dconfdb_read`.
+/// The value that one layer has at a path, whether or not it is locked: the user's own, of the first. Where it isn't the user's
+/// (`is_users`), there is none. Its `origin` is 0. False as for `dconfdb_read`.
 #[unsafe(no_mangle)]
 pub extern "C" fn dconfdb_read_alone<'a>(
     layer: &Layer<'a>,
+    is_users: bool,
     path: &[u8],
     found: &mut DconfdbFound<'a>,
 ) -> bool
+    ensures users { IsTrue result → IsTrue is_users }
     ensures value { IsTrue result → (bytes : List ℕ) × (get (settings_of layer.now).values path.now ≡ Some bytes) × (held_value bytes ≡ Some (found_value found.new)) }
     ensures stored { IsTrue result → (bytes : List ℕ) × (get (settings_of layer.now).values path.now ≡ Some bytes) × IsHeldIn bytes found.new }
     ensures origin { IsTrue result → found.new.origin ≡ 0 }
     ensures key { IsTrue result → IsKeyText path.now }
-    ensures none { result ≡ false → IsKeyText path.now → get (settings_of layer.now).values path.now ≡ None }
+    ensures none { result ≡ false → IsTrue is_users → IsKeyText path.now → get (settings_of layer.now).values path.now ≡ None }
     ensures kept { result ≡ false → found.new ≡ found.old }
 {
+    if !is_users {
+        return false;
+    }
     match read_own(layer, path) {
         Some(own) => {
             *found = own;

@@ -136,7 +136,8 @@ pub extern "C" fn dconfdb_meets(one: &[u8], other: &[u8]) -> bool
 
 /// What a text is as a path, or, if `is_relative`, as what follows the slash of a directory, however long it is: 0 a key's, 1 a directory's,
 /// 2 it doesn't start with `/`, 3 it has a zero byte, 4 it has `//`, 5 it is relative and starts with `/`; 6 it is a directory's, where a
-/// key's is wanted (1), 7 a key's, where a directory's is wanted (2). `short` says whether it is no longer than a path may be.
+/// key's is wanted (1), 7 a key's, where a directory's is wanted (2). The same, where `is_relative`, of what follows the slash of a directory, and 5 if it starts with `/`. `short` says whether it is no
+/// longer than a path may be.
 #[unsafe(no_mangle)]
 pub extern "C" fn dconfdb_path_kind(
     text: &[u8],

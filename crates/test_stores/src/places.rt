@@ -1,8 +1,8 @@
 //! Where a store is, which profile it has, and which file a line of that means.
 use crate::questions::TableOf;
 use dconf_places::{
-    Candidate, Environment, Found, Given, Location, PathParts, database_path, is_beside, is_told,
-    kind_of_number, profile_step,
+    Candidate, Environment, Found, Given, Location, PathParts, database_path, is_beside,
+    kind_of_number, profile_step, told_as,
 };
 use std::alloc::{AllocError, Global};
 use std::fmt::Write;
@@ -83,29 +83,33 @@ const PLACED: &str = "
 2 f /s /c /h - /here | 1 /here/f; 3 none
 ";
 
-/// Where a look at a profile leads: what it is, what was found, and whether whoever looks is lenient.
+/// Where a look at a profile leads, and as what it is told: what it is, what was found (0 it is there, 1 missing, 2 it can't be read by its
+/// own fault, 3 by another one), whether whoever looks is lenient, and whether a fault is kept already.
 pub(crate) fn stepped(alloc: Global, asked: &str, found: &mut String) -> Result<(), AllocError> {
     let (which, rest) = next(asked);
-    let (what, lenient) = next(rest);
+    let (what, rest) = next(rest);
+    let (lenient, kept) = next(rest);
+    let (what, is_lenient) = (number(what), lenient == "lenient");
     let candidate = Candidate::of_number(number(which));
-    let seen = Found::of_number(number(what));
-    let step = profile_step(candidate, seen, lenient == "lenient").number();
-    write!(found, "{step} {} ", is_told(candidate, seen))?;
+    let seen = Found::by(what >= 2, what == 2, what == 0);
+    let step = profile_step(candidate, seen, is_lenient).number();
+    let told = told_as(candidate, seen, is_lenient, kept == "kept").number();
+    write!(found, "{step} {told} ")?;
     put_path(alloc, Some(candidate.path(b"/s", b"/named")), found)
 }
 
 const STEPPED: &str = "
-0 0 | 4 false /named
-0 1 | 6 true /named
-0 1 lenient | 5 true /named
-0 2 lenient | 5 true /named
-0 3 lenient | 6 true /named
-1 1 | 2 false /s/profile
-1 2 | 6 true /s/profile
-1 2 lenient | 2 true /s/profile
-2 1 | 3 false /etc/dconfdb/profile
-2 2 lenient | 3 true /etc/dconfdb/profile
-2 3 lenient | 6 true /etc/dconfdb/profile
+0 0 | 4 0 /named
+0 1 | 6 1 /named
+0 1 lenient | 5 2 /named
+0 2 lenient | 5 2 /named
+0 3 lenient kept | 6 1 /named
+1 1 | 2 0 /s/profile
+1 2 | 6 1 /s/profile
+1 2 lenient | 2 2 /s/profile
+2 1 | 3 0 /etc/dconfdb/profile
+2 2 lenient kept | 3 0 /etc/dconfdb/profile
+2 3 lenient | 6 1 /etc/dconfdb/profile
 ";
 
 /// The file of a database, by its kind, its name, and the profile, in a folder that nobody gives.

@@ -7,8 +7,8 @@ use dconf_seen::{
 };
 use dconf_texts::{PathKind, is_short, kind_at, kind_below, kind_of, number_of_kind, wanted_kind};
 use dconf_told::{
-    DconfdbKeyAsked, DconfdbView, DconfdbWaits, are_seen_alike, may_write, relocked,
-    relocked_texts, told, told_texts,
+    DconfdbFileSeen, DconfdbKeyAsked, DconfdbView, DconfdbWaits, are_seen_alike, is_changed,
+    may_write, relocked, relocked_texts, remembered, remembered_texts, told, told_texts,
 };
 use std::alloc::{AllocError, Global};
 use std::test::Fail;
@@ -119,6 +119,64 @@ fn may_be_written(alloc: Global, both: &[Layer<'_>]) -> bool {
         && may(alloc, false, both, b"/j") == Some(false)
 }
 
+/// A mapped file of which that part was made, with a fault or none (0).
+fn file(part: usize, inode: u64, code: u32) -> DconfdbFileSeen {
+    DconfdbFileSeen {
+        part,
+        device: 1,
+        inode,
+        line: 0,
+        code,
+        errnum: 0,
+        is_mapped: true,
+    }
+}
+
+/// Whether anything is otherwise, by what is seen, the files being the same ones.
+fn changes(
+    alloc: Global,
+    before: LentLayers<'_, '_>,
+    after: LentLayers<'_, '_>,
+    same: bool,
+) -> Option<bool> {
+    is_changed(alloc, before, after, same, &[], &[]).ok()
+}
+
+/// The same by the files alone.
+fn differ(alloc: Global, before: &[DconfdbFileSeen], after: &[DconfdbFileSeen]) -> Option<bool> {
+    let none = LentLayers::new(false, &[]);
+    is_changed(alloc, none, none, false, before, after).ok()
+}
+
+/// Whether each thing that is otherwise is told.
+fn are_changed(alloc: Global, own: &[Layer<'_>], both: &[Layer<'_>]) -> bool {
+    let (open, locked) = (LentLayers::new(true, own), LentLayers::new(true, both));
+    let (none, nobodys) = (LentLayers::new(true, &[]), LentLayers::new(false, own));
+    changes(alloc, open, open, false) == Some(false)
+        && changes(alloc, open, open, true) == Some(false)
+        && changes(alloc, none, open, false) == Some(true)
+        && changes(alloc, open, locked, false) == Some(true)
+        && changes(alloc, locked, open, true) == Some(false)
+        && changes(alloc, open, nobodys, true) == Some(true)
+        && differ(alloc, &[file(1, 7, 0)], &[file(1, 7, 0)]) == Some(false)
+        && differ(alloc, &[file(1, 7, 0)], &[file(2, 8, 0)]) == Some(false)
+        && differ(alloc, &[file(1, 7, 0)], &[file(2, 7, 0)]) == Some(true)
+        && differ(alloc, &[file(1, 7, 0)], &[file(2, 8, 3)]) == Some(true)
+        && differ(alloc, &[file(1, 7, 0)], &[]) == Some(true)
+}
+
+/// Whether what others changed in the user's file is remembered, and nothing else.
+fn are_remembered(alloc: Global, own: &[Layer<'_>], both: &[Layer<'_>]) -> bool {
+    let (open, none) = (LentLayers::new(true, own), LentLayers::new(true, &[]));
+    let (locked, nobodys) = (LentLayers::new(true, both), LentLayers::new(false, own));
+    are_these(remembered(alloc, none, open, false), "/k")
+        && are_these(remembered(alloc, open, none, false), "/k")
+        && are_these(remembered(alloc, none, open, true), "")
+        && are_these(remembered(alloc, none, nobodys, false), "")
+        && are_these(remembered(alloc, open, locked, false), "")
+        && are_bytes(remembered_texts(alloc, none, open, false), b"/k\0")
+}
+
 /// Whether the same is seen with such an edit as without, by who asks for a type.
 fn is_alike(alloc: Global, layers: &[Layer<'_>], edit: DconfdbWaits<'_>, of: &[u8]) -> bool {
     let view = |edit| DconfdbView {
@@ -220,6 +278,7 @@ fn who_listens_is_told(rt: HostRuntime) -> Result<(), Fail> {
     let (own, both) = ([own], [own, locks]);
     assert!(rt; are_told(alloc, &own, &both) && are_relocked(alloc, &own, &both));
     assert!(rt; may_be_written(alloc, &both) && are_seen(alloc, &own, &both));
+    assert!(rt; are_changed(alloc, &own, &both) && are_remembered(alloc, &own, &both));
     Ok(())
 }
 
