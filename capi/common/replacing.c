@@ -23,7 +23,7 @@ static int give(int file, const struct stat *made, const Replacing *it, mode_t *
     if (geteuid() == 0)
         return (made->st_uid != it->user || made->st_gid != it->group) && fchown(file, it->user, it->group) != 0 ? errno : 0;
     bool has_group = made->st_gid == it->group || fchown(file, (uid_t)-1, it->group) == 0;
-    *mode = dconfdb_file_bits(false, *mode, has_group, false);
+    *mode = dconfdb_file_bits(false, *mode, has_group);
     return 0;
 }
 
@@ -170,7 +170,7 @@ int replacing_create(Replacing *it, size_t bits)
     int fault = make_room(it->folder, it->new_name);
     if (fault != 0)
         return fault;
-    mode_t at_first = dconfdb_file_bits(false, (uint32_t)bits, it->first_group == it->group, false);
+    mode_t at_first = dconfdb_file_bits(false, (uint32_t)bits, it->first_group == it->group);
     it->file = openat(it->folder, it->new_name, O_WRONLY | O_CREAT | O_EXCL | O_CLOEXEC, at_first);
     return it->file < 0 ? errno : 0;
 }

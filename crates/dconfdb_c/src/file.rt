@@ -48,9 +48,8 @@ pub extern "C" fn dconfdb_owner_and_bits(
 /// The permission bits of a file while it has its group or another one: that is to have these once it has its own; or, of a lock's file that
 /// was just made, by those of its folder.
 #[unsafe(no_mangle)]
-pub extern "C" fn dconfdb_file_bits(of_lock: bool, bits: u32, has_group: bool, is_lock: bool) -> u32
-    ensures file { is_lock ≡ false → result ≡ (if of_lock then lock_bits bits has_group else bits_for bits has_group) }
-    ensures lock { is_lock ≡ true → result ≡ lock_bits bits has_group }
+pub extern "C" fn dconfdb_file_bits(of_lock: bool, bits: u32, has_group: bool) -> u32
+    ensures { result ≡ (if of_lock then lock_bits bits has_group else bits_for bits has_group) }
 {
     if of_lock {
         lock_bits(bits, has_group)
