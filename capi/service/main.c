@@ -96,7 +96,7 @@ static void on_no_name(GDBusConnection *bus, const char *name, gpointer data)
 {
     Service *service = data;
     (void)bus;
-    if (service->had_name) {
+    if (service->had_name || g_dbus_connection_is_closed(service->bus)) {
         begin_end(service);
         return;
     }

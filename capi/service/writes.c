@@ -224,7 +224,6 @@ static void free_run(Service *service, Run *run)
     g_mutex_lock(&service->lock);
     service->settled += run->changes.length;
     g_mutex_unlock(&service->lock);
-    g_main_context_wakeup(NULL);
     while (run->changes.length > 0)
         change_free(g_queue_pop_head_link(&run->changes)->data);
 }
