@@ -1,2 +1,0 @@
-pub mod StoreLaws
-pub mod ReadProfiles

@@ -1,4 +1,0 @@
-pub mod Stores
-pub mod Turns
-pub mod Databases
-pub mod Sayings
