@@ -1,6 +1,6 @@
 //! Changes that wait to be written: which edit of a key is the newest, what becomes of each change, and how
 //! long it is waited for.
-ghost use Rattle.std.specs.Prelude.{◌≡◌, ◌≤◌, ◌<◌, ◌+◌, ◌↔◌, IsTrue};
+ghost use Rattle.std.specs.Prelude.{◌≡◌, ◌≤◌, ◌<◌, ◌+◌, ◌↔◌, IsTrue, false, true};
 ghost use Rattle.dconf_waiting.specs.Newest.{IsPut, found};
 ghost use Rattle.dconf_waiting.specs.Fates.{edit_with, fate_number, fate_of, is_overtaken};
 ghost use Rattle.dconf_waiting.specs.Patiences.{renewed};
