@@ -5,3 +5,4 @@ pub mod LeavingLaws
 pub mod MomentLaws
 pub mod ResetLaws
 pub mod RoomLaws
+pub mod SeeingLaws

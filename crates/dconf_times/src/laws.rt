@@ -3,6 +3,7 @@ ghost use Rattle.dconf_times.specs.Leaving.{NoOlderWins};
 ghost use Rattle.dconf_times.specs.Moments.{MomentsAreTimed};
 ghost use Rattle.dconf_times.specs.Resets.{MomentsAreKept};
 ghost use Rattle.dconf_times.specs.Room.{NoneIsForgotten};
+ghost use Rattle.dconf_times.specs.Seeing.{TheLatestNoteCounts};
 ghost use Rattle.dconf_times.specs.Turns.{IsWhole, LatestStands, OneCounts};
 
 /// What stands at a key after any turns is the latest of all that was to be written there, by
@@ -38,6 +39,11 @@ pub fn moments_are_timed()
 /// Of what goes where notes are too many it is noted that it was set by then: nothing older wins.
 pub fn none_is_forgotten()
     ensures { NoneIsForgotten }
+{}
+
+/// A note says what was left at a path only while no later one is of the path, or of a directory above it.
+pub fn the_latest_note_counts()
+    ensures { TheLatestNoteCounts }
 {}
 
 /// A change that waits keeps the moment in which it was asked for, but if it has to do with a directory that is reset with it. That is reset

@@ -25,7 +25,7 @@ mod times;
 
 pub use laws::{
     a_change_is_whole, moments_are_kept, moments_are_timed, no_older_edit_wins, none_is_forgotten,
-    one_edit_counts, the_latest_stands,
+    one_edit_counts, the_latest_note_counts, the_latest_stands,
 };
 pub use leaving::{DconfdbAsked, leave_out};
 pub use moments::{time_of_file, time_of_moment};

@@ -2,7 +2,7 @@
 ghost use Rattle.std.specs.Prelude.{◌≡◌, ◌++◌, IfOk, filter, map};
 ghost use Rattle.std.specs.List.{list_any};
 ghost use Rattle.dconf_times.specs.Noted.{AreNoted};
-ghost use Rattle.dconf_times.specs.Seeing.{is_left_by, is_made_at, is_unnoted, stays_beside};
+ghost use Rattle.dconf_times.specs.Seeing.{is_later_there, is_left_by, is_made_at, is_unnoted, stays_beside};
 ghost use Rattle.dconf_times.specs.Times.{note_of};
 
 use crate::leaving::is_guess;
@@ -22,8 +22,8 @@ pub struct DconfdbSeen<'a> {
 
 /// The notes with a guess for each path that was changed without one: as [`note_times`] gives them.
 ///
-/// What a note says was left there keeps its time. The only error is a failed allocation. It compares
-/// each of `seen` with each note twice at most.
+/// What the latest note of a path says was left there keeps its time. The only error is a failed allocation. It compares
+/// each of `seen` with each note twice at most, and once more for each that says the same.
 pub fn note_seen<'a>(
     alloc: Global,
     notes: &[DconfdbTime<'a>],
@@ -97,18 +97,38 @@ impl DconfdbSeen<'_> {
 
     /// Whether a note says that this was left there.
     fn is_left(&self, notes: &[DconfdbTime<'_>]) -> bool
-        ensures { result ≡ list_any (is_left_by self.now) notes.now }
+        ensures { result ≡ list_any (is_left_by notes.now self.now) notes.now }
     {
         for note in notes {
-            if covers(note.path, self.time.path) && note.value == self.time.value {
+            if self.is_left_by(notes, note) {
                 return true;
             }
         }
         false
     }
+
+    /// Whether that note says it, and no later one is of the path, or of a directory above it.
+    fn is_left_by(&self, notes: &[DconfdbTime<'_>], note: &DconfdbTime<'_>) -> bool
+        ensures { result ≡ is_left_by notes.now self.now note.now }
+    {
+        (covers(note.path, self.time.path) && note.value == self.time.value)
+            && !note.has_later(notes, self.time.path)
+    }
 }
 
 impl DconfdbTime<'_> {
+    /// Whether a later note is of a path, or of a directory above it.
+    fn has_later(&self, notes: &[DconfdbTime<'_>], path: &[u8]) -> bool
+        ensures { result ≡ list_any (is_later_there path.now self.now) notes.now }
+    {
+        for other in notes {
+            if covers(other.path, path) && self.when < other.when {
+                return true;
+            }
+        }
+        false
+    }
+
     fn stays_beside(&self, made: &[DconfdbTime<'_>]) -> bool
         ensures { result ≡ stays_beside made.now self.now }
     {

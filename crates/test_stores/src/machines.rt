@@ -1,6 +1,6 @@
 //! The machines that C drives, as it drives them: which steps come after which answers.
 use crate::questions::TableOf;
-use crate::times::{COUNTED, KEPT, NOTED, OVERTAKEN};
+use crate::times::{COUNTED, GUESSED, KEPT, NOTED, OVERTAKEN};
 use crate::turns::TURNS;
 use dconf_steps::{NextStep, NoticeRecord, QueueRecord, QueuedEdit, RefreshRecord, WaitRecord};
 use dconf_waiting::{next_look, pause_after, sleep_until};
@@ -236,6 +236,7 @@ fn machines_go_by_their_answers(rt: HostRuntime) -> Result<(), Fail> {
         (TableOf::Overtaken, OVERTAKEN),
         (TableOf::Counted, COUNTED),
         (TableOf::Noted, NOTED),
+        (TableOf::Guessed, GUESSED),
         (TableOf::Kept, KEPT),
     ] {
         table(rt.alloc(), &mut of, rows)?;

@@ -8,7 +8,7 @@ use crate::places::{filed, placed, stepped};
 use crate::tables::{alike, item_shown, searched};
 use crate::texts::lines::{keyfile_shown, kind_shown, locks_shown};
 use crate::texts::paths::path_read;
-use crate::times::{counted, kept, noted, overtaken};
+use crate::times::{counted, guessed, kept, noted, overtaken};
 use crate::turns::steps_shown;
 use std::alloc::Global;
 use std::test::Fail;
@@ -20,6 +20,7 @@ pub(crate) enum TableOf {
     Counted,
     Crash,
     Filed,
+    Guessed,
     Kept,
     Looked,
     Noted,
@@ -40,6 +41,7 @@ impl Question for TableOf {
             TableOf::Counted => counted(asked, found),
             TableOf::Crash => crashed(alloc, asked, found),
             TableOf::Filed => filed(alloc, asked, found),
+            TableOf::Guessed => guessed(alloc, asked, found),
             TableOf::Kept => kept(alloc, asked, found),
             TableOf::Looked => looked(asked, found),
             TableOf::Noted => noted(alloc, asked, found),

@@ -1,6 +1,6 @@
 //! Which edits are overtaken, what is noted of the times of sets, and what is kept of it in a file.
 use dconf_notes::{notes_read, notes_written};
-use dconf_times::{DconfdbTime, is_overtaken, moment_beside, note_times};
+use dconf_times::{DconfdbSeen, DconfdbTime, is_overtaken, moment_beside, note_seen, note_times};
 use std::alloc::{AllocError, Global};
 use std::fmt::Write;
 use test_rows::number;
@@ -108,6 +108,35 @@ pub(crate) const NOTED: &str = "
 0 4; /a=1 /b=2; /c=3 /a=4 |
 9 0; /a=1 /b=2; /c=3 /a=4 |
 9 4; /a=5; /a=4 | /a=5
+";
+
+/// What is noted where others left the value of that number at a path: `/b/` was reset, and then a key set in it.
+pub(crate) fn guessed(alloc: Global, asked: &str, found: &mut String) -> Result<(), AllocError> {
+    let (path, value) = asked.split_once(' ').unwrap_or((asked, ""));
+    let mut notes = [time_of("/b/=4"), time_of("/b/k=6"), time_of("/b/old=2")];
+    notes[1].value = 7;
+    notes[2].value = 8;
+    let time = DconfdbTime {
+        path: path.as_bytes(),
+        when: 9,
+        value: u64::from(number(value)),
+    };
+    let seen = [DconfdbSeen {
+        time,
+        is_noted: false,
+    }];
+    show_times(&note_seen(alloc, &notes, &seen, 9, 9)?, found)
+}
+
+pub(crate) const GUESSED: &str = "
+/b/k 7 | /b/=4 /b/k=6 /b/old=2
+/b/k 3 | /b/=4 /b/k=9 /b/old=2
+-- what was set in a directory after its reset, and went
+/b/k 0 | /b/=4 /b/k=9 /b/old=2
+/b/other 0 | /b/=4 /b/k=6 /b/old=2
+-- what was set in it before, and came back
+/b/old 0 | /b/=4 /b/k=6 /b/old=2
+/b/old 8 | /b/=4 /b/k=6 /b/old=9
 ";
 
 /// How many bytes a file has of a turn with these notes, at most so many and so many bytes, and what is read of it; and whether any

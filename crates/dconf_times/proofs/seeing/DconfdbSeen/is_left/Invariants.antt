@@ -5,4 +5,4 @@ use Rattle.dconf_times.proofs.seeing.DconfdbSeen.is_left.Given as goal
 
 -- the rest decides
 abbrev pub invariant-loop-note : goal.invariant-loop-note
-invariant-loop-note l = list_any (is_left_by l.self) (drop l.note-index l.notes) ≡ list_any (is_left_by l.self) l.notes
+invariant-loop-note l = list_any (is_left_by l.notes l.self) (drop l.note-index l.notes) ≡ list_any (is_left_by l.notes l.self) l.notes
