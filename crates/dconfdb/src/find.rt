@@ -37,6 +37,11 @@ pub(crate) struct Found {
 }
 
 impl Found {
+    /// Whether it was given by a word, and isn't there: then nothing in it is read.
+    pub(crate) fn is_nowhere(&self) -> bool {
+        self.is_given && !self.has_folder
+    }
+
     /// Whether the databases of the system that its profile names are beside that: it is the one of all users, and the folder the user's.
     pub(crate) fn is_everyones(&self) -> bool {
         is_beside(self.profile.as_bytes(), self.is_given)

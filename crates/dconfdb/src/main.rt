@@ -1,6 +1,7 @@
 //! The program `dconfdb`: the words, the streams and the folder of the store, handed to dconf_cli, when it is this program's turn.
 #![tactic(auto)]
 
+mod explain;
 mod find;
 mod keep;
 mod messages;
@@ -10,6 +11,8 @@ mod sources;
 mod updates;
 
 use dconf_args::{Asked, command};
+use dconf_habits::{as_in_dconf, with_dashes};
+use explain::page;
 use messages::{NO_MEMORY, USAGE, refuse};
 use runs::run_at;
 use std::env;
@@ -34,10 +37,17 @@ fn main(rt: HostRuntime) -> ExitCode {
             return ExitCode::from(USAGE);
         }
     };
-    let Ok(words) = args.collect::<Vec<String>>(alloc) else {
+    let Ok(mut words) = args.collect::<Vec<String>>(alloc) else {
         refuse(&rt, NO_MEMORY);
         return ExitCode::from(USAGE);
     };
+    if with_dashes(alloc, &mut words).is_err() {
+        refuse(&rt, NO_MEMORY);
+        return ExitCode::from(USAGE);
+    }
+    if let Some(status) = page(&rt, &words) {
+        return ExitCode::from(status);
+    }
     match command(alloc, &words) {
         Ok(asked) => ExitCode::from(done(&rt, asked)),
         Err(error) => {
@@ -56,7 +66,7 @@ fn main(rt: HostRuntime) -> ExitCode {
 /// Does what is asked, and gives the status.
 fn done(rt: &HostRuntime, asked: Asked) -> u8 {
     match asked {
-        Asked::Run { command, place } => run_at(rt, command, place),
+        Asked::Run { command, place } => run_at(rt, as_in_dconf(command), place),
         Asked::Update { folder } => update(rt, folder),
     }
 }

@@ -1,4 +1,5 @@
 //! What is said on err of what `main` itself finds, and the statuses that it gives.
+use crate::explain::explain_own;
 use crate::find::NotFound;
 use dconf_found::BadDatabase;
 use dconfdb_calls::{BadFile, Fate, Fault};
@@ -20,6 +21,9 @@ const BOTH: &str = "--user and --store exclude each other\n\nFor more informatio
 /// Says on err why nothing is done.
 pub(crate) fn refuse<D: Display + Drop>(rt: &HostRuntime, why: D) {
     let _ = eprintln!(rt; "error: {why}");
+    if let Ok(said) = format!(in rt.alloc(); "{why}") {
+        explain_own(rt, said.as_str());
+    }
 }
 
 pub(crate) fn refuse_memory(rt: &HostRuntime) -> u8 {
@@ -69,6 +73,11 @@ pub(crate) fn warn_of_bad(
         is_aside: false,
     };
     eprintln!(rt; "warning: {start}{between}{name}: {wrong}{fate}")
+}
+
+/// Says on err that the store that is named has no folder, so that nothing is read of it.
+pub(crate) fn warn_of_no_folder(rt: &HostRuntime, folder: &str) -> io::Result<()> {
+    eprintln!(rt; "warning: there is no folder {folder}")
 }
 
 /// Says on err that the profile in a folder names a database of the system which isn't beside it.

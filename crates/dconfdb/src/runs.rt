@@ -10,9 +10,12 @@ ghost use Rattle.dconf_streams.specs.Streams.{NoneFailed};
 ghost use Rattle.dconf_found.specs.FoundFolders as found;
 ghost use Rattle.dconf_found.specs.FoundFolders.{IsPast, agrees, inner_of};
 
+use crate::explain::{Given, Heard, explain};
 use crate::find::{Found, NotFound, enter};
 use crate::keep::{forget, keep};
-use crate::messages::{REFUSED, refuse, refuse_device, refuse_memory, refuse_place, warn_of_bad};
+use crate::messages::{
+    REFUSED, refuse, refuse_device, refuse_memory, refuse_place, warn_of_bad, warn_of_no_folder,
+};
 use crate::named::{first_file, warn_of_missing_ones};
 use dconf_args::{Command, Place, Replaced, user_file};
 use dconf_cli::{Counted, run};
@@ -97,6 +100,9 @@ fn read_found(
 
 /// Says what nobody would learn from the status alone. What can't be said is a refusal.
 fn warn(rt: &HostRuntime, bad: &[BadDatabase], found: &Found) -> io::Result<()> {
+    if found.is_nowhere() {
+        warn_of_no_folder(rt, found.folder.as_str())?;
+    }
     let first = match bad.first() {
         Some(_) => first_file(rt, found)?,
         None => None,
@@ -191,10 +197,15 @@ fn run_on(rt: &HostRuntime, asked: Command, folder: &mut StdFolder<&HostRuntime>
     // Without the turn to replace files nothing was done to it.
     ensures untouched { can_write folder.old ≡ false → events_of folder.new ≡ events_of folder.old }
 {
+    let given = Given::of(rt, &asked);
     let mut input = Counted::new(rt.stdin());
     let mut out = Counted::new(rt.stdout());
-    let mut err = Counted::new(rt.stderr());
-    run(rt.alloc(), asked, folder, &mut input, &mut out, &mut err)
+    let mut err = Counted::new(Heard::new(rt.alloc(), rt.stderr()));
+    let status = run(rt.alloc(), asked, folder, &mut input, &mut out, &mut err);
+    if let Some(given) = &given {
+        explain(rt, given, err.get_ref().text());
+    }
+    status
 }
 
 /// The same on a store that was found.
@@ -218,10 +229,15 @@ fn run_within(
     ensures untouched { can_write (inner_of folder.old) ≡ false → (old : List Event) → IsPast (λ f es. es ≡ events_of f) folder.old old
         → IsPast (λ f es. es ≡ events_of f) folder.new old }
 {
+    let given = Given::of(rt, &asked);
     let mut input = Counted::new(rt.stdin());
     let mut out = Counted::new(rt.stdout());
-    let mut err = Counted::new(rt.stderr());
-    run(rt.alloc(), asked, folder, &mut input, &mut out, &mut err)
+    let mut err = Counted::new(Heard::new(rt.alloc(), rt.stderr()));
+    let status = run(rt.alloc(), asked, folder, &mut input, &mut out, &mut err);
+    if let Some(given) = &given {
+        explain(rt, given, err.get_ref().text());
+    }
+    status
 }
 
 /// Says on err which file others have been replacing all the time.

@@ -1,0 +1,4 @@
+pub mod Texts
+pub mod Words
+pub mod Refusals
+pub mod Explanations
