@@ -12,7 +12,7 @@ use Rattle.dconf_times.specs.declared.times.DconfdbTime.{DconfdbTime}
 no_later : (path : List ℕ) (note other : DconfdbTime) → is_later_there path note other ≡ false → covers other.path.now path ≡ true → other.when ≤ note.when
 no_later path note other free over = by_bool (nat_lt note.when other.when) (other.when ≤ note.when)
     (λ is. absurd (let later : is_later_there path note other ≡ true = and_from (covers other.path.now path) (nat_lt note.when other.when) over is in
-        let bad : true ≡ false = sym later ∙ free in cc))
+    let bad : true ≡ false = sym later ∙ free in cc))
     (λ isnt. ltb-false note.when other.when isnt)
 
 latest : (path : List ℕ) (note : DconfdbTime) (notes : List DconfdbTime) → list_any (is_later_there path note) notes ≡ false → IsLatestOf path notes note
