@@ -68,7 +68,7 @@ int __wrap_fstatat64(int folder, const char *path, struct stat *found, int flags
 /* How a lock can be made here: without a name, with another one that is exchanged, or with another one that is linked. */
 enum { BY_NO_NAME, BY_A_RENAME, BY_A_LINK, WAYS };
 static int way;
-static bool kills; /* who gives a file to another */
+static bool kills; /* who gives a file to another: it stops, and is killed from outside, as valgrind is no witness of one that kills itself */
 
 int __real_openat64(int folder, const char *path, int flags, ...);
 int __wrap_openat64(int folder, const char *path, int flags, ...);
@@ -102,7 +102,7 @@ int __wrap_renameat2(int folder, const char *name, int other_folder, const char 
 int __wrap_fchown(int file, uid_t user, gid_t group)
 {
     if (kills)
-        raise(SIGKILL);
+        raise(SIGSTOP);
     return __real_fchown(file, user, group);
 }
 
@@ -224,7 +224,9 @@ static int runs_as(void (*what)(void))
         what();
         _exit(0);
     }
-    TRY(waitpid(child, &status, 0) == child);
+    TRY(waitpid(child, &status, WUNTRACED) == child);
+    if (WIFSTOPPED(status))
+        TRY(kill(child, SIGKILL) == 0 && waitpid(child, &status, 0) == child);
     return status;
 }
 
