@@ -155,7 +155,9 @@ void dconf_changeset_set(DConfChangeset *changeset, const gchar *path, GVariant 
 {
     g_return_if_fail (changeset != NULL);
     g_return_if_fail (!changeset->is_sealed);
-    g_return_if_fail (value ? dconf_is_key (path, NULL) : dconf_is_path (path, NULL));
+    g_return_if_fail (dconf_is_path (path, NULL));
+    if (is_directory(path))
+        g_return_if_fail (value == NULL);
     clear_behind(changeset, path, value);
     if (effect_of(changeset, path, value, path) == DCONFDB_ROW_TAKES)
         put_row(changeset, path, value);

@@ -32,9 +32,9 @@ static gboolean is_one(const gchar *text, uint32_t wanted, gboolean is_relative,
 {
     static const char *const names[][2] = {{"path", "relative path"}, {"key", "relative key"}, {"dir", "relative dir"}};
     const char *name = names[wanted][is_relative], *fault = text ? fault_of(text, wanted, is_relative) : NULL;
-    if (!text)
+    if (error && !text)
         g_set_error(error, DCONF_ERROR, DCONF_ERROR_PATH, "%s not specified", name);
-    else if (fault)
+    else if (error && fault)
         g_set_error(error, DCONF_ERROR, DCONF_ERROR_PATH, "dconf %s %s", name, fault);
     return text && !fault;
 }
