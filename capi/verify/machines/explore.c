@@ -442,7 +442,7 @@ static void compare_bits(void)
 {
     for (uint32_t bits = 0; bits < 65536; bits++) {
         for (int has_group = 0; has_group < 2; has_group++) {
-            if (dconfdb_file_bits(false, bits, has_group, false) != bits_given(bits, has_group))
+            if (dconfdb_file_bits(false, bits, has_group) != bits_given(bits, has_group))
                 fail("bits_for", "other bits than are given");
             if (dconfdb_file_bits(true, bits, has_group) != lock_bits_given(bits, has_group))
                 fail("lock_bits", "other bits than are given");
