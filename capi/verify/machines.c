@@ -86,6 +86,11 @@ uint32_t dconfdb_standing(uint32_t purpose, const DconfdbStood *stood, uint32_t 
     return standing_given(purpose, stood, fault);
 }
 
+uint32_t dconfdb_error_code(bool of_lock, uint32_t fault)
+{
+    return error_code_given(of_lock, fault);
+}
+
 uint32_t dconfdb_settling_after(uint32_t task, bool yes, const DconfdbSettling *known)
 {
     return settling_given(task, yes, known);

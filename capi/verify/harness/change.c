@@ -2,6 +2,7 @@
 #define MOST_DATABASES 2
 #define FEW_DATABASES 2
 #include "libdconfdb/change.c"
+#include "machines/answers.h"
 #include "parts.h"
 
 /* narrows libdconfdb/dconfdb.h: char text[512]; => char text[8]; */
@@ -103,6 +104,11 @@ bool refuse_file(DconfdbError *error, int fault, const char *name, Place place)
     CHECK(fault > 0 && __CPROVER_r_ok(name, 1), "answer: a fault, of a file");
     refused++;
     return false;
+}
+
+uint32_t dconfdb_error_code(bool of_lock, uint32_t fault)
+{
+    return error_code_given(of_lock, fault);
 }
 
 /* What the proved call may say: nothing where no database is the user's, and after a look that a file is to be made or not. */

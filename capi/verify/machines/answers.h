@@ -188,4 +188,13 @@ static inline uint32_t settling_given(uint32_t task, bool yes, const DconfdbSett
     }
 }
 
+/* The header's code by which a program is told of an errno. */
+static inline uint32_t error_code_given(bool of_lock, uint32_t fault)
+{
+    enum { MEMORY = 1, FILE_TOO_LARGE = 18, OF_FILE = 64, BUSY = 65, NO_MEMORY = 12, WOULD_WAIT = 11, OVERFLOWS = 75 };
+    if (of_lock && fault == WOULD_WAIT)
+        return BUSY;
+    return fault == NO_MEMORY ? MEMORY : fault == OVERFLOWS ? FILE_TOO_LARGE : OF_FILE;
+}
+
 #endif

@@ -472,6 +472,13 @@ static void compare_standings(void)
                                          .may_stop = (i & 32) != 0, .is_named = (i & 64) != 0, .links = i % 3});
 }
 
+static void compare_error_codes(void)
+{
+    for (uint32_t fault = 0; fault < FAULTS; fault++)
+        if (dconfdb_error_code(true, fault) != error_code_given(true, fault) || dconfdb_error_code(false, fault) != error_code_given(false, fault))
+            fail("error_code", "another code than is given");
+}
+
 static void compare_settling(void)
 {
     for (uint32_t bits = 0; bits < 128; bits++) {
@@ -493,6 +500,7 @@ int main(void)
     print_fault_answers();
     compare_bits();
     compare_standings();
+    compare_error_codes();
     compare_settling();
     return 0;
 }
