@@ -7,7 +7,7 @@
 #include <stdlib.h>
 
 /* narrows common/lock.c: MOST_FORKS = 10 => MOST_FORKS = 2 */
-/* stubs common/lock.c: open_both */
+/* stubs common/lock.c: open_both make_new */
 
 /* Another thread may fork while the list's mutex is free, as before_fork() counts. */
 static void others_fork(const void *mutex)
@@ -97,6 +97,36 @@ static void is_made_here(Kind kind)
     CHECK(kind != FCHMOD || (last[FCHMOD].mode & ~0666U) == 0, "step: its own bits, to read and write");
 }
 
+/* As lock_make has it. */
+static bool is_made;
+
+static int make_new(int folder, int *file)
+{
+    int fault = any_fault();
+    CHECK(is_open(folder), "descriptor: the folder is open");
+    if (fault != 0)
+        return fault;
+    *file = some_file();
+    is_made = true;
+    return 0;
+}
+
+/* harness lock_make: unwind 4, with machines.c, quick */
+int lock_make(void)
+{
+    int folder = some_file(), file = -1;
+    at_call = is_made_here;
+    if (real_make_new(folder, &file) != 0) {
+        CHECK(only_open(folder, -1), "descriptor: a fault leaves nothing open");
+        return 0;
+    }
+    CHECK(is_open(file) && file != folder && only_open(folder, file), "descriptor: it is open, and no more");
+    CHECK((last[OPENAT].flags & (O_NOFOLLOW | O_NONBLOCK | O_ACCMODE)) == (O_NOFOLLOW | O_NONBLOCK | O_RDWR), "step: it can be locked everywhere");
+    CHECK((last[OPENAT].flags & O_TMPFILE) == O_TMPFILE || (last[OPENAT].flags & (O_CREAT | O_EXCL)) == (O_CREAT | O_EXCL), "step: what is made is made in nobody's place");
+    REACHED("it is made");
+    return 0;
+}
+
 static const FolderLock *locking;
 
 static void is_listed_then(Kind kind)
@@ -109,7 +139,6 @@ int lock_open(void)
 {
     FolderLock lock;
     at_mutex = others_fork;
-    at_call = is_made_here;
     int fault = real_open_both("/f", &lock);
     const Call *open = &last[OPENAT];
     CHECK(none_is_held(), "order: the list's mutex is free");
@@ -119,10 +148,9 @@ int lock_open(void)
     }
     CHECK(first == &lock && lock.next == NULL, "step: it is listed");
     CHECK(is_open(lock.folder) && is_open(lock.file) && lock.folder != lock.file && only_open(lock.folder, lock.file), "descriptor: both are open, and no more");
-    CHECK(open->fault == 0 && open->file == lock.folder && open->count == lock.file, "step: the file is opened in the folder");
-    CHECK((open->flags & (O_NOFOLLOW | O_NONBLOCK | O_ACCMODE)) == (O_NOFOLLOW | O_NONBLOCK | O_RDWR), "step: no link is followed, no pipe waited for, and it can be locked everywhere");
-    CHECK((open->flags & O_CREAT) == 0 || (open->flags & O_EXCL) != 0, "step: what is made is made in nobody's place");
-    CHECK((open->flags & (O_CREAT | O_TMPFILE)) != 0 || was_done(FSTAT), "answer: an old one is looked at");
+    CHECK(is_made || (open->fault == 0 && open->file == lock.folder && open->count == lock.file), "step: the file is opened in the folder");
+    CHECK(is_made || (open->flags & (O_NOFOLLOW | O_NONBLOCK | O_ACCMODE)) == (O_NOFOLLOW | O_NONBLOCK | O_RDWR), "step: no link is followed, no pipe waited for, and it can be locked everywhere");
+    CHECK(is_made || was_done(FSTAT), "answer: an old one is looked at");
     REACHED("it is open");
     return 0;
 }
