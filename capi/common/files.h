@@ -47,7 +47,7 @@ bool file_may_be_read(const char *name);
 typedef bool FileWanted(const uint8_t *head, size_t len);
 
 /* What a file holds, and its state; a relative name is relative to the folder. `maps`: a large one is mapped. A missing file is not
- * an error. EOVERFLOW: it has more than `most` bytes. EINVAL: it is not a regular file. A large one that
+ * an error. EOVERFLOW: it has more than `most` bytes. EISDIR: it is a folder. EINVAL: it is no regular file. A large one that
  * isn't mapped is read no further than its head if the rest isn't wanted (NULL: it is). Of a file that can't be
  * read the state is that of before, if there is any. */
 int file_read(int folder, const char *name, bool maps, FileWanted *is_wanted, size_t most, FileBytes *bytes, FileState *state);

@@ -66,9 +66,10 @@ uint64_t order_time(const Order *order, uint64_t moment, uint64_t noted)
     return dconfdb_time_of_moment(order->now, order->moment, moment, noted);
 }
 
+/* A time before 1970 is the first that a note can have. */
 static uint64_t noted_time(const DconfdbFileTime *time)
 {
-    return time->seconds * second + time->nanoseconds;
+    return (int64_t)time->seconds < 0 ? 0 : time->seconds * second + time->nanoseconds;
 }
 
 uint64_t order_time_of(const FileState *file)

@@ -25,7 +25,7 @@ bool store_settle_own(const DconfdbStore *store, const char *name, DconfdbError 
 static bool is_noted_settled(DconfdbStore *store, const Part *own)
 {
     char *lock = joined(store->place.folder, "/", LOCK_NAME);
-    int file = lock ? open(lock, O_RDONLY | O_NONBLOCK | O_NOCTTY | O_CLOEXEC) : -1;
+    int file = lock ? open(lock, O_RDONLY | O_NOFOLLOW | O_NONBLOCK | O_NOCTTY | O_CLOEXEC) : -1;
     free(lock);
     if (file < 0)
         return false;

@@ -40,7 +40,8 @@ char *snapshot_listed_in(size_t len, Lists *lists, const DconfdbSnapshot *snapsh
 /* The paths that are remembered of what others changed, or NULL: no memory is left. `is_noted`: who left the file noted what it changed. */
 char *snapshot_remembered(const DconfdbSnapshot *before, const DconfdbSnapshot *after, bool is_noted);
 
-/* Whether a key is seen otherwise, or may be set or not, or a file can be read or not. */
+/* Whether something is otherwise of which a program is told: a key, whether keys may be set, a lock, another fault of a file, or a mapped file that
+ * was written over. */
 bool snapshot_is_news(const DconfdbSnapshot *before, const DconfdbSnapshot *after);
 
 #endif

@@ -32,17 +32,6 @@ static inline char *path_text(const DconfdbPath *path)
     return text;
 }
 
-/* The first bytes of a text, or NULL. */
-static inline char *start_of(const void *text, size_t len)
-{
-    char *start = malloc(len + 1);
-    if (start) {
-        memcpy(start, text, len);
-        start[len] = 0;
-    }
-    return start;
-}
-
 /* Texts behind each other, or NULL. */
 static inline char *joined(const char *one, const char *between, const char *other)
 {
