@@ -165,11 +165,12 @@ static int serve(const char *folder)
     bool is_ready = connect_bus(&service);
     if (is_ready)
         open_users(&service);
-    if (is_ready && !service_begin_writing(&service))
-        say("no thread can be had");
-    else if (is_ready)
+    bool is_running = is_ready && service_begin_writing(&service);
+    if (is_running)
         run(&service);
-    bool is_left = service.has_thread, has_failed = !is_ready || service.has_failed;
+    else if (is_ready)
+        say("no thread can be had");
+    bool is_left = service.has_thread, has_failed = !is_running || service.has_failed;
     if (is_left)
         say("what was asked for last isn't on the disk");
     else

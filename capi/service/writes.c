@@ -28,14 +28,27 @@ static void read_all(Run *run)
     }
 }
 
+/* The moment in which it counts as made: what stands in it beside a directory's reset isn't lost to what others set before its turn. */
+static uint64_t moment_of(const Change *change)
+{
+    guint count = change->edits->len;
+    g_autofree DconfdbTime *asked = g_new(DconfdbTime, count);
+    for (guint i = 0; i < count; i++) {
+        const char *path = edit_of(change, i)->path;
+        asked[i] = (DconfdbTime){{(const uint8_t *)path, strlen(path)}, change->moment, 0};
+    }
+    return count > 0 ? dconfdb_moment_beside(asked, count, change->moment) : change->moment;
+}
+
 /* What can't be made of a change is left out by itself: for the queue each edit is a change of its own. */
 static Batch batch_of(const Run *run)
 {
     Batch batch = batch_new(run->count);
     for (const GList *at = run->changes.head; at; at = at->next) {
         const Change *change = at->data;
+        uint64_t moment = moment_of(change);
         for (size_t i = 0; i < change->edits->len; i++)
-            batch_add(&batch, edit_of(change, i), change->moment, batch.count, false);
+            batch_add(&batch, edit_of(change, i), moment, batch.count, false);
     }
     return batch;
 }
