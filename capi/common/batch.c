@@ -9,7 +9,8 @@
 Batch batch_new(size_t most)
 {
     Batch batch = {.count = 0};
-    batch.queued = g_malloc_n(most, sizeof *batch.queued + sizeof *batch.edits + sizeof *batch.moments + sizeof *batch.asked
+    /* One more: the calls want a place also where there is none. */
+    batch.queued = g_malloc_n(most + 1, sizeof *batch.queued + sizeof *batch.edits + sizeof *batch.moments + sizeof *batch.asked
                                         + sizeof *batch.numbers + sizeof *batch.made);
     batch.edits = (const DconfdbEdit **)(batch.queued + most);
     batch.moments = (uint64_t *)(batch.edits + most);

@@ -127,8 +127,10 @@ enum {
     DCONFDB_TURN_UNSYNCED   /* it is as it was and was to stay, but a crash may leave what was there before */
 };
 
-/* The fault of a caller that makes no new bytes, since NAME is to stay as it is. */
+/* The fault of a caller that makes no new bytes, since NAME is to stay as it is; and that of a step of which the caller has told what is
+ * wrong. */
 #define DCONFDB_TURN_NOTHING UINT32_MAX
+#define DCONFDB_TURN_TOLD (UINT32_MAX - 1)
 
 /* A path that was set, and when: a key's, or that of a directory of which all keys were reset,
  * nanoseconds since 1970, and a number of the caller's for what was set. */
@@ -202,13 +204,13 @@ uint32_t dconfdb_parse_value(const uint8_t *text, size_t text_len, uint8_t *room
  * said as follows; then `bits` or `found` stays as it was.
  *
  * The number, if the type is the one of this letter: of `b` 0 or 1, else the bits; `i` asks for an `h`
- * too. The text of an `s`, `o` or `g`, without a zero byte. The child at an index; `passed` is 0, or what an
+ * too. The text of an `s`, `o` or `g`, without a zero byte. The child at an index, or, `of_variant`, of a `v` alone; `passed` is 0, or what an
  * earlier call left there for the same type and bytes. The value of the first entry with this key in an
  * `a{sT}` or an `a{oT}`. */
 bool dconfdb_number_in(const uint8_t *type_text, size_t type_text_len, const uint8_t *value, size_t value_len, uint8_t letter,
                        uint64_t *bits);
 bool dconfdb_text_in(const uint8_t *type_text, size_t type_text_len, const uint8_t *value, size_t value_len, DconfdbBytes *found);
-bool dconfdb_child_at(const uint8_t *type_text, size_t type_text_len, const uint8_t *value, size_t value_len, size_t index,
+bool dconfdb_child_at(const uint8_t *type_text, size_t type_text_len, const uint8_t *value, size_t value_len, bool of_variant, size_t index,
                       size_t *passed, DconfdbPart *found);
 bool dconfdb_look_up(const uint8_t *type_text, size_t type_text_len, const uint8_t *value, size_t value_len, const uint8_t *key,
                      size_t key_len, DconfdbPart *found);
@@ -335,11 +337,14 @@ typedef struct {
     DconfdbBytes first, second, third, fourth;
 } DconfdbPath;
 
-/* What the environment says of a store. None of it counts for a program that has more rights than whoever started it. What is
+/* What is around a program that looks for its store. No variable counts for one that has more rights than whoever started it. What is
  * empty counts as unset. */
 typedef struct {
     bool counts;
     DconfdbBytes store, config, home, profile; /* $DCONFDB_STORE, $XDG_CONFIG_HOME, $HOME, $DCONFDB_PROFILE */
+    DconfdbBytes runtime, cache;               /* $XDG_RUNTIME_DIR, $XDG_CACHE_HOME */
+    DconfdbBytes machine;                      /* what /etc/dconfdb/store says; empty if there is no such file */
+    bool is_unreadable;                        /* it couldn't be read */
 } DconfdbEnvironment;
 
 /* Who gives the folder of a store; a user does by a word of a command. */
@@ -349,14 +354,40 @@ enum {
     DCONFDB_GIVEN_BY_USER
 };
 
+/* Which kind of store is found. */
+enum {
+    DCONFDB_KIND_OWN,    /* a folder that has all */
+    DCONFDB_KIND_DCONFS, /* each part is where dconf has it */
+    DCONFDB_KIND_UNKNOWN /* nobody knows: there is none */
+};
+
+uint32_t dconfdb_place_kind(const DconfdbEnvironment *environment, uint32_t giver);
+
+/* What is wanted of a store that is found. */
+enum {
+    DCONFDB_WANT_FOLDER,
+    DCONFDB_WANT_PROFILE, /* that the environment names, of our own kind; a folder that a program gives has its own */
+    DCONFDB_WANT_RUNTIME  /* the user's runtime folder, of dconf's kind */
+};
+
 /* What has to be asked to know a path: nothing; the current folder; the home that the system has for the user. Or there is none. */
 enum { DCONFDB_ASK_NOTHING, DCONFDB_ASK_CURRENT, DCONFDB_ASK_HOME, DCONFDB_ASK_NO_MORE };
 
-/* The path of the store's folder, or of the profile that the environment names (`is_profile`): what has to be asked to know it, and, by that
- * (`base`), the path. A folder that a program gives has its own profile. False: there is none, and nothing is written. */
-uint32_t dconfdb_place_base(const DconfdbEnvironment *environment, uint32_t giver, const uint8_t *folder, size_t folder_len, bool is_profile);
-bool dconfdb_place(const DconfdbEnvironment *environment, uint32_t giver, const uint8_t *folder, size_t folder_len, bool is_profile,
+/* What has to be asked to know the path of what is wanted, and, by that (`base`), the path. False: there is none, and nothing is written. */
+uint32_t dconfdb_place_base(const DconfdbEnvironment *environment, uint32_t giver, const uint8_t *folder, size_t folder_len, uint32_t wanted);
+bool dconfdb_place(const DconfdbEnvironment *environment, uint32_t giver, const uint8_t *folder, size_t folder_len, uint32_t wanted,
                    const uint8_t *base, size_t base_len, DconfdbPath *path);
+
+/* Where a store is, once it was found. What there is none of is empty. */
+typedef struct {
+    DconfdbBytes folder;
+    DconfdbBytes named;     /* the whole path of the profile that a program names, or the environment of our own kind */
+    DconfdbBytes profile;   /* $DCONF_PROFILE */
+    DconfdbBytes runtime;   /* the user's runtime folder */
+    DconfdbBytes data_dirs; /* $XDG_DATA_DIRS */
+    DconfdbBytes user;      /* the user's number, in decimal digits */
+    bool is_given, is_dconfs;
+} DconfdbPlace;
 
 /* Which profile counts: after each look comes a step, and before the first one. */
 enum {
@@ -367,13 +398,18 @@ enum {
     DCONFDB_PROFILE_COUNTS, /* the one that was looked at does */
     DCONFDB_PROFILE_NO_DATABASE,
     DCONFDB_PROFILE_REFUSED,
-    DCONFDB_PROFILE_BEGINS /* none was looked at */
+    DCONFDB_PROFILE_BEGINS,    /* none was looked at */
+    DCONFDB_PROFILE_MANDATORY, /* look at an administrator's, of dconf's kind */
+    DCONFDB_PROFILE_PATH,      /* .. that of $DCONF_PROFILE, a path */
+    DCONFDB_PROFILE_RUNTIME,   /* .. the session's */
+    DCONFDB_PROFILE_SYSTEM,    /* .. the machine's of that name */
+    DCONFDB_PROFILE_DATA       /* .. in a folder of $XDG_DATA_DIRS */
 };
 
 /* A look at one, and what is known of it. */
 typedef struct {
     uint32_t which;
-    bool is_named;             /* one is named */
+    size_t dir;                /* of DATA, which folder: counted from 0 */
     bool fails, is_own;        /* reading it failed, by a fault of its own */
     bool is_there;
     bool is_lenient, has_kept; /* of whoever opens the store; which has kept a fault of a profile */
@@ -386,19 +422,17 @@ enum {
     DCONFDB_TELLING_KEPT     /* the store keeps it */
 };
 
-uint32_t dconfdb_profile_step(const DconfdbProfileLook *look, uint32_t *telling);
+/* `dir` is that of the next look. */
+uint32_t dconfdb_profile_step(const DconfdbPlace *place, const DconfdbProfileLook *look, size_t *dir, uint32_t *telling);
 
-/* The path of its file, by that of the store's folder, and that of the one that is named. */
-void dconfdb_profile_path(uint32_t which, const uint8_t *folder, size_t folder_len, const uint8_t *named, size_t named_len,
-                          DconfdbPath *path);
+/* The path of its file. False: there is no such place, nothing is looked at, and nothing is written. */
+bool dconfdb_profile_path(const DconfdbPlace *place, uint32_t which, size_t dir, DconfdbPath *path);
 
-/* The path of a database's file, by those of the store's folder and of the profile: the databases of the system may be beside that. `is_given`:
- * the folder is given. Kind and name are those of a DconfdbName. */
-void dconfdb_database_path(const uint8_t *folder, size_t folder_len, const uint8_t *profile, size_t profile_len, bool is_given,
-                           uint32_t kind, const uint8_t *name, size_t name_len, DconfdbPath *path);
-
-/* Whether the first of a profile's databases is the user's, which can be changed. */
-bool dconfdb_has_users(const DconfdbName *names, size_t n);
+/* The path of a database's file, by that of the profile that names it; and whether it is the user's, which can be changed, and comes first. `flag` is
+ * the path of the flag of dconf's readers, which who replaces the file sets then; empty: there are none. Kind and name are those of a
+ * DconfdbName. */
+bool dconfdb_database_path(const DconfdbPlace *place, const uint8_t *profile, size_t profile_len, uint32_t kind, const uint8_t *name,
+                           size_t name_len, DconfdbPath *path, DconfdbPath *flag);
 
 /* The user's file after all changes, each made in turn, or none, and without locks. `len` as
  * dconfdb_list has it. `is_same`: it says no more than was there, since the user's database has what each of them asks for, or
@@ -408,7 +442,7 @@ uint32_t dconfdb_change(const DconfdbLayer *layers, size_t n, bool writable, con
                         const uint8_t *old, size_t old_len, uint8_t *room, size_t room_len, size_t *len, size_t *at, bool *is_same);
 
 /* Whether the user's database has what a change asks for already: this value, whatever its bytes, or none, or none below the directory.
- * At a path that is no key's there is none. `writable`: the first layer is the user's. MEMORY, and then `is` stays. */
+ * At a path that is no key's there is none. `writable`: the first layer is the user's. MEMORY, and then it has not. */
 uint32_t dconfdb_is_made(const DconfdbLayer *layers, size_t n, bool writable, const DconfdbChange *change, bool *is);
 
 /* What stands at the name of the user's file. */
@@ -420,14 +454,30 @@ enum {
     DCONFDB_USERS_NOWHERE     /* no database is the user's */
 };
 
-/* Whether one is to be made for changes. */
+/* What is done for changes, from their beginning to their end. */
 enum {
-    DCONFDB_NEED_FILE,    /* as far as the changes go */
-    DCONFDB_NEED_NOTHING, /* neither a file nor a folder: there is nothing that could be changed */
-    DCONFDB_NEED_LOOK     /* that depends on what stands there; after a look it is one of the others */
+    DCONFDB_COURSE_BEGINS,
+    DCONFDB_COURSE_LOOK,    /* what stands at the name of the user's file? */
+    DCONFDB_COURSE_CHANGE,  /* take the lock, and change the file in its turn: is it made? */
+    DCONFDB_COURSE_TURN,    /* the same with the lock that is had */
+    DCONFDB_COURSE_REFRESH, /* no file is to be made; look at the files: could they be read? */
+    DCONFDB_COURSE_WELL,    /* is nothing wrong with the changes? */
+    DCONFDB_COURSE_SETTLE,  /* bring to the disk that there is no file: is that done? */
+    DCONFDB_COURSE_DONE,    /* over: what they ask for is there */
+    DCONFDB_COURSE_FAILED   /* over: a fault is told */
 };
 
-uint32_t dconfdb_file_need(uint32_t users, const DconfdbChange *changes, size_t n);
+/* What is known. */
+typedef struct {
+    bool has_edits;
+    bool has_user;    /* a database is the user's */
+    bool is_locked;   /* the lock is had */
+    bool is_unsynced; /* nothing is brought to the disk by this store */
+} DconfdbCourse;
+
+/* The task that is due after that one, by its answer, of the first any will do; and by what stands at the name: that nobody looked, or, after
+ * a look, what was seen. */
+uint32_t dconfdb_course_after(uint32_t task, bool yes, uint32_t users, const DconfdbChange *changes, size_t n, const DconfdbCourse *known);
 
 /* The first of these changes at whose path something else is seen through the layers than through the expected ones:
  * another value, or one where none was, or the key is locked through one of them alone. Of a path that ends in '/' each
@@ -446,7 +496,7 @@ void dconfdb_turn_answered(DconfdbTurn *turn, uint32_t fault, size_t n, DconfdbS
 
 /* ---- machines: each says its first step, C carries that out and gives the answer, and is told the next one. C owns them, and nobody but
  * these calls writes their fields; begin with all bits 0. They can be copied. Which steps may come, whatever is
- * answered, is proved (crates/dconf_steps). */
+ * answered, is proved (crates/dconf_steps, crates/dconf_waits). */
 
 /* A step: which one, and the file, the edit or the fault that it names, or 0. */
 typedef struct {
@@ -476,11 +526,10 @@ enum {
 /* A look at so many files. `has_old`: there is an old snapshot. `in_turn`: the first file is read whatever stat()
  * says, since it is this program's turn to change it. `is_lenient`: a file that can't be read by a fault of its own counts as nothing. */
 void dconfdb_refresh_begin(DconfdbRefresh *refresh, size_t count, bool has_old, bool in_turn, bool is_lenient, DconfdbNext *step);
-void dconfdb_refresh_answered(DconfdbRefresh *refresh, bool yes, DconfdbNext *step);
 
-/* What a fault of the system answers, by its errno: no, but of a lenient look a file that can't be read by a fault of its own is had, and
- * counts as nothing. */
-bool dconfdb_refresh_is_had(const DconfdbRefresh *refresh, uint32_t fault);
+/* Takes the answer, or the errno by which the step failed, or 0. That is no; but to a lenient look a file that can't be read by a fault of its own
+ * is had, and counts as nothing. */
+void dconfdb_refresh_answered(DconfdbRefresh *refresh, bool yes, uint32_t fault, DconfdbNext *step);
 
 /* ---- files, by what the system says of them */
 
@@ -507,6 +556,33 @@ enum {
  * `is_held`: the file has been open or mapped since then, so that no other one has its number; then it is the same whoever's it is. */
 uint32_t dconfdb_same_file(const DconfdbFileStamp *old, const DconfdbFileStamp *now, uint64_t opened, bool is_held);
 
+/* What is known of a file of which something was made, and of what was read of it now. */
+typedef struct {
+    uint64_t opened;                 /* as dconfdb_same_file has it, of what was read then */
+    uint32_t fault;                  /* the errno by which it can't be looked at now; 0: it can */
+    uint32_t code, errnum;           /* what was wrong with it then: zeros, if nothing was, or if another file has its name */
+    uint32_t read_code, read_errnum; /* why it can't be read now: zeros, if it can */
+    bool is_held;
+    bool has_bytes; /* what was read now is what was read then */
+} DconfdbPartSeen;
+
+/* What for it is asked. */
+enum {
+    DCONFDB_PART_KEEP, /* to keep what was made of it, without reading it */
+    DCONFDB_PART_TAKE, /* the same once it was read */
+    DCONFDB_PART_TELL, /* to say whether it is the newest */
+    DCONFDB_PART_TRY   /* to know whether it is the file of a change that was perhaps made */
+};
+
+/* What it is. */
+enum {
+    DCONFDB_BESIDE_SAME,
+    DCONFDB_BESIDE_OTHER,      /* another one, or perhaps */
+    DCONFDB_BESIDE_IF_READABLE /* the same, if this process may still read it: its owner, permissions or names changed, and it is held */
+};
+
+uint32_t dconfdb_beside(uint32_t purpose, const DconfdbFileStamp *old, const DconfdbFileStamp *now, const DconfdbPartSeen *seen);
+
 /* What stands under a name; as a link it counts only if it is to be set aside. `is_read`: it is the very file that was read. */
 typedef struct {
     uint32_t user, group, bits;
@@ -522,18 +598,42 @@ typedef struct {
     uint32_t user, group, bits;
 } DconfdbNewFile;
 
-enum {
-    DCONFDB_OWNER_GIVEN,
-    DCONFDB_OWNER_REFUSED, /* root would give it to whom it was not read from */
-    DCONFDB_OWNER_AGAIN    /* what was read is another file's by now */
-};
-
-/* `above`: whose the folder is. `keeps`: the old file is set aside. `given` is written where it is GIVEN. */
+/* `above`: whose the folder is. `keeps`: the old file is set aside. Gives 0, and then `given` is written; or an errno: EACCES, root would give it to
+ * whom it was not read from, or EAGAIN, what was read is another file's by now. */
 uint32_t dconfdb_owner_and_bits(const DconfdbOldFile *old, const DconfdbFileOwner *above, bool is_root, bool keeps, DconfdbNewFile *given);
 
-/* The permission bits of a file while it has its group or another one: that is to have these once it has its own, and nobody may do more with
- * it; or, of a lock's file that was just made, by those of its folder: who may write in that may take the lock. */
-uint32_t dconfdb_file_bits(bool of_lock, uint32_t bits, bool has_group);
+/* What was just made, and is to become somebody's. */
+enum {
+    DCONFDB_MADE_LOCK, /* of a folder, whose owner's and group's it is to be: who may write there may take it. What fails is passed over */
+    DCONFDB_MADE_FILE, /* in another one's place */
+    DCONFDB_MADE_FOLDER /* which root makes in another's */
+};
+
+/* What is known of it. */
+typedef struct {
+    DconfdbNewFile wanted; /* whose it is to be, and its bits; of a lock and a folder, whose the folder above is, and the bits of that */
+    DconfdbNewFile made;   /* whose it is, and its bits; before it is made, who makes it */
+    uint32_t above;        /* the group of the folder above, */
+    bool gives_group;      /* which that hands on to what is made in it */
+    bool is_root;          /* root makes it */
+    bool is_beside;        /* it is on the device of the folder above, */
+    bool is_empty;         /* and nothing is in it */
+} DconfdbMadeFile;
+
+/* Its steps. */
+enum {
+    DCONFDB_HANDING_BEGINS,
+    DCONFDB_HANDING_MAKE,  /* make it with the bits `number`, and look at it */
+    DCONFDB_HANDING_USER,  /* give it its user, */
+    DCONFDB_HANDING_GROUP, /* its group, */
+    DCONFDB_HANDING_BOTH,  /* or both at once, */
+    DCONFDB_HANDING_BITS,  /* and the bits `number` */
+    DCONFDB_HANDING_DONE,  /* over: it is as it can be; `number` is 0 */
+    DCONFDB_HANDING_FAILED /* over, by the errno `number` */
+};
+
+/* The step after that one, by its errno, or 0. Before a file has its group nobody may do more with it than he will. */
+uint32_t dconfdb_handing_after(uint32_t what, uint32_t done, uint32_t fault, const DconfdbMadeFile *file, uint32_t *number);
 
 /* An edit that is asked for, and what is known of its key. */
 typedef struct {
@@ -570,12 +670,17 @@ typedef struct {
     uint32_t fault; /* the errno by which it could not be done, or looked at; 0: it was */
     uint32_t mode, user;
     uint64_t links, size;
-    uint64_t most; /* a file of more bytes isn't read */
+    uint64_t most;  /* a file of more bytes isn't read */
+    uint64_t tried; /* how many names were tried before this one, or how many links were followed on the way */
     bool may_map;
     bool may_stop; /* its head may say that the rest isn't wanted */
-    bool is_named; /* the names still stand for what is open */
+    bool is_named; /* the names still stand for what is open; or what has the name is the same file; or the path has no link */
     bool is_root;  /* root asks */
+    bool may_make; /* what is missing may be made */
 } DconfdbStood;
+
+/* So many links are followed on a way. */
+enum { DCONFDB_MOST_LINKS = 40 };
 
 /* What for it is asked. */
 enum {
@@ -589,16 +694,25 @@ enum {
     DCONFDB_TO_EXCHANGE,  /* a file got another name, if that is free, or changed places with what has the other one */
     DCONFDB_TO_MAKE,      /* a folder was made */
     DCONFDB_TO_NAME,      /* it got its name, if that was free */
-    DCONFDB_TO_REPLACE    /* the same, or it took the place of an empty folder */
+    DCONFDB_TO_REPLACE,   /* the same, or it took the place of an empty folder */
+    DCONFDB_TO_SET_ASIDE,  /* a file got one of the names NAME~1, NAME~2 and so on, too; or that is the same file (`is_named`) */
+    DCONFDB_TO_MOVE_ASIDE, /* a folder got such a name */
+    DCONFDB_TO_MAKE_NAMED, /* something was made by one of the names that are tried, and gets its own later */
+    DCONFDB_TO_ENTER,      /* a folder on the way was opened */
+    DCONFDB_TO_READ_LINK,  /* what is no folder is looked at, to be read as a link */
+    DCONFDB_TO_MAKE_IN,    /* a folder is to be made in this one */
+    DCONFDB_TO_OPEN_FOLDER /* a folder was opened by its path */
 };
 
 /* What becomes of it. */
 enum {
     DCONFDB_IS_GOOD,    /* it is as it is to be: it is read, or the lock is had, or the link is followed */
-    DCONFDB_IS_NOTHING, /* nothing is there that counts: no file, or no bytes, or no lock of that name any more; or nothing has to be made */
+    DCONFDB_IS_NOTHING, /* nothing is there that counts: no file, or no bytes, or no lock of that name any more; or nothing has to be made; or, of a
+                         * folder on the way, that is to be made */
     DCONFDB_IS_MAPPED,  /* it is mapped, if the file system can do that; or else read */
     DCONFDB_IS_HEAD,    /* its head is read, and then the rest, if it is wanted */
-    DCONFDB_IS_OTHER,   /* it is done in another way: what has the name loses it, or gets another one */
+    DCONFDB_IS_OTHER,   /* it is done in another way: what has the name loses it, or gets another one; the next name is tried; a folder is made for its
+                         * owner, or its path gone through; what stands there may be a link */
     DCONFDB_IS_FAULT    /* it fails by the errno `fault`, which else is 0 */
 };
 
@@ -631,8 +745,10 @@ uint32_t dconfdb_making_after(bool makes_file, bool is_unsettled, uint32_t ask, 
 typedef struct {
     uint32_t newest;   /* which settings are the newest */
     uint32_t told;     /* what is told */
+    uint32_t outcome;  /* what has become of the file, as the header's DconfdbOutcome */
     bool is_unsettled; /* the file may not be on the disk */
     bool is_there;     /* what was asked for is in the file */
+    bool keeps_fault;  /* what was wrong with the old file still is: it has another name now */
 } DconfdbEnding;
 
 enum {
@@ -645,17 +761,22 @@ enum {
     DCONFDB_TOLD_NOTHING,   /* it is made */
     DCONFDB_TOLD_FIRST,     /* the first fault, as it was */
     DCONFDB_TOLD_BAD_WRITE, /* a write that wrote nothing, or more than there was */
-    DCONFDB_TOLD_OUTCOME    /* what may have become of the file, by the first fault */
+    DCONFDB_TOLD_EITHER,    /* that the file is perhaps changed, by the first fault */
+    DCONFDB_TOLD_UNSETTLED, /* .. changed, but perhaps not on the disk */
+    DCONFDB_TOLD_UNSYNCED,  /* .. as it was to be, but perhaps not on the disk */
+    DCONFDB_TOLD_ALREADY    /* the first fault was told when it was met */
 };
 
-/* By a turn's outcome and its first fault. `before`: a change before this one may not be on the disk. */
-void dconfdb_ending(uint32_t outcome, uint32_t fault, bool before, DconfdbEnding *ending);
+/* By a turn's outcome and its first fault. `before`: a change before this one may not be on the disk. `is_aside`: the old file has another
+ * name. */
+void dconfdb_ending(uint32_t outcome, uint32_t fault, bool before, bool is_aside, DconfdbEnding *ending);
 
 /* Whether what the user's file is, is on the disk: what is asked of it, in this order, and what is known then. */
 enum {
     DCONFDB_SETTLING_BEGINS,
     DCONFDB_SETTLING_NOTES,  /* did who left the file note that it is there? */
-    DCONFDB_SETTLING_SETTLE, /* bring it there; is that done? */
+    DCONFDB_SETTLING_SETTLE, /* bring it there, and the names of its folder; is that done? */
+    DCONFDB_SETTLING_NAMES,  /* bring the names of its folder there, since the file can't be read; is that done? */
     DCONFDB_SETTLING_LOOK,   /* is it the same file still? */
     DCONFDB_SETTLING_KNOWN,  /* over: it is there, and that is known from now on */
     DCONFDB_SETTLING_DONE,   /* over: all was done that is to be done */
@@ -669,6 +790,7 @@ typedef struct {
     bool is_unsynced; /* nothing is brought to the disk by this store */
     bool is_in_turn;  /* nobody else changes the file meanwhile */
     bool asks_only;   /* nothing is to be brought there now */
+    bool is_readable; /* what has its name can be read */
 } DconfdbSettling;
 
 /* The task that is due after that one, by its answer; of the first any will do. */
@@ -736,6 +858,35 @@ void dconfdb_queue_begin(DconfdbQueue *queue, const DconfdbQueued *edits, size_t
 /* It marks edits that are left out, and changes that are refused. */
 void dconfdb_queue_answered(DconfdbQueue *queue, DconfdbQueued *edits, size_t count, uint32_t answer, size_t at, DconfdbNext *step);
 
+/* A try to take the lock of a folder: all bits 0 at first. */
+typedef struct {
+    uint32_t task;
+    uint32_t tried, fault; /* once it is over, for dconfdb_wait_answered */
+    uint32_t openings, forks;
+    bool has_made, is_again;
+} DconfdbTaking;
+
+/* Its tasks. */
+enum {
+    DCONFDB_TAKING_OPEN_FOLDER = 1, /* close what is open, and open the folder */
+    DCONFDB_TAKING_MAKE_FOLDER,     /* make it: it is missing */
+    DCONFDB_TAKING_OPEN,            /* open what has the lock's name there, and look at it */
+    DCONFDB_TAKING_LOOK_ABOVE,      /* look at the folder */
+    DCONFDB_TAKING_MAKE_UNNAMED,    /* make a file without a name, hand it over, and give it the lock's name, if that is free */
+    DCONFDB_TAKING_MAKE_RENAMED,    /* the same of one with another name */
+    DCONFDB_TAKING_MAKE,            /* make one by the lock's name, if that is free, and hand it over */
+    DCONFDB_TAKING_LIST,            /* list it for children of fork(); a fault: one was made since the folder was opened */
+    DCONFDB_TAKING_LOCK,            /* lock it */
+    DCONFDB_TAKING_LOOK,            /* look whether the folder's name and its own are theirs still (`is_named`), and how many it has */
+    DCONFDB_TAKING_TAKE_NAME,       /* take the lock's name from it */
+    DCONFDB_TAKING_HAD = 13,        /* over: it is had */
+    DCONFDB_TAKING_NOT_YET,         /* over: it can't be locked, and what is open stays for the next try */
+    DCONFDB_TAKING_NOT_HAD          /* over: what is open is to be closed */
+};
+
+/* Takes what the system says of the task, and puts the next one there. A try that is over begins anew. */
+void dconfdb_taking_answered(DconfdbTaking *taking, const DconfdbStood *stood);
+
 /* The wait for a lock that others may have, or for a file. */
 typedef struct {
     uint32_t stage, fault;
@@ -801,14 +952,16 @@ void dconfdb_notice_begin(DconfdbNotice *notice);
 /* Gives the step; `until` is the moment of a rest, or 0. */
 uint32_t dconfdb_notice_next(const DconfdbNotice *notice, uint64_t *until);
 
-/* What was heard since the last time, at any time, also amid a step, and that time passed. Where somebody asks for a look, the step is
- * no rest. */
-void dconfdb_notice_heard(DconfdbNotice *notice, uint32_t event, uint64_t now);
-uint32_t dconfdb_notice_asked(DconfdbNotice *notice, uint32_t event, uint64_t now);
+/* What happened. */
+enum {
+    DCONFDB_NOTICE_HEARD, /* that event was heard since the last time */
+    DCONFDB_NOTICE_ASKED, /* the same, and somebody asks for a look: so the step is no rest */
+    DCONFDB_NOTICE_TIME,  /* time passed: where not all is watched, only a listener minds */
+    DCONFDB_NOTICE_ANEW   /* the files are others, which were opened */
+};
 
-/* Time passed: where not all is watched, only a listener minds. The files are others, which were opened. */
-void dconfdb_notice_passed(DconfdbNotice *notice, bool listens, uint64_t now);
-void dconfdb_notice_opened_anew(DconfdbNotice *notice, uint64_t now);
+/* At any time, also amid a step; and that time passed. Gives the step. */
+uint32_t dconfdb_notice_told(DconfdbNotice *notice, uint32_t what, uint32_t event, bool listens, uint64_t now);
 
 /* When the next step is due: a moment that is over is at once. */
 uint64_t dconfdb_notice_due(const DconfdbNotice *notice, bool listens);
@@ -865,6 +1018,7 @@ typedef struct {
     bool is_let_go;    /* nobody does, and the program goes on */
     bool waits;        /* something waits to be written */
     bool is_in_line;   /* it is in line for its turn */
+    bool has_turn;     /* that has come, or was waited for in vain */
     bool has_untold;
     bool is_to_watch; /* somebody wants to be told of what others change */
     bool is_asked;    /* somebody wants a write to be tried now */
@@ -878,6 +1032,7 @@ enum {
     DCONFDB_ROUND_TELL,
     DCONFDB_ROUND_WATCH,
     DCONFDB_ROUND_LOOK, /* at the files, before a write: what is there already needs no turn */
+    DCONFDB_ROUND_TAKE, /* its turn, or go on waiting for it: is it had? */
     DCONFDB_ROUND_WRITE,
     DCONFDB_ROUND_LEAVE,  /* the line, since nothing waits any longer; it isn't to try again */
     DCONFDB_ROUND_RESTS,  /* over: until something happens */
@@ -933,6 +1088,8 @@ typedef struct {
     bool is_other;       /* what was handed out is another than before */
     bool waits;          /* changes wait to be written */
     bool has_same_files; /* the store that was opened has the files of the one before */
+    bool is_barred;      /* another thread has the turn to look */
+    bool is_amid;        /* that one changes the files: what it has seen in its turn is the newest */
 } DconfdbGlance;
 
 /* The task that is due after that one. */
@@ -941,9 +1098,10 @@ uint32_t dconfdb_glance_after(uint32_t task, const DconfdbGlance *known);
 /* How many milliseconds there are until the first of two moments. False, and `wait` as it was, where neither is one. */
 bool dconfdb_sleep_until(uint64_t again, uint64_t look, uint64_t now, uint64_t *wait);
 
-/* How long it is waited until all is written: {0, each, 0} at first. */
+/* How long it is waited until all is written: all is 0 at first but `each`. */
 typedef struct {
     uint64_t end, each, latest;
+    DconfdbFileTime changed;
 } DconfdbPatience;
 
 /* What was written meanwhile. */
@@ -955,8 +1113,9 @@ typedef struct {
     uint64_t moved;   /* when the thread that writes did, or was to try again; UINT64_MAX: nobody minds */
 } DconfdbProgress;
 
-/* It begins now: so long; or another program had a turn: as long again, up to a minute. */
-void dconfdb_patience_renew(DconfdbPatience *patience, uint64_t now);
+/* It begins now: so long. Or it goes on: as long again, up to a minute, if another program had a turn since the last call, by when the folder was
+ * changed, in which a turn makes and renames a file. */
+void dconfdb_patience_renew(DconfdbPatience *patience, const DconfdbFileTime *changed, uint64_t now);
 
 /* Whether it is waited on: not all is settled, no later try has failed by a fault that lasts, the time isn't over, and the thread moved
  * within two seconds. */
@@ -1016,22 +1175,76 @@ enum {
 
 uint32_t dconfdb_tell_next(const DconfdbTelling *known);
 
+/* What is known of a change that the D-Bus service is called for, and of those that wait. */
+typedef struct {
+    uint64_t size;                  /* how many bytes it was sent in */
+    uint64_t waiting, waiting_size; /* how many changes wait, and how many bytes they have together */
+    uint64_t names;                 /* how many databases are in use */
+    uint32_t said;                  /* by dconfdb_failing_met, of the fault by which it can't be written */
+    bool is_used;                   /* its database is in use */
+    bool is_normal;                 /* its bytes are in normal form */
+    bool has_edits;                 /* something of it is to be made */
+    bool is_written;                /* what can be made of it, and of those that are written with it, is on the disk */
+    bool is_closed;                 /* nobody with the rights of this process may write there */
+} DconfdbServed;
+
+/* What was done with it. */
+enum {
+    DCONFDB_SERVED_CAME,
+    DCONFDB_SERVED_READ,
+    DCONFDB_SERVED_TRIED
+};
+
+/* What becomes of it then. */
+enum {
+    DCONFDB_SERVED_GOES_ON, /* it is read, or waits to be written */
+    DCONFDB_SERVED_ACKNOWLEDGED,
+    DCONFDB_SERVED_FAILED,  /* the fault is answered by which it isn't written */
+    DCONFDB_SERVED_CLOSED,  /* .. or why nobody with these rights may write there */
+    DCONFDB_SERVED_ODD,     /* its bytes aren't in normal form, and too many to be brought into it */
+    DCONFDB_SERVED_TOO_LARGE,
+    DCONFDB_SERVED_TOO_MUCH, /* too much waits */
+    DCONFDB_SERVED_TOO_MANY_NAMES
+};
+
+uint32_t dconfdb_served_after(uint32_t done, const DconfdbServed *known);
+
 /* ---- changes that wait. Each key and each edit has a number; an edit's is 1 or more, and greater than those of older ones. */
 
 /* The number of the newest edit of a key; 0 if none waits. `puts`: the edit `number` is it from then on; and if that goes, the one that was it
  * before is so again. */
 size_t dconfdb_newest(size_t *newest, size_t keys, size_t key, bool puts, size_t number);
 
-/* What becomes of a change when it was tried to write all that waits. */
+/* An edit that waits: its number, and that no other edit is of its change. */
+typedef struct {
+    size_t number;
+    bool is_alone;
+} DconfdbWaitingEdit;
+
+/* What becomes of a change that waits. */
 enum {
-    DCONFDB_FATE_WAITS, /* before all that was set since */
-    DCONFDB_FATE_WRITTEN,
+    DCONFDB_FATE_WAITS,   /* in its place */
+    DCONFDB_FATE_WRITTEN, /* or there already */
     DCONFDB_FATE_REFUSED,
-    DCONFDB_FATE_OVERTAKEN /* a later one sets its key, and goes on waiting: nobody sees that it goes */
+    DCONFDB_FATE_OVERTAKEN, /* a later one sets its key, and goes on waiting: nobody sees that it goes */
+    DCONFDB_FATE_RENEWED    /* it waits behind all others */
 };
 
-/* Of a change that has this edit, beside the newest edit of its key that goes on waiting; 0 where there is none. */
-uint32_t dconfdb_waiting_fate(bool is_written, bool is_refused, size_t number, bool is_alone, size_t newest, bool newest_is_alone);
+/* A change in its place in the line, where what was set first is the first, and what is known of it. A new one is put behind all others. */
+typedef struct {
+    uintptr_t change;                /* the caller's */
+    DconfdbWaitingEdit edit, newest; /* its first edit, and the newest of the same key; 0 where there is none */
+    uint32_t fate;                   /* it is written here */
+    bool is_tried;                   /* it was tried to write it */
+    bool is_refused;                 /* that was, for a fault of its own */
+    bool asks;                       /* when it was set nobody knew whether it changes anything */
+    bool is_there;                   /* all of it is there by the newest files, and nothing else waits for its keys */
+    bool is_renewed;                 /* it was set once more, and nobody writes it: it counts as set now */
+} DconfdbWaiter;
+
+/* What becomes of each. `is_written`: what was tried is written, but for what is refused. Those that wait in their places are the first of the
+ * line from then on, in their order, and it gives how many they are. Behind them the others are in any order. */
+size_t dconfdb_waiting_line(DconfdbWaiter *line, size_t count, bool is_written);
 
 /* ---- which paths were set last */
 
@@ -1065,11 +1278,6 @@ uint32_t dconfdb_note_seen(const DconfdbTime *notes, size_t n, const DconfdbSeen
 uint32_t dconfdb_note_made(const DconfdbTime *notes, size_t n, const DconfdbTime *made, size_t made_n, uint64_t now, DconfdbTime *room,
                            size_t room_len, size_t *len);
 
-/* The newest notes: at most so many, that take so many bytes. The oldest go, and one note says of all paths below "/" that they were
- * set by the latest of their times. They are handed out as dconfdb_list does. MEMORY, and then nothing is written. */
-uint32_t dconfdb_newest_notes(const DconfdbTime *notes, size_t n, size_t most, size_t most_bytes, DconfdbTime *room, size_t room_len,
-                              size_t *len);
-
 /* The moment in which a change counts as made that was asked for in this one, beside all edits that wait, each with its moment; those of one
  * moment are one change. It is the same; or the turn's, which is the last of all moments, if the change resets a directory, or sets something
  * in one that is reset with it. */
@@ -1082,17 +1290,23 @@ uint64_t dconfdb_time_of_moment(uint64_t now, uint64_t boot, uint64_t moment, ui
 /* The time that stands for when a file was changed that nobody noted, by when it was written, and when it got its name. */
 uint64_t dconfdb_time_of_file(uint64_t written, uint64_t touched);
 
+/* A file of notes has no more bytes. */
+enum { DCONFDB_MOST_NOTED = 1 << 20 };
+
 /* The notes that a file's bytes are. The first is of the turn in which they were written: its `value` is how many of
  * the others are of files that were left, which come next, and those that were set come after them. There is none
- * where the bytes are no such file's, or not whole. They are handed out as dconfdb_list does; the paths are lent from
- * the bytes. What dconfdb_notes_written wrote is read again. MEMORY, and then nothing is written. */
+ * where the bytes are no such file's, or not whole, or more than DCONFDB_MOST_NOTED. They are handed out as dconfdb_list does; the paths are
+ * lent from the bytes. What dconfdb_notes_written wrote is read again. MEMORY, and then nothing is written. */
 uint32_t dconfdb_notes_read(const uint8_t *bytes, size_t bytes_len, DconfdbTime *room, size_t room_len, size_t *len);
 
-/* The bytes of a file of these notes, of which the first is of the turn. Where there are more than `most`, or they take
- * more than `most_bytes`, one note stands for all that were set: it says of all paths below "/" that they were set
+/* The newest notes of what was set: as many as there is room for in a file. The oldest go, and one note says of all paths below "/" that they were
+ * set by the latest of their times. They are handed out as dconfdb_list does. MEMORY, and then nothing is written. */
+uint32_t dconfdb_newest_notes(const DconfdbTime *notes, size_t n, DconfdbTime *room, size_t room_len, size_t *len);
+
+/* The bytes of a file of these notes, of which the first is of the turn. Where there are too many, or they take
+ * too many bytes, one note stands for all that were set: it says of all paths below "/" that they were set
  * by the latest of their times. They are handed out as dconfdb_list does. MEMORY, and then nothing is written. */
-uint32_t dconfdb_notes_written(const DconfdbTime *notes, size_t n, size_t most, size_t most_bytes, uint8_t *room, size_t room_len,
-                               size_t *len);
+uint32_t dconfdb_notes_written(const DconfdbTime *notes, size_t n, uint8_t *room, size_t room_len, size_t *len);
 
 /* ---- files as those who noted what they set left them: bytes of records, the newest first, that programs share */
 
@@ -1106,10 +1320,10 @@ enum {
 /* The file of that name, whose first record counts. The bytes may be anybody's. */
 uint32_t dconfdb_left_state(const uint8_t *left, size_t left_len, const uint8_t *name, size_t name_len, const DconfdbFileStamp *file);
 
-/* Those that were left with this one in front, if it is there; so many at most, and the oldest go. Gives how many bytes they take: these
+/* Those that were left with this one in front, if it is there: as many as are kept, and the oldest go. Gives how many bytes they take: these
  * are written if the room has so many. */
 size_t dconfdb_with_left(const uint8_t *left, size_t left_len, const uint8_t *name, size_t name_len, const DconfdbFileStamp *file,
-                         bool is_synced, size_t most, uint8_t *room, size_t room_len);
+                         bool is_synced, uint8_t *room, size_t room_len);
 
 /* A number for the value that a layer has at a path, locked or not: of its type and its bytes. 0: there is none, or it is no key's path. */
 uint64_t dconfdb_value_number(const DconfdbLayer *layer, const uint8_t *path, size_t path_len);
@@ -1151,8 +1365,9 @@ enum {
 };
 
 /* The setting is read, in which a lock hides what waits; or the user's own value (`of_user`), locked or not; or what there is without that
- * (`of_default`). Of both at once there is nothing. */
-uint32_t dconfdb_found(bool of_user, bool of_default, const DconfdbKnown *known);
+ * (`of_default`). Of both at once there is nothing. `is_odd`: who reads the setting passes over a value of another type, so that dconfdb_told is to
+ * be asked for the key by that type. */
+uint32_t dconfdb_found(bool of_user, bool of_default, const DconfdbKnown *known, bool *is_odd);
 
 /* Whether an edit may be made. `is_open`: somebody may write in the user's database. `may_write`: its path may be written, or, of a
  * directory that is reset, whatever. */
@@ -1171,7 +1386,7 @@ uint32_t dconfdb_relocked(const DconfdbLayer *before, size_t before_n, const Dco
                           bool is_writable, bool same_others, uint8_t *room, size_t room_len, size_t *len);
 
 /* Whether a path may be written, a key's or all that is below a directory: `writable`, the first layer is the user's, and no lock covers it. A
- * path that doesn't start with `/` is locked by nobody. MEMORY, and then nothing is written. */
+ * path that doesn't start with `/` is locked by nobody. MEMORY, and then it may not; a key that may takes none. */
 uint32_t dconfdb_may_write(const DconfdbLayer *layers, size_t count, bool writable, const uint8_t *path, size_t path_len, bool *may);
 
 /* Whether one of two paths is the other, or a directory above it. */
@@ -1191,8 +1406,8 @@ enum {
 
 /* Which path is wanted. */
 enum {
-    DCONFDB_PATH_WANTED, /* any */
-    DCONFDB_KEY_WANTED,
+    DCONFDB_PATH_WANTED, /* any, as of what is reset */
+    DCONFDB_KEY_WANTED,  /* as of what is set */
     DCONFDB_DIRECTORY_WANTED
 };
 
@@ -1211,8 +1426,9 @@ enum {
 /* Of the row `other`. `sets`: the path is set. `is_database`: the set has values alone, and a key that is reset has no row. */
 uint32_t dconfdb_row_effect(const uint8_t *path, size_t path_len, bool sets, bool is_database, const uint8_t *other, size_t other_len);
 
-/* How many bytes the longest directory has in which both paths are, of at most so many; 0 where there is none. With the same path twice, and
- * fewer bytes than it has, it is the next directory above it. */
+/* How many bytes the longest path has that covers both, of at most so many; 0 where there is none. Of two that is the directory in which both
+ * are. Of one path twice it is the path; and, with fewer bytes than it has, the next directory above it: so a set of changes is asked for the row
+ * that says a key's word, with one byte less each time, until it has the row. */
 size_t dconfdb_shared_within(const uint8_t *path, size_t path_len, size_t most, const uint8_t *other, size_t other_len);
 
 /* What is known of the path of a change to a database. */
@@ -1237,9 +1453,45 @@ enum {
 /* Which one is asked once so many were asked, and said nothing. `sets`: the greatest number. */
 size_t dconfdb_asked_after(size_t sets, size_t asked);
 
-/* Whether the files are as they were when they were looked at: all that happens to them is told to this process (`is_own`), and nothing
- * has been. */
-bool dconfdb_is_current(bool is_watched, bool is_told, bool is_own);
+/* What a set says of a path for which a change asks. */
+typedef struct {
+    bool says;      /* it says something, */
+    bool is_same;   /* which is what the change says */
+    bool has_below; /* it sets a key below the path */
+} DconfdbSaid;
+
+/* Whether the user has what a change says, or will have once the sets are written, which come as dconfdb_asked_after asks them. `is_stored`: the
+ * store has it. */
+bool dconfdb_is_said(const DconfdbSaid *said, size_t count, bool is_stored);
+
+/* Who asks for the files. */
+enum {
+    DCONFDB_LOOKER_SEES,    /* who wants to see what they are */
+    DCONFDB_LOOKER_CHANGES, /* who changes a setting */
+    DCONFDB_LOOKER_GETS,    /* who reads one */
+    DCONFDB_LOOKER_OPENS    /* who wants no more than the store */
+};
+
+/* What is known of them. */
+typedef struct {
+    uint64_t until;  /* when whoever watches them looks again of itself; 0: once something is told */
+    bool is_open;    /* a store is open */
+    bool is_watched; /* somebody watches them, and looks when something happens */
+    bool is_whole;   /* all that happens to them is told, */
+    bool is_told;    /* something may have been that nobody has looked at yet */
+    bool is_own;     /* it is told to this process */
+    bool is_busy;    /* the program itself replaces one of them */
+} DconfdbLookKnown;
+
+/* What becomes of a look. */
+enum {
+    DCONFDB_LOOK_NEVER, /* none is needed */
+    DCONFDB_LOOK_OPENS, /* the store is opened */
+    DCONFDB_LOOK_NOW,
+    DCONFDB_LOOK_LATER /* once the file is replaced; till then what was seen before is what there is */
+};
+
+uint32_t dconfdb_look_due(uint32_t looker, const DconfdbLookKnown *known);
 
 /* What is done with a change whose caller waits for it, in this order. */
 enum {
@@ -1257,7 +1509,8 @@ enum {
 typedef struct {
     bool is_empty;      /* it asks for nothing */
     bool is_refused;    /* it sets a key that may not be written */
-    bool has_user;      /* there is a user's database, */
+    bool has_store;     /* a store is open, */
+    bool has_user;      /* which has a user's database, */
     bool is_there;      /* which has all that the change asks for */
     bool is_left;       /* something is left of it to be put */
     bool is_news;       /* the user has something else by it */
@@ -1268,6 +1521,18 @@ typedef struct {
 
 /* The task that is due after that one, by its answer. */
 uint32_t dconfdb_changing_after(uint32_t task, bool yes, const DconfdbChanging *known);
+
+/* An edit that was tried to write, and what is known of it then. */
+typedef struct {
+    bool is_written;  /* all changes are made but for those that are refused */
+    bool is_refused;  /* its change is */
+    bool is_left_out; /* it is left out of its change */
+    bool is_now;      /* it counts as set when it is made: nobody has set its path since */
+    bool is_there;    /* the user has what it says */
+} DconfdbTried;
+
+/* Whether it is not made: whoever was told of it is told again. */
+bool dconfdb_is_unmade(const DconfdbTried *edit);
 
 /* ---- keyfiles and lock files, line by line */
 
@@ -1328,6 +1593,36 @@ enum {
 /* Of a file of so many bytes, of which these are there: all that a text has, or the first of another file. `is_one_read`: of the files that
  * are asked for, `update` reads one of the same folder NAME.d. Before anything is read of it, its role alone says whether it is to be. */
 uint32_t dconfdb_read_as(uint32_t role, bool is_one_read, uint64_t size, const uint8_t *text, size_t len);
+
+/* A key that is set, or a lock, and what the installed schemas have of it. */
+typedef struct {
+    uint32_t what;
+    bool is_known;         /* one has the key, or a key below the directory */
+    bool has_schemas;      /* one is at the key's directory */
+    bool may_be_elsewhere; /* one without a path has a key of that name; of a directory, there is one */
+    bool is_slip;          /* it is a slip away from where one has such a key */
+    bool has_value;        /* it is set to a value */
+    bool is_taken;         /* .. which one of the keys takes */
+    bool is_of_type;       /* .. and that is of the first one's type */
+} DconfdbFinding;
+
+enum {
+    DCONFDB_OF_KEY,
+    DCONFDB_OF_LOCKED_KEY,
+    DCONFDB_OF_LOCKED_DIRECTORY
+};
+
+/* What is found wrong with it. */
+enum {
+    DCONFDB_FINDING_NOTHING,
+    DCONFDB_FINDING_NO_KEY,
+    DCONFDB_FINDING_NO_LOCKED_KEY,
+    DCONFDB_FINDING_NO_LOCKED_DIRECTORY,
+    DCONFDB_FINDING_OTHER_TYPE,
+    DCONFDB_FINDING_NOT_TAKEN
+};
+
+uint32_t dconfdb_finding(const DconfdbFinding *known);
 
 #ifdef __cplusplus
 }

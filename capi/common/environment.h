@@ -11,10 +11,22 @@
 /* What the system's answer of a user takes, at most. */
 enum { ROOM_OF_PASSWD = 65536 };
 
-/* The variables that say where a store is, each once. */
-enum { STORE_VARIABLE, CONFIG_VARIABLE, HOME_VARIABLE, PROFILE_VARIABLE, VARIABLES };
+/* The variables that say where a store is, each once; the first four are all that our own kind of store asks. */
+enum {
+    STORE_VARIABLE,
+    CONFIG_VARIABLE,
+    HOME_VARIABLE,
+    PROFILE_VARIABLE,
+    OWN_VARIABLES,
+    RUNTIME_VARIABLE = OWN_VARIABLES,
+    CACHE_VARIABLE,
+    DATA_VARIABLE,
+    DCONFS_VARIABLE,
+    VARIABLES
+};
 
-static const char *const variables[VARIABLES] = {"DCONFDB_STORE", "XDG_CONFIG_HOME", "HOME", "DCONFDB_PROFILE"};
+static const char *const variables[VARIABLES] = {"DCONFDB_STORE",   "XDG_CONFIG_HOME", "HOME",          "DCONFDB_PROFILE",
+                                                 "XDG_RUNTIME_DIR", "XDG_CACHE_HOME",  "XDG_DATA_DIRS", "DCONF_PROFILE"};
 
 static inline DconfdbBytes environment_variable(int variable)
 {
@@ -23,6 +35,7 @@ static inline DconfdbBytes environment_variable(int variable)
     return value ? (DconfdbBytes){(const uint8_t *)value, strlen(value)} : nothing;
 }
 
+/* Without what the machine's file says. */
 static inline DconfdbEnvironment environment_now(void)
 {
     return (DconfdbEnvironment){
@@ -31,6 +44,9 @@ static inline DconfdbEnvironment environment_now(void)
         .config = environment_variable(CONFIG_VARIABLE),
         .home = environment_variable(HOME_VARIABLE),
         .profile = environment_variable(PROFILE_VARIABLE),
+        .runtime = environment_variable(RUNTIME_VARIABLE),
+        .cache = environment_variable(CACHE_VARIABLE),
+        .machine = DCONFDB_NOTHING,
     };
 }
 

@@ -11,6 +11,7 @@
 #include <stdlib.h>
 #include <sys/mman.h>
 #include <sys/stat.h>
+#include <time.h>
 #include <unistd.h>
 
 /* What is read of a file first, whose rest may not be wanted. */
@@ -113,58 +114,87 @@ static uint32_t try_open(void *it, int *fault)
     return DCONFDB_TRIED_FILE;
 }
 
-/* Opens a regular file. What has the name is looked at before: a state of later might be that of a newer file, which would never be
- * read; and a pipe or a device is not opened, since who writes into it would notice. */
-static int open_file(Opening *opening, FileState *state)
+/* Whoever has a lease on it is waited for. */
+static int open_file(Opening *opening)
 {
-    struct stat found;
-    uint32_t told;
-    int fault = fstatat(opening->folder, opening->name, &found, 0) != 0 ? errno : 0;
+    int fault = 0;
+    uint32_t tried = try_open(opening, &fault);
+    return fault == 0 ? 0 : try_on(DCONFDB_WAIT_FOR_LEASE, tried, fault, try_open, opening);
+}
+
+/* How a file is read, as the proved call has it of what stat() found, and what that was. */
+typedef struct {
+    DconfdbStood stood;
+    uint32_t kind, told;
+} Standing;
+
+/* The same facts have the same answer, and aren't asked of again. */
+static void ask(Standing *it, const struct stat *found, int fault)
+{
+    DconfdbStood stood = file_stood(found, fault);
+    if (fault == 0 && stood.mode == it->stood.mode && stood.size == it->stood.size)
+        return;
+    it->stood.fault = stood.fault;
+    it->stood.mode = stood.mode;
+    it->stood.size = stood.size;
+    it->kind = dconfdb_standing(DCONFDB_TO_READ, &it->stood, &it->told);
+}
+
+/* What an open file holds. */
+static int take_file(int file, const Standing *it, FileWanted *is_wanted, FileBytes *bytes)
+{
+    size_t size = (size_t)it->stood.size;
+    switch (it->kind) {
+    case DCONFDB_IS_GOOD: return read_bytes(file, size, bytes);
+    case DCONFDB_IS_MAPPED: return map_bytes(file, size, bytes);
+    case DCONFDB_IS_HEAD: return read_head_first(file, is_wanted, size, bytes);
+    default: return (int)it->told; /* 0 if there are no bytes */
+    }
+}
+
+/* The state of what was looked at. */
+static void note_state(FileState *state, const struct stat *found, int fault)
+{
     *state = missing;
     if (fault == 0)
-        *state = file_state_of(&found);
+        *state = file_state_of(found);
     else
         state->is_there = file_fault(DCONFDB_TO_LOOK, fault) != 0;
-    DconfdbStood stood = file_stood(&found, fault);
-    if (dconfdb_standing(DCONFDB_TO_OPEN, &stood, &told) != DCONFDB_IS_GOOD)
-        return (int)told;
-    return try_for(DCONFDB_WAIT_FOR_LEASE, 0, try_open, opening);
 }
 
-/* The bytes and the state of an open file. */
-static int take_file(int file, bool maps, FileWanted *is_wanted, size_t most, FileBytes *bytes, FileState *state)
+/* The bytes and the state of a file that was opened. */
+static int read_open(int file, Standing *it, FileWanted *is_wanted, FileBytes *bytes, FileState *state)
 {
     struct stat found;
-    uint32_t told;
     int fault = fstat(file, &found) != 0 ? errno : 0;
-    DconfdbStood stood = file_stood(&found, fault);
-    stood.most = most;
-    stood.may_map = maps;
-    stood.may_stop = is_wanted != NULL;
     if (fault == 0)
         *state = file_state_of(&found);
-    switch (dconfdb_standing(DCONFDB_TO_READ, &stood, &told)) {
-    case DCONFDB_IS_GOOD: return read_bytes(file, (size_t)stood.size, bytes);
-    case DCONFDB_IS_MAPPED: return map_bytes(file, (size_t)stood.size, bytes);
-    case DCONFDB_IS_HEAD: return read_head_first(file, is_wanted, (size_t)stood.size, bytes);
-    default: return (int)told; /* 0 if there are no bytes */
-    }
-}
-
-int file_read(int folder, const char *name, bool maps, FileWanted *is_wanted, size_t most, FileBytes *bytes, FileState *state)
-{
-    Opening opening = {folder, -1, name};
-    *bytes = (FileBytes){NULL, 0, false};
-    int fault = open_file(&opening, state);
-    if (opening.file < 0) {
-        int told = file_fault(DCONFDB_TO_LOOK, fault);
-        state->is_there = state->is_there && told != 0;
-        return told;
-    }
-    fault = take_file(opening.file, maps, is_wanted, most, bytes, state);
-    close(opening.file);
+    ask(it, &found, fault);
+    fault = take_file(file, it, is_wanted, bytes);
     if (fault != 0)
         file_release(bytes);
+    return fault;
+}
+
+/* What has the name is looked at before it is opened: a state of later might be that of a newer file, which would never be read; and a pipe or
+ * a device is not opened, since who writes into it would notice. */
+int file_read(int folder, const char *name, bool maps, FileWanted *is_wanted, size_t most, FileBytes *bytes, FileState *state)
+{
+    struct stat found;
+    Opening opening = {folder, -1, name};
+    Standing standing = {.stood = {.most = most, .may_map = maps, .may_stop = is_wanted != NULL}};
+    *bytes = (FileBytes){NULL, 0, false};
+    int fault = fstatat(folder, name, &found, 0) != 0 ? errno : 0;
+    note_state(state, &found, fault);
+    ask(&standing, &found, fault);
+    fault = standing.kind == DCONFDB_IS_FAULT ? (int)standing.told : open_file(&opening);
+    if (fault != 0) {
+        fault = file_fault(DCONFDB_TO_LOOK, fault);
+        state->is_there = state->is_there && fault != 0;
+        return fault;
+    }
+    fault = read_open(opening.file, &standing, is_wanted, bytes, state);
+    close(opening.file);
     return fault;
 }
 

@@ -3,6 +3,7 @@
 #define _GNU_SOURCE
 #define _FILE_OFFSET_BITS 64
 #include "folders.h"
+#include "handed.h"
 #include "stood.h"
 
 #include <dirent.h>
@@ -15,13 +16,6 @@
 #include <string.h>
 #include <sys/stat.h>
 #include <unistd.h>
-
-/* How many names are tried. */
-#ifndef MOST_TRIES
-#define MOST_TRIES 100
-#endif
-
-enum { OWN = 0700 };
 
 /* Only gone through, not read. */
 enum { ON_THE_WAY = O_PATH | O_NOFOLLOW | O_CLOEXEC, TO_READ = O_RDONLY | O_DIRECTORY | O_CLOEXEC };
@@ -72,27 +66,39 @@ static bool is_empty(int folder)
     return is;
 }
 
+/* Makes one with the bits that a folder has at first. */
+static int make_by(int above, const char *name)
+{
+    DconfdbMadeFile made = {.is_root = false};
+    return mkdirat(above, name, handed_at_first(DCONFDB_MADE_FOLDER, &made)) != 0 ? errno : 0;
+}
+
 /* The folder that root made in another's is that one's. He may have put another one in its place meanwhile, which root keeps, unless it
  * is as the new one: root's, there, and empty. Such a one he could have removed and made himself. */
 static int hand_over(int made, const struct stat *above)
 {
     struct stat found;
+    DconfdbMadeFile it = {.wanted = owner_of(above)};
     if (fstat(made, &found) != 0)
         return errno;
-    if (found.st_uid != 0 || found.st_dev != above->st_dev || !is_empty(made))
-        return EACCES;
-    return fchownat(made, "", above->st_uid, above->st_gid, AT_EMPTY_PATH) != 0 ? errno : 0;
+    it.is_beside = found.st_dev == above->st_dev;
+    it.is_empty = is_empty(made);
+    return handed_over(made, DCONFDB_MADE_FOLDER, &it);
 }
 
 /* Makes a folder with a name that nobody has. */
 static int make_unnamed(int above, char *name, size_t size)
 {
-    int fault = EEXIST;
-    for (int n = 0; fault == EEXIST && n < MOST_TRIES; n++) {
-        snprintf(name, size, ".dconfdb-%ld-%d", (long)getpid(), n);
-        fault = mkdirat(above, name, OWN) != 0 ? errno : 0;
-    }
-    return fault;
+    DconfdbStood stood;
+    uint32_t is, told;
+    uint64_t tried = 0;
+    do {
+        snprintf(name, size, ".dconfdb-%ld-%d", (long)getpid(), (int)tried);
+        stood = file_stood(NULL, make_by(above, name));
+        stood.tried = tried++;
+        is = dconfdb_standing(DCONFDB_TO_MAKE_NAMED, &stood, &told);
+    } while (is == DCONFDB_IS_OTHER);
+    return (int)told;
 }
 
 /* What has the name keeps it, but for an empty folder, if the file system has no such rename. */
@@ -123,15 +129,25 @@ static int make_theirs(int above, const struct stat *found, const char *name)
     return fault;
 }
 
+/* By its name, or, in another's folder, for him. Gives 0, or errno. */
+static int make_in(int above, const char *name)
+{
+    struct stat found;
+    uint32_t told;
+    DconfdbStood stood = file_stood(&found, fstat(above, &found) != 0 ? errno : 0);
+    stood.is_root = is_root();
+    switch (dconfdb_standing(DCONFDB_TO_MAKE_IN, &stood, &told)) {
+    case DCONFDB_IS_GOOD: return make_by(above, name);
+    case DCONFDB_IS_OTHER: return make_theirs(above, &found, name);
+    default: return (int)told;
+    }
+}
+
 /* Makes a folder that is missing, so that its name is on the disk. Another program may do so at the same time. */
 static int make_one(int above, const char *name)
 {
-    struct stat found;
-    if (fstat(above, &found) != 0)
-        return errno;
     uint32_t told;
-    DconfdbStood stood = file_stood(NULL, 0);
-    stood.fault = (uint32_t)(is_root() && found.st_uid != 0 ? make_theirs(above, &found, name) : mkdirat(above, name, OWN) != 0 ? errno : 0);
+    DconfdbStood stood = file_stood(NULL, make_in(above, name));
     return dconfdb_standing(DCONFDB_TO_MAKE, &stood, &told) == DCONFDB_IS_GOOD ? sync_folder(above) : (int)told;
 }
 
@@ -139,32 +155,29 @@ static int make_one(int above, const char *name)
 
 /* How a path is gone through. */
 typedef struct {
-    bool makes; /* what is missing */
-    int links;  /* how many were followed */
+    bool makes;    /* what is missing */
+    uint64_t links; /* how many were followed */
 } Way;
 
 static int walk(Way way, int from, char *path, int *end);
 
-/* Whether a link of this folder is followed: 0, or the errno that is told. Root follows one only if nobody else can have put it there. */
-static int fault_of_link(int folder)
+/* Whether a link of this folder is followed: 0, or the errno that is told. */
+static int fault_of_link(Way way, int folder)
 {
     struct stat found;
     uint32_t told;
-    int fault = fstat(folder, &found) != 0 ? errno : 0;
-    DconfdbStood stood = file_stood(&found, fault);
+    DconfdbStood stood = file_stood(&found, fstat(folder, &found) != 0 ? errno : 0);
     stood.is_root = is_root();
+    stood.tried = way.links;
     dconfdb_standing(DCONFDB_TO_FOLLOW, &stood, &told);
     return (int)told;
 }
 
-/* Where a link leads, nothing is made. */
 static int follow(Way way, int from, int link, int *to)
 {
-    int fault = fault_of_link(from);
+    int fault = fault_of_link(way, from);
     if (fault != 0)
         return fault;
-    if (way.links == MOST_LINKS)
-        return ELOOP;
     char *target = malloc(PATH_MAX);
     if (!target)
         return ENOMEM;
@@ -172,7 +185,7 @@ static int follow(Way way, int from, int link, int *to)
     fault = len < 0 ? errno : 0;
     if (fault == 0) {
         target[len] = 0;
-        fault = walk((Way){false, way.links + 1}, from, target, to);
+        fault = walk((Way){way.makes, way.links + 1}, from, target, to);
     }
     free(target);
     return fault;
@@ -181,27 +194,37 @@ static int follow(Way way, int from, int link, int *to)
 static int enter_link(Way way, int from, const char *name, int *to)
 {
     struct stat found;
+    uint32_t told;
     int link = openat(from, name, ON_THE_WAY);
     if (link < 0)
         return errno;
-    int fault = fstat(link, &found) != 0 ? errno : S_ISLNK(found.st_mode) ? follow(way, from, link, to) : ENOTDIR;
+    DconfdbStood stood = file_stood(&found, fstat(link, &found) != 0 ? errno : 0);
+    int fault = dconfdb_standing(DCONFDB_TO_READ_LINK, &stood, &told) == DCONFDB_IS_GOOD ? follow(way, from, link, to) : (int)told;
     close(link);
     return fault;
 }
 
-/* Opens a folder of this name. */
-static int enter(Way way, int from, const char *name, int *to)
+/* Opens a folder of this name, and gives what comes of it. */
+static uint32_t open_on_way(Way way, int from, const char *name, int *to, uint32_t *told)
 {
     *to = openat(from, name, ON_THE_WAY | O_DIRECTORY);
-    if (*to < 0 && errno == ENOENT && way.makes) {
+    DconfdbStood stood = file_stood(NULL, *to < 0 ? errno : 0);
+    stood.may_make = way.makes;
+    stood.tried = way.links;
+    return dconfdb_standing(DCONFDB_TO_ENTER, &stood, told);
+}
+
+/* What is made is opened as any other. */
+static int enter(Way way, int from, const char *name, int *to)
+{
+    uint32_t told, is = open_on_way(way, from, name, to, &told);
+    if (is == DCONFDB_IS_NOTHING) {
         int fault = make_one(from, name);
         if (fault != 0)
             return fault;
-        *to = openat(from, name, ON_THE_WAY | O_DIRECTORY);
+        is = open_on_way((Way){false, way.links}, from, name, to, &told);
     }
-    if (*to >= 0)
-        return 0;
-    return errno == ENOTDIR ? enter_link(way, from, name, to) : errno;
+    return is == DCONFDB_IS_OTHER ? enter_link(way, from, name, to) : (int)told;
 }
 
 static char *without_slashes(char *path)
@@ -260,23 +283,30 @@ static bool is_itself(int opened, const char *path)
     return len > 0 && (size_t)len == strlen(path) && memcmp(place, path, (size_t)len) == 0;
 }
 
-/* Root goes through a path only if a link may be on the way. */
-int folder_open(const char *folder, int *opened)
+/* By each name of its path. */
+static int open_by_names(const char *folder, int *opened)
 {
-    int end;
-    *opened = open(folder, TO_READ);
-    if (!is_root())
-        return *opened < 0 ? errno : 0;
-    if (*opened >= 0 && is_itself(*opened, folder))
-        return 0;
-    if (*opened >= 0)
-        close(*opened);
-    int fault = walk_to(false, folder, &end);
+    int end, fault = walk_to(false, folder, &end);
     if (fault != 0)
         return fault;
     fault = reopen(end, opened);
     close(end);
     return fault;
+}
+
+/* Root alone asks where it has come. */
+int folder_open(const char *folder, int *opened)
+{
+    uint32_t told;
+    *opened = open(folder, TO_READ);
+    DconfdbStood stood = file_stood(NULL, *opened < 0 ? errno : 0);
+    stood.is_root = is_root();
+    stood.is_named = stood.is_root && *opened >= 0 && is_itself(*opened, folder);
+    if (dconfdb_standing(DCONFDB_TO_OPEN_FOLDER, &stood, &told) != DCONFDB_IS_OTHER)
+        return (int)told;
+    if (*opened >= 0)
+        close(*opened);
+    return open_by_names(folder, opened);
 }
 
 int folder_make(const char *folder)

@@ -2,11 +2,6 @@
 #ifndef FOLDERS_H
 #define FOLDERS_H
 
-/* How many links are followed on a way. */
-#ifndef MOST_LINKS
-#define MOST_LINKS 40
-#endif
-
 /* Opens a folder. EACCES: this is root, and on the way is a link that another could have put there. */
 int folder_open(const char *folder, int *opened);
 

@@ -5,6 +5,7 @@
 #include "dconfdb_calls.h"
 #include "files.h"
 #include "folders.h"
+#include "handed.h"
 #include "held.h"
 #include "stood.h"
 #include "tries.h"
@@ -17,16 +18,6 @@
 #include <sys/stat.h>
 #include <unistd.h>
 
-/* How often others may make or remove the lock's file while it is being opened. */
-#ifndef MOST_TRIES
-#define MOST_TRIES 100
-#endif
-
-/* How often others may fork while it is being opened, until that counts as a moment in which others have the lock. */
-enum { MOST_FORKS = 10 };
-
-enum { READ_AND_WRITE = 0600 };
-
 /* Opened to be written, since a network's file system can lock no other file. No link is followed, and no pipe waited
  * for. */
 enum { HOW = O_RDWR | O_CLOEXEC | O_NOFOLLOW | O_NONBLOCK | O_NOCTTY };
@@ -38,6 +29,7 @@ enum { HOW = O_RDWR | O_CLOEXEC | O_NOFOLLOW | O_NONBLOCK | O_NOCTTY };
 static pthread_mutex_t listing = PTHREAD_MUTEX_INITIALIZER;
 static FolderLock *first;
 static unsigned long forks; /* how many there were */
+static int unheeded; /* why none is heeded, an errno, or 0 */
 
 static void before_fork(void)
 {
@@ -50,16 +42,23 @@ static void after_fork(void)
     pthread_mutex_unlock(&listing);
 }
 
-static void close_both(const FolderLock *lock)
+static void close_one(int *file)
 {
-    close(lock->file);
-    close(lock->folder);
+    if (*file >= 0)
+        close(*file);
+    *file = NO_FOLDER;
+}
+
+static void close_both(FolderLock *lock)
+{
+    close_one(&lock->file);
+    close_one(&lock->folder);
 }
 
 /* LOCK_UN would take it from the parent. */
 static void after_fork_in_child(void)
 {
-    for (const FolderLock *at = first; at; at = at->next)
+    for (FolderLock *at = first; at; at = at->next)
         close_both(at);
     first = NULL;
     pthread_mutex_unlock(&listing);
@@ -67,7 +66,20 @@ static void after_fork_in_child(void)
 
 static void heed_forks(void)
 {
-    pthread_atfork(before_fork, after_fork, after_fork_in_child);
+    unheeded = pthread_atfork(before_fork, after_fork, after_fork_in_child);
+}
+
+/* Where no memory was left for it, it is tried again: a lock that a child keeps would be nobody's. Gives 0, or errno. */
+static int heed_all_forks(void)
+{
+    static pthread_once_t once = PTHREAD_ONCE_INIT;
+    pthread_once(&once, heed_forks);
+    pthread_mutex_lock(&listing);
+    if (unheeded != 0)
+        heed_forks();
+    int fault = unheeded;
+    pthread_mutex_unlock(&listing);
+    return fault;
 }
 
 static unsigned long forks_up_to_now(void)
@@ -105,35 +117,19 @@ static void unlist(const FolderLock *lock)
 
 /* ---- the lock's file */
 
-/* Gives a file that was just made the folder's owner and group, as far as this user may, and opens it to those who may
- * write in the folder. What fails leaves it as it is: some file systems know no owners and bits. */
+/* Gives a file that was just made the folder's owner and group, as far as this user may, and opens it to those who may write in the folder. */
 static void hand_over(int folder, int file)
 {
-    struct stat above, made;
-    if (fstat(folder, &above) != 0 || fstat(file, &made) != 0)
-        return;
-    if (geteuid() == 0 && made.st_uid != above.st_uid && fchown(file, above.st_uid, (gid_t)-1) != 0)
-        return;
-    if (made.st_gid != above.st_gid && fchown(file, (uid_t)-1, above.st_gid) == 0)
-        made.st_gid = above.st_gid;
-    mode_t bits = dconfdb_file_bits(true, above.st_mode, made.st_gid == above.st_gid);
-    if ((made.st_mode & PERMISSION_BITS) != bits)
-        fchmod(file, bits);
+    struct stat above;
+    if (fstat(folder, &above) == 0)
+        handed_over(file, DCONFDB_MADE_LOCK, &(DconfdbMadeFile){.wanted = owner_of(&above)});
 }
 
-/* What has the lock's name is opened, and what becomes of it. */
-static uint32_t open_old(int folder, int *file, int *fault)
+/* With the bits that a lock has at first. */
+static int create(int folder, const char *name, int how)
 {
-    struct stat found;
-    uint32_t told;
-    *file = openat(folder, LOCK_NAME, HOW);
-    *fault = *file < 0 || fstat(*file, &found) != 0 ? errno : 0;
-    DconfdbStood stood = file_stood(&found, *fault);
-    uint32_t is = dconfdb_standing(DCONFDB_TO_LOCK, &stood, &told);
-    *fault = (int)told;
-    if (is != DCONFDB_IS_GOOD && *file >= 0)
-        close(*file);
-    return is;
+    DconfdbMadeFile made = {.is_root = false};
+    return openat(folder, name, HOW | how, handed_at_first(DCONFDB_MADE_LOCK, &made));
 }
 
 /* A file gets the lock's name, if that is free. */
@@ -148,16 +144,27 @@ static int name_lock(int folder, const char *other)
     return fault;
 }
 
+/* Makes a file by a name that nobody has. */
+static int create_renamed(int folder, char *other, size_t size, int *file)
+{
+    DconfdbStood stood;
+    uint32_t is, told;
+    uint64_t tried = 0;
+    do {
+        snprintf(other, size, LOCK_NAME "-%ld-%d", (long)getpid(), (int)tried);
+        *file = create(folder, other, O_CREAT | O_EXCL);
+        stood = file_stood(NULL, *file < 0 ? errno : 0);
+        stood.tried = tried++;
+        is = dconfdb_standing(DCONFDB_TO_MAKE_NAMED, &stood, &told);
+    } while (is == DCONFDB_IS_OTHER);
+    return (int)told;
+}
+
 /* Makes it with another name, where the file system knows no file without one. */
 static int make_renamed(int folder, int *file)
 {
     char other[64];
-    int fault = EEXIST;
-    for (int n = 0; fault == EEXIST && n < MOST_TRIES; n++) {
-        snprintf(other, sizeof other, LOCK_NAME "-%ld-%d", (long)getpid(), n);
-        *file = openat(folder, other, HOW | O_CREAT | O_EXCL, READ_AND_WRITE);
-        fault = *file < 0 ? errno : 0;
-    }
+    int fault = create_renamed(folder, other, sizeof other, file);
     if (fault != 0)
         return fault;
     hand_over(folder, *file);
@@ -165,182 +172,192 @@ static int make_renamed(int folder, int *file)
     if (fault == 0)
         return 0;
     unlinkat(folder, other, 0);
-    close(*file);
+    close_one(file);
     return fault;
 }
 
 static int make_unnamed(int folder, int *file)
 {
-    *file = openat(folder, ".", HOW | O_TMPFILE, READ_AND_WRITE);
+    *file = create(folder, ".", O_TMPFILE);
     if (*file < 0)
         return errno;
     hand_over(folder, *file);
     if (linkat(*file, "", folder, LOCK_NAME, AT_EMPTY_PATH) == 0)
         return 0;
     int fault = errno;
-    close(*file);
+    close_one(file);
     return fault;
-}
-
-/* Whether it is another's, or others may take it, too. */
-static bool is_for_others(int folder)
-{
-    struct stat above;
-    if (fstat(folder, &above) != 0)
-        return false;
-    return (geteuid() == 0 && above.st_uid != 0) || dconfdb_file_bits(true, above.st_mode, true) != READ_AND_WRITE;
 }
 
 static int make_own(int folder, int *file)
 {
-    *file = openat(folder, LOCK_NAME, HOW | O_CREAT | O_EXCL, READ_AND_WRITE);
+    *file = create(folder, LOCK_NAME, O_CREAT | O_EXCL);
     if (*file < 0)
         return errno;
     hand_over(folder, *file);
     return 0;
 }
 
-/* What others may take has its name only once they may: who is killed before keeps nobody from it. Only what is made here is handed over:
- * another file may have a second name elsewhere. A file system that can do none of that has its own made at once. */
-static int make_new(int folder, int *file)
+/* ---- the tasks of a try, in the order of dconfdb_taking_answered: each gives what the system says of it */
+
+/* A lock that is waited for. */
+typedef struct {
+    const char *folder;
+    bool has_end, is_listed;
+    FolderLock *lock;
+    unsigned long forks; /* how many there were when the folder was opened */
+    DconfdbTaking taking;
+} Awaited;
+
+static void close_awaited(Awaited *awaited)
 {
-    static int (*const makes[])(int folder, int *file) = {make_unnamed, make_renamed, make_own};
-    int fault = EOPNOTSUPP;
-    for (size_t i = is_for_others(folder) ? 0 : 2; fault != 0 && fault != EEXIST && i < 3; i++)
-        fault = makes[i](folder, file);
-    return fault;
+    if (awaited->is_listed)
+        folder_unlock(awaited->lock);
+    close_both(awaited->lock);
+    awaited->is_listed = false;
 }
 
-/* Others may make or remove it meanwhile. */
-static int open_file(int folder, int *file)
+static DconfdbStood open_folder(Awaited *awaited)
 {
-    int fault = EEXIST;
-    for (int i = 0; fault == EEXIST && i < MOST_TRIES; i++) {
-        if (open_old(folder, file, &fault) == DCONFDB_IS_NOTHING)
-            fault = make_new(folder, file);
-    }
-    return fault;
+    close_awaited(awaited);
+    awaited->forks = forks_up_to_now();
+    int fault = folder_open(awaited->folder, &awaited->lock->folder);
+    if (fault != 0)
+        awaited->lock->folder = NO_FOLDER;
+    return file_stood(NULL, fault);
 }
 
-static int open_unlisted(const char *folder, FolderLock *lock)
+static DconfdbStood make_folder(Awaited *awaited)
 {
-    int fault = folder_open(folder, &lock->folder);
-    if (fault == 0 && (fault = open_file(lock->folder, &lock->file)) != 0)
-        close(lock->folder);
-    return fault;
+    return file_stood(NULL, folder_make(awaited->folder));
 }
 
-/* Opens both, and lists them. What a child of fork() may have, too, is opened anew: the lock would be that child's, too. */
-static int open_both(const char *folder, FolderLock *lock)
+/* What has the lock's name is opened. */
+static DconfdbStood open_old(Awaited *awaited)
 {
-    for (int i = 0; i < MOST_FORKS; i++) {
-        unsigned long before = forks_up_to_now();
-        int fault = open_unlisted(folder, lock);
-        if (fault != 0 || list(lock, before))
-            return fault;
-        close_both(lock);
-    }
-    return EWOULDBLOCK;
+    struct stat found;
+    FolderLock *lock = awaited->lock;
+    lock->file = openat(lock->folder, LOCK_NAME, HOW);
+    int fault = lock->file < 0 || fstat(lock->file, &found) != 0 ? errno : 0;
+    if (fault != 0)
+        close_one(&lock->file);
+    return file_stood(&found, fault);
 }
 
-/* ---- the wait */
+static DconfdbStood look_above(Awaited *awaited)
+{
+    struct stat above;
+    DconfdbStood stood = file_stood(&above, fstat(awaited->lock->folder, &above) != 0 ? errno : 0);
+    stood.is_root = geteuid() == 0;
+    return stood;
+}
+
+static DconfdbStood make_unnamed_first(Awaited *awaited)
+{
+    return file_stood(NULL, make_unnamed(awaited->lock->folder, &awaited->lock->file));
+}
+
+static DconfdbStood make_renamed_first(Awaited *awaited)
+{
+    return file_stood(NULL, make_renamed(awaited->lock->folder, &awaited->lock->file));
+}
+
+static DconfdbStood make_at_once(Awaited *awaited)
+{
+    return file_stood(NULL, make_own(awaited->lock->folder, &awaited->lock->file));
+}
+
+/* What a child of fork() may have, too, isn't listed: the lock would be that child's, too. */
+static DconfdbStood list_it(Awaited *awaited)
+{
+    awaited->is_listed = list(awaited->lock, awaited->forks);
+    return file_stood(NULL, awaited->is_listed ? 0 : EAGAIN);
+}
+
+/* Waits in the kernel if there is no end. */
+static DconfdbStood lock_it(Awaited *awaited)
+{
+    int how = awaited->has_end ? LOCK_EX | LOCK_NB : LOCK_EX, fault;
+    do
+        fault = flock(awaited->lock->file, how) != 0 ? errno : 0;
+    while (fault == EINTR);
+    return file_stood(NULL, fault);
+}
 
 static bool is_same(const struct stat *one, const struct stat *other)
 {
     return one->st_dev == other->st_dev && one->st_ino == other->st_ino;
 }
 
-/* What is known of a lock that is held: its names, the folder's and its own, may be another's after the wait. */
-static DconfdbStood held(const char *folder, const FolderLock *lock)
+/* Its names, the folder's and its own, may be another's after the wait. */
+static DconfdbStood look_at_names(Awaited *awaited)
 {
+    const FolderLock *lock = awaited->lock;
     struct stat named, opened, file = {0};
-    bool has_folder = stat(folder, &named) == 0 && fstat(lock->folder, &opened) == 0 && is_same(&named, &opened);
+    bool has_folder = stat(awaited->folder, &named) == 0 && fstat(lock->folder, &opened) == 0 && is_same(&named, &opened);
     bool has_name = fstatat(lock->folder, LOCK_NAME, &named, AT_SYMLINK_NOFOLLOW) == 0 && fstat(lock->file, &file) == 0 && is_same(&named, &file);
     DconfdbStood stood = file_stood(&file, 0);
     stood.is_named = has_folder && has_name;
     return stood;
 }
 
-/* A lock that is waited for. */
-typedef struct {
-    const char *folder;
-    bool has_end, is_open;
-    FolderLock *lock;
-} Awaited;
-
-static int open_awaited(Awaited *awaited)
-{
-    int fault = open_both(awaited->folder, awaited->lock);
-    if (fault == ENOENT && (fault = folder_make(awaited->folder)) == 0)
-        fault = open_both(awaited->folder, awaited->lock);
-    awaited->is_open = fault == 0;
-    return fault;
-}
-
-/* Waits in the kernel if there is no end. */
-static int lock_it(const Awaited *awaited)
-{
-    int how = awaited->has_end ? LOCK_EX | LOCK_NB : LOCK_EX;
-    while (flock(awaited->lock->file, how) != 0) {
-        if (errno != EINTR)
-            return errno;
-    }
-    return 0;
-}
-
-static void close_awaited(Awaited *awaited)
-{
-    if (awaited->is_open)
-        folder_unlock(awaited->lock);
-    awaited->is_open = false;
-}
-
 /* A file with another name may be anybody's, and what is noted in it would be written there, too: it loses the lock's name, while it is
  * locked, so that nobody else has his turn by it. */
-static int take_name(const FolderLock *lock)
+static DconfdbStood take_name(Awaited *awaited)
 {
-    return unlinkat(lock->folder, LOCK_NAME, 0) != 0 ? file_fault(DCONFDB_TO_LOOK, errno) : 0;
+    return file_stood(NULL, unlinkat(awaited->lock->folder, LOCK_NAME, 0) != 0 ? errno : 0);
 }
 
-/* Opens it, if it isn't open, and locks it. */
-static uint32_t take(Awaited *awaited, int *fault)
+typedef DconfdbStood Does(Awaited *awaited);
+
+/* A task by its number. */
+static DconfdbStood does(Awaited *awaited)
 {
-    *fault = awaited->is_open ? 0 : open_awaited(awaited);
-    if (*fault != 0)
-        return DCONFDB_TRIED_LOCK_FILE;
-    *fault = lock_it(awaited);
-    return DCONFDB_TRIED_LOCK;
+    static Does *const tasks[DCONFDB_TAKING_HAD] = {
+        [DCONFDB_TAKING_OPEN_FOLDER] = open_folder,
+        [DCONFDB_TAKING_MAKE_FOLDER] = make_folder,
+        [DCONFDB_TAKING_OPEN] = open_old,
+        [DCONFDB_TAKING_LOOK_ABOVE] = look_above,
+        [DCONFDB_TAKING_MAKE_UNNAMED] = make_unnamed_first,
+        [DCONFDB_TAKING_MAKE_RENAMED] = make_renamed_first,
+        [DCONFDB_TAKING_MAKE] = make_at_once,
+        [DCONFDB_TAKING_LIST] = list_it,
+        [DCONFDB_TAKING_LOCK] = lock_it,
+        [DCONFDB_TAKING_LOOK] = look_at_names,
+        [DCONFDB_TAKING_TAKE_NAME] = take_name,
+    };
+    return tasks[awaited->taking.task](awaited);
 }
 
-static uint32_t try_once(Awaited *awaited, int *fault)
-{
-    uint32_t told, tried = take(awaited, fault);
-    if (*fault != 0)
-        return tried;
-    DconfdbStood stood = held(awaited->folder, awaited->lock);
-    uint32_t is = dconfdb_standing(DCONFDB_TO_HOLD, &stood, &told);
-    if (is == DCONFDB_IS_GOOD)
-        return tried;
-    if (is == DCONFDB_IS_OTHER)
-        *fault = take_name(awaited->lock);
-    close_awaited(awaited);
-    return DCONFDB_TRIED_NAME;
-}
+/* ---- the wait */
 
-/* What has moved is tried once more at once: in a wait of no time there is no other try. */
 static uint32_t try_it(void *it, int *fault)
 {
-    uint32_t tried = try_once(it, fault);
-    return tried == DCONFDB_TRIED_NAME && *fault == 0 ? try_once(it, fault) : tried;
+    Awaited *awaited = it;
+    DconfdbTaking *taking = &awaited->taking;
+    DconfdbStood stood = file_stood(NULL, 0);
+    for (dconfdb_taking_answered(taking, &stood); taking->task < DCONFDB_TAKING_HAD; dconfdb_taking_answered(taking, &stood))
+        stood = does(awaited);
+    if (taking->task == DCONFDB_TAKING_NOT_HAD)
+        close_awaited(awaited);
+    *fault = (int)taking->fault;
+    return taking->tried;
+}
+
+static int wait_for_lock(Awaited *awaited, int milliseconds)
+{
+    int fault = heed_all_forks();
+    if (fault != 0)
+        return fault;
+    return try_for(awaited->has_end ? DCONFDB_WAIT_FOR_LOCK : DCONFDB_WAIT_WITHOUT_END, (uint32_t)milliseconds, try_it, awaited);
 }
 
 int folder_lock(const char *folder, int milliseconds, FolderLock *lock)
 {
-    static pthread_once_t once = PTHREAD_ONCE_INIT;
     Awaited awaited = {.folder = folder, .has_end = milliseconds != WITHOUT_END, .lock = lock};
     int cancels = hold_cancellation();
-    pthread_once(&once, heed_forks);
-    int fault = try_for(awaited.has_end ? DCONFDB_WAIT_FOR_LOCK : DCONFDB_WAIT_WITHOUT_END, (uint32_t)milliseconds, try_it, &awaited);
+    lock->folder = lock->file = NO_FOLDER;
+    int fault = wait_for_lock(&awaited, milliseconds);
     if (fault != 0)
         close_awaited(&awaited);
     cancel_as_before(cancels);

@@ -10,14 +10,11 @@
 #include <time.h>
 #include <unistd.h>
 
-/* A longer file is none of ours. What stands in front of what was set takes no more than HEAD, in two notes. */
-enum { LARGEST = 1 << 20, HEAD = 4096, HEAD_NOTES = 2 };
+/* In front of what was set stand two notes. */
+enum { HEAD_NOTES = 2 };
 
 /* The room that is made first: for so many bytes, and times. */
 enum { FEW_BYTES = 1024, FEW_TIMES = 4 };
-
-/* The files that were left take no more bytes. */
-enum { LEFT_ROOM = 4096 };
 
 /* Two clocks are read at once if no more than so many nanoseconds pass meanwhile; else again, so often. */
 enum { MOST_BETWEEN = 50000, MOST_READS = 20 };
@@ -183,23 +180,19 @@ static ssize_t read_once(int lock, char *room, size_t size)
     return got;
 }
 
-/* Of a file that can't be read, or is too long, nothing. False: no memory is left. */
+/* Of a file that can't be read nothing, and of one that is too long more than there may be. False: no memory is left. */
 static bool read_text(Order *order, int lock)
 {
     ssize_t got = 0;
     size_t wanted = 0;
-    order->size = 0;
-    order->stood = SIZE_MAX;
     do {
         if (!has_bytes_for(&order->text, &order->room, wanted))
             return false;
         got = read_once(lock, order->text, order->room);
         wanted = order->room + 1;
-    } while (got == (ssize_t)order->room && wanted <= LARGEST + 1);
-    if (got >= 0 && got < (ssize_t)order->room)
-        order->stood = (size_t)got;
-    if (order->stood <= LARGEST)
-        order->size = order->stood;
+    } while (got == (ssize_t)order->room && wanted <= DCONFDB_MOST_NOTED + 1);
+    order->size = got < 0 ? 0 : (size_t)got;
+    order->stood = got >= 0 && got < (ssize_t)order->room ? (size_t)got : SIZE_MAX;
     return true;
 }
 
@@ -307,7 +300,7 @@ static bool keep_newest(Order *order)
 {
     size_t most, len = 0;
     if (!begin_notes(order, 1, &most)
-        || dconfdb_newest_notes(order->times, order->count, MOST_NOTES - HEAD_NOTES, LARGEST - HEAD, order->others, most, &len) != DCONFDB_OK
+        || dconfdb_newest_notes(order->times, order->count, order->others, most, &len) != DCONFDB_OK
         || len > most)
         return false;
     end_notes(order, len);
@@ -345,19 +338,30 @@ static size_t bytes_of_notes(Order *order, const DconfdbTime *all, size_t count)
     do {
         if (!has_bytes_for(&order->next, &order->next_room, len))
             return 0;
-        if (dconfdb_notes_written(all, count, MOST_NOTES, LARGEST, (uint8_t *)order->next, order->next_room, &len) != DCONFDB_OK)
+        if (dconfdb_notes_written(all, count, (uint8_t *)order->next, order->next_room, &len) != DCONFDB_OK)
             return 0;
     } while (len > order->next_room);
     return len;
 }
 
+/* Puts the file of that name in front of those that were left: their bytes, in `next_left`. False: no memory is left. */
+static bool put_left(Order *order, const char *name, const FileState *left, bool is_synced, DconfdbBytes *files)
+{
+    size_t size = 0;
+    do {
+        if (!has_bytes_for(&order->next_left, &order->left_room, size))
+            return false;
+        size = dconfdb_with_left(order->left.at, order->left.len, (const uint8_t *)name, strlen(name), left, is_synced, (uint8_t *)order->next_left,
+                                 order->left_room);
+    } while (size > order->left_room);
+    *files = (DconfdbBytes){(const uint8_t *)order->next_left, size};
+    return true;
+}
+
 void order_write(Order *order, int lock, const char *name, const FileState *left, bool is_synced)
 {
-    uint8_t room[LEFT_ROOM];
-    size_t size = dconfdb_with_left(order->left.at, order->left.len, (const uint8_t *)name, strlen(name), left, is_synced, MOST_LEFT, room,
-                                    sizeof room);
-    DconfdbBytes files = {room, size};
-    if (size > sizeof room || !keep_newest(order) || !has_room_for(order, HEAD_NOTES + order->count))
+    DconfdbBytes files;
+    if (!put_left(order, name, left, is_synced, &files) || !keep_newest(order) || !has_room_for(order, HEAD_NOTES + order->count))
         return;
     size_t len = bytes_of_notes(order, order->others, all_notes(order, order->others, &files));
     if (len > 0)
@@ -370,6 +374,7 @@ void order_end(Order *order)
     free(order->notes);
     free(order->text);
     free(order->next);
+    free(order->next_left);
     free(order->own);
     free(order->times);
     free(order->others);

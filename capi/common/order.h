@@ -12,10 +12,6 @@
 #include "dconfdb_calls.h"
 #include "files.h"
 
-/* So many notes there are, and so many files that were left stand in one of them. Where there would be more, one note says of
- * all databases of the folder that they were set by then. */
-enum { MOST_NOTES = 8192, MOST_LEFT = 64 };
-
 /* All bits 0 at first. What it holds is of one turn, and its memory stays for the next. */
 typedef struct {
     uint64_t now, moment;        /* the same, as a time and by order_clock() */
@@ -27,6 +23,8 @@ typedef struct {
     char *text, *next, *own;      /* the bytes of the lock's file, which lend paths; room for those that it gets; the turn's own paths */
     size_t size, room, next_room; /* how many are taken, of how many there may be */
     size_t own_len, own_room;
+    char *next_left; /* the files that are left next */
+    size_t left_room;
     size_t stood;            /* how many there are, or SIZE_MAX */
     struct OrderRoom *rooms; /* where the turn's own paths had no room */
 } Order;

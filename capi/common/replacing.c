@@ -2,6 +2,7 @@
 #define _GNU_SOURCE
 #define _FILE_OFFSET_BITS 64
 #include "replacing.h"
+#include "handed.h"
 #include "stood.h"
 
 #include <errno.h>
@@ -12,31 +13,10 @@
 #include <sys/stat.h>
 #include <unistd.h>
 
-/* The last of the names NAME~1, NAME~2 and so on. */
-#ifndef MOST_ASIDE
-#define MOST_ASIDE 999
-#endif
-
-/* Gives the file its owner and group, as far as this program may. Whoever can't give it its group gives it other bits. */
-static int give(int file, const struct stat *made, const Replacing *it, mode_t *mode)
+/* What is known of the new file: for whom it is. */
+static DconfdbMadeFile made_for(const Replacing *it, size_t bits)
 {
-    if (geteuid() == 0)
-        return (made->st_uid != it->user || made->st_gid != it->group) && fchown(file, it->user, it->group) != 0 ? errno : 0;
-    bool has_group = made->st_gid == it->group || fchown(file, (uid_t)-1, it->group) == 0;
-    *mode = dconfdb_file_bits(false, *mode, has_group);
-    return 0;
-}
-
-/* Gives the file the permission bits, too, whatever the umask: after its group, so that no other has them for a moment. */
-static int hand_over(const Replacing *it, mode_t mode)
-{
-    struct stat made;
-    if (fstat(it->file, &made) != 0)
-        return errno;
-    int fault = give(it->file, &made, it, &mode);
-    if (fault != 0)
-        return fault;
-    return (made.st_mode & PERMISSION_BITS) != mode && fchmod(it->file, mode) != 0 ? errno : 0;
+    return (DconfdbMadeFile){.wanted = {it->user, it->group, (uint32_t)bits}};
 }
 
 static DconfdbOldFile old_file(const struct stat *old, const FileState *read)
@@ -62,31 +42,24 @@ static int look_at_old(const Replacing *it, bool keeps, const FileState *read, D
     return 0;
 }
 
-/* Whose the folder is, and which group a new file of it has at first. */
+/* Whose the folder is, and whether it hands on its group. */
 static int look_above(Replacing *it, DconfdbFileOwner *above)
 {
     struct stat found;
     if (fstat(it->folder, &found) != 0)
         return errno;
     *above = (DconfdbFileOwner){found.st_uid, found.st_gid};
-    it->first_group = (found.st_mode & S_ISGID) != 0 ? found.st_gid : getegid();
+    it->above = found.st_gid;
+    it->gives_group = (found.st_mode & S_ISGID) != 0;
     return 0;
 }
 
 /* A step to another name, which is refused with EEXIST where that is taken. */
 typedef int Moves(int folder, const char *name, const char *aside);
 
-/* A name that is taken by the same file is one that a turn which failed has left. */
 static int by_a_link(int folder, const char *name, const char *aside)
 {
-    struct stat one, other;
-    if (linkat(folder, name, folder, aside, 0) == 0)
-        return 0;
-    int fault = errno;
-    bool is_linked = fault == EEXIST && fstatat(folder, name, &one, AT_SYMLINK_NOFOLLOW) == 0
-        && fstatat(folder, aside, &other, AT_SYMLINK_NOFOLLOW) == 0 && one.st_dev == other.st_dev && one.st_ino == other.st_ino;
-    errno = fault;
-    return is_linked ? 0 : -1;
+    return linkat(folder, name, folder, aside, 0);
 }
 
 static int by_a_rename(int folder, const char *name, const char *aside)
@@ -94,19 +67,37 @@ static int by_a_rename(int folder, const char *name, const char *aside)
     return renameat2(folder, name, folder, aside, RENAME_NOREPLACE);
 }
 
-/* The first other name that is free; it is to be freed, whatever the fault. */
-static int to_other_name(int folder, const char *name, Moves *moves, char **aside)
+static bool is_one_file(int folder, const char *name, const char *aside)
 {
-    size_t size = strlen(name) + sizeof "~999";
-    int fault = EEXIST;
+    struct stat one, other;
+    return fstatat(folder, name, &one, AT_SYMLINK_NOFOLLOW) == 0 && fstatat(folder, aside, &other, AT_SYMLINK_NOFOLLOW) == 0
+        && one.st_dev == other.st_dev && one.st_ino == other.st_ino;
+}
+
+/* One of the names NAME~1, NAME~2 and so on, before which so many were tried. It is asked what has the name only where that is taken. */
+static uint32_t to_next_name(int folder, const char *name, uint32_t purpose, const char *aside, uint64_t tried, uint32_t *told)
+{
+    Moves *moves = purpose == DCONFDB_TO_SET_ASIDE ? by_a_link : by_a_rename;
+    DconfdbStood stood = file_stood(NULL, moves(folder, name, aside) != 0 ? errno : 0);
+    stood.is_named = stood.fault == EEXIST && is_one_file(folder, name, aside);
+    stood.tried = tried;
+    return dconfdb_standing(purpose, &stood, told);
+}
+
+/* The first other name that is free; it is to be freed, whatever the fault. */
+static int to_other_name(int folder, const char *name, uint32_t purpose, char **aside)
+{
+    size_t size = strlen(name) + sizeof "~2147483647";
+    uint32_t is, told;
+    int n = 0;
     *aside = malloc(size);
     if (!*aside)
         return ENOMEM;
-    for (int n = 1; fault == EEXIST && n <= MOST_ASIDE; n++) {
-        snprintf(*aside, size, "%s~%d", name, n);
-        fault = moves(folder, name, *aside) == 0 ? 0 : errno;
-    }
-    return fault;
+    do {
+        snprintf(*aside, size, "%s~%d", name, n + 1);
+        is = to_next_name(folder, name, purpose, *aside, (uint64_t)n++, &told);
+    } while (is == DCONFDB_IS_OTHER);
+    return (int)told;
 }
 
 /* What has the new file's name goes: it is what a program left that was killed. A folder is nobody's that writes here, and
@@ -118,7 +109,7 @@ static int make_room(int folder, const char *new_name)
     DconfdbStood stood = file_stood(NULL, unlinkat(folder, new_name, 0) != 0 ? errno : 0);
     if (dconfdb_standing(DCONFDB_TO_MAKE_ROOM, &stood, &told) != DCONFDB_IS_OTHER)
         return (int)told;
-    int fault = to_other_name(folder, new_name, by_a_rename, &aside);
+    int fault = to_other_name(folder, new_name, DCONFDB_TO_MOVE_ASIDE, &aside);
     free(aside);
     return fault;
 }
@@ -157,11 +148,11 @@ int replacing_look(Replacing *it, bool keeps, const FileState *read, size_t *bit
         fault = look_above(it, &above);
     if (fault != 0)
         return fault;
-    uint32_t answer = dconfdb_owner_and_bits(&old, &above, geteuid() == 0, keeps, &given);
+    fault = (int)dconfdb_owner_and_bits(&old, &above, geteuid() == 0, keeps, &given);
     it->user = given.user;
     it->group = given.group;
     *bits = given.bits + (keeps ? SET_ASIDE : 0);
-    return answer == DCONFDB_OWNER_GIVEN ? 0 : answer == DCONFDB_OWNER_REFUSED ? EACCES : EAGAIN;
+    return fault;
 }
 
 /* It has the rights of its group once it has that. */
@@ -170,8 +161,11 @@ int replacing_create(Replacing *it, size_t bits)
     int fault = make_room(it->folder, it->new_name);
     if (fault != 0)
         return fault;
-    mode_t at_first = dconfdb_file_bits(false, (uint32_t)bits, it->first_group == it->group);
-    it->file = openat(it->folder, it->new_name, O_WRONLY | O_CREAT | O_EXCL | O_CLOEXEC, at_first);
+    DconfdbMadeFile made = made_for(it, bits);
+    made.above = it->above;
+    made.gives_group = it->gives_group;
+    made.made.group = getegid();
+    it->file = openat(it->folder, it->new_name, O_WRONLY | O_CREAT | O_EXCL | O_CLOEXEC, handed_at_first(DCONFDB_MADE_FILE, &made));
     return it->file < 0 ? errno : 0;
 }
 
@@ -188,7 +182,8 @@ int replacing_append(const Replacing *it, const uint8_t *bytes, size_t len, size
 int replacing_sync(Replacing *it, size_t bits, FileState *state)
 {
     struct stat made;
-    int file = it->file, fault = hand_over(it, (mode_t)bits);
+    DconfdbMadeFile handed = made_for(it, bits);
+    int file = it->file, fault = handed_over(file, DCONFDB_MADE_FILE, &handed);
     it->file = NO_FOLDER;
     if (fault == 0 && ((!it->is_unsynced && fsync(file) != 0) || fstat(file, &made) != 0))
         fault = errno;
@@ -201,7 +196,7 @@ int replacing_sync(Replacing *it, size_t bits, FileState *state)
 
 int replacing_set_aside(Replacing *it, size_t *cannot)
 {
-    int fault = to_other_name(it->folder, it->name, by_a_link, &it->aside);
+    int fault = to_other_name(it->folder, it->name, DCONFDB_TO_SET_ASIDE, &it->aside);
     uint32_t answer = dconfdb_fault_answer(DCONFDB_CALL_SET_ASIDE, (uint32_t)fault);
     it->is_aside = fault == 0;
     *cannot = fault != 0 && answer == DCONFDB_ANSWER_NAMELESS;

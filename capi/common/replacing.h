@@ -16,7 +16,8 @@ typedef struct {
     const char *name;
     char new_name[NAME_MAX + sizeof ".new"];
     uid_t user; /* whose the new file is to be */
-    gid_t group, first_group; /* which it is to have, and which it has when it is made */
+    gid_t group, above; /* which it is to have, and which the folder has */
+    bool gives_group; /* that is handed on to what is made in it */
     char *aside; /* the other name of what the name was, if `is_aside` */
     bool is_aside;
     bool is_unsynced; /* nothing is brought to the disk */
@@ -38,7 +39,7 @@ int replacing_append(const Replacing *it, const uint8_t *bytes, size_t len, size
 /* The new file is closed in any case. The state is what it has then; its name and its time change once more. */
 int replacing_sync(Replacing *it, size_t bits, FileState *state);
 
-/* The first of NAME~1 to NAME~999 that is free. `cannot`: what the name is can't be linked. */
+/* The first of NAME~1, NAME~2 and so on that is free. `cannot`: what the name is can't be linked. */
 int replacing_set_aside(Replacing *it, size_t *cannot);
 int replacing_exchange(Replacing *it, FileState *state);
 int replacing_rename(const Replacing *it, FileState *state);

@@ -20,16 +20,15 @@ static void take_pause(size_t nanoseconds)
     nanosleep(&pause, NULL);
 }
 
-/* The time of a try is that at which it began: so the last one begins when all the time is over. */
-int try_for(uint32_t what, uint32_t milliseconds, Tries *tries, void *it)
+/* Goes on from a first try. The time of a try is that at which it began: so the last one begins when all the time is over. */
+static int go_on(uint32_t what, uint32_t milliseconds, uint64_t began, uint32_t tried, int fault, Tries *tries, void *it)
 {
     DconfdbWait wait = {0};
     DconfdbNext next = {0, 0};
-    uint64_t at = moment();
-    uint32_t tried = DCONFDB_TRIED_FILE;
-    int fault = 0;
+    uint64_t at = began;
     dconfdb_wait_begin(&wait, what, milliseconds, at, &next);
-    for (;; dconfdb_wait_answered(&wait, tried, (uint32_t)fault, at, &next)) {
+    for (;;) {
+        dconfdb_wait_answered(&wait, tried, (uint32_t)fault, at, &next);
         at = moment();
         switch (next.kind) {
         case DCONFDB_WAIT_TRY:
@@ -44,4 +43,17 @@ int try_for(uint32_t what, uint32_t milliseconds, Tries *tries, void *it)
             return (int)next.number;
         }
     }
+}
+
+int try_for(uint32_t what, uint32_t milliseconds, Tries *tries, void *it)
+{
+    uint64_t began = moment();
+    int fault = 0;
+    uint32_t tried = tries(it, &fault);
+    return go_on(what, milliseconds, began, tried, fault, tries, it);
+}
+
+int try_on(uint32_t what, uint32_t tried, int fault, Tries *tries, void *it)
+{
+    return go_on(what, 0, moment(), tried, fault, tries, it);
 }

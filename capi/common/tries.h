@@ -11,4 +11,7 @@ typedef uint32_t Tries(void *it, int *fault);
  * or the errno of what failed: of a lock that others had all the time EWOULDBLOCK, and EBUSY where they had a lease on its file. */
 int try_for(uint32_t what, uint32_t milliseconds, Tries *tries, void *it);
 
+/* The same, from when a first try met that fault. */
+int try_on(uint32_t what, uint32_t tried, int fault, Tries *tries, void *it);
+
 #endif

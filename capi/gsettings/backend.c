@@ -36,7 +36,7 @@ static void dconfdb_backend_init(DconfdbBackend *self)
     g_mutex_init(&self->lock);
     waiting_begin(&self->waiting);
     self->subscribed = g_hash_table_new_full(g_str_hash, g_str_equal, g_free, NULL);
-    self->odd = g_hash_table_new_full(g_str_hash, g_str_equal, g_free, g_free);
+    self->odd = g_hash_table_new_full(g_str_hash, g_str_equal, g_free, NULL);
     self->asked = g_hash_table_new(NULL, NULL);
     self->wakes = -1;
     self->last_try = G_MAXUINT64;
@@ -87,13 +87,13 @@ static void __attribute__((destructor)) end_all(void)
     if (!mutex_lock_until(&living_lock, g_get_monotonic_time() + G_USEC_PER_SEC))
         return;
     GSList *all = living;
-    if (all && is_forked(all->data))
-        all = NULL;
     for (GSList *at = all; at; at = at->next)
         g_object_ref(at->data);
     g_mutex_unlock(&living_lock);
-    for (GSList *at = all; at; at = at->next)
-        worker_end(at->data);
+    for (GSList *at = all; at; at = at->next) {
+        if (!is_forked(at->data))
+            worker_end(at->data);
+    }
 }
 
 /* ---- libdconf.so.1 in the same program (catch_up.h) */

@@ -7,9 +7,8 @@
 Change *change_new(size_t most, size_t paths)
 {
     Change *change = g_malloc(sizeof *change + most * (sizeof change->edits[0] + sizeof change->known[0]) + paths);
-    change->link = (GList){.data = change};
     change->moment = 0;
-    change->asks = change->is_taken = false;
+    change->asks = change->is_taken = change->is_refused = false;
     change->count = 0;
     change->most = most;
     change->known = (DconfdbNewEdit *)&change->edits[most];

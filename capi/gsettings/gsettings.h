@@ -6,10 +6,11 @@
 #include "batch.h"
 #include "dconfdb.h"
 #include "dconfdb_calls.h"
-#include "files.h"
 #include "locked.h"
+#include "looked.h"
 #include "order.h"
 #include "place.h"
+#include "profiles.h"
 #include "warned.h"
 #include "watch.h"
 
@@ -40,10 +41,11 @@ typedef struct Edit {
 
 /* Edits of which all are made, or none. */
 typedef struct Change {
-    GList link; /* in the queue that has it */
+    GList link; /* in the queue of those that are written, or have gone */
     uint64_t moment; /* in which it was set, by order_clock() */
     bool asks;       /* nothing is seen otherwise by it: it is there already, unless others have changed it, and nobody noticed */
     bool is_taken;   /* to be written */
+    bool is_refused; /* then, for a fault of its own */
     size_t count, most;
     DconfdbNewEdit *known; /* of each edit, behind them */
     char *room;            /* for the next path */
@@ -52,11 +54,18 @@ typedef struct Change {
 
 /* What waits, also while it is written. */
 typedef struct {
-    GQueue changes;   /* those that nobody writes, the oldest first */
+    GArray *line;     /* of each change a DconfdbWaiter: they are written in that order, which is the proved call's */
+    guint taken;      /* how many of them somebody writes: the first */
     GHashTable *keys; /* a set of edits, one of each key, which has the number of that, by their paths */
     GPtrArray *edits; /* all but those that are left out, by their numbers less one */
     GArray *newest;   /* of each key the number of its newest edit, as the proved calls have it */
 } Waiting;
+
+/* Changes that no longer wait. */
+typedef struct {
+    GQueue changes;
+    guint overtaken; /* so many of them, by one that waits */
+} Gone;
 
 /* With room for so many edits, and so many bytes of their paths, each with a zero byte. */
 Change *change_new(size_t most, size_t paths);
@@ -74,7 +83,7 @@ void changes_free(GQueue *changes);
 void waiting_begin(Waiting *waiting);
 void waiting_end(Waiting *waiting);
 
-/* Nothing began to wait since change_entry(). True: no other change waits, but for those that were taken. */
+/* Nothing began to wait since change_entry(). True: no other change waits, but for those that somebody writes. */
 bool waiting_add(Waiting *waiting, Change *change);
 
 /* The edit that waits, and says what this change does, counts as set now. */
@@ -82,7 +91,8 @@ void waiting_renew(Waiting *waiting, const Change *change);
 
 const Edit *waiting_find(const Waiting *waiting, const char *path);
 
-/* Whether a change waits of which nobody knows whether it changes anything. */
+/* Whether a change waits that nobody writes; and whether nobody knows of one whether it changes anything. */
+bool waiting_is_any(const Waiting *waiting);
 bool waiting_asks(const Waiting *waiting);
 
 /* Forgets those of which the newest snapshot says that all is there, and that nothing else waits for. Gives how many. */
@@ -96,30 +106,23 @@ typedef struct {
     bool is_edited;           /* an edit still waits */
 } Edited;
 
-/* All changes. They are still found until they are forgotten. */
+/* All changes, to be written. They stay in the line, and are still found. */
 GQueue waiting_take(Waiting *waiting);
 
-/* When it was tried to write those that were taken; else both are empty. Of `taken` only those that are written are left: the others
- * wait again, before all that came since, or are overtaken, of which it gives how many there are. So no more of them wait than there are
- * keys, however long that takes. It says what each key's newest edit was, and is now: an array of Edited, by their paths, to be freed;
- * or NULL. */
-GArray *waiting_end_try(Waiting *waiting, GQueue *taken, const GQueue *refused, bool is_written, guint *overtaken);
+/* When it was tried to write those that were taken; `taken` is empty then. Those that are not written wait on in their places, before all that
+ * came since, or are overtaken: so no more of them wait than there are keys, however long that takes. It says what each key's newest edit was,
+ * and is now: an array of Edited, by their paths, to be freed; or NULL. */
+GArray *waiting_end_try(Waiting *waiting, GQueue *taken, bool is_written, Gone *gone);
 
-/* Makes the changes. Those that are refused, each for a fault of its own, move from `changes` to `refused`. What is to be
- * told of that is in `refusal`, if it has a number; it is told too where resets were left out since nobody may write there.
- * False: the others are not written, by no fault of theirs, which is in `fault`. They are to wait. */
-bool changes_write(DconfdbStore *store, const Turn *turn, GQueue *changes, GQueue *refused, DconfdbError *refusal, DconfdbError *fault);
+/* Makes the changes, and marks those that are refused, each for a fault of its own. What is to be told of that is in `refusal`, if it has a
+ * number; it is told too where resets were left out since nobody may write there. False: the others are not written, by no fault of theirs,
+ * which is in `fault`. They are to wait. */
+bool changes_write(DconfdbStore *store, const Turn *turn, const GQueue *changes, DconfdbError *refusal, DconfdbError *fault);
 
 /* ---- the backend */
 
 /* How it comes to its turn (turn.c). */
 typedef struct Wait Wait;
-
-/* The files that may be the profile, as they were at one moment. */
-typedef struct {
-    uint64_t asked; /* by file_clock() */
-    FileState files[2];
-} Profiles;
 
 /* It lives as long as somebody has a reference. GLib keeps one to that which GSETTINGS_BACKEND names. `turn` is
  * taken before `lock`, and neither while a signal is sent, a warning printed, or another program waited for. fork()
@@ -128,7 +131,8 @@ typedef struct {
     GSettingsBackend parent;
     pid_t process; /* differs in a child, after fork() */
     StorePlace place; /* no folder: the environment names none */
-    char *profiles[2];
+    char *names; /* of the store's files; first those that may be the profile, which are so many */
+    int profiles;
     GVariant *types;
 
     GMutex turn;         /* held while files are looked at or changed. It guards: */
@@ -145,7 +149,7 @@ typedef struct {
 
     GMutex lock; /* held for moments. It guards: */
     Waiting waiting;
-    GHashTable *odd; /* keys that were read past a value of another type, and the type that was asked for */
+    GHashTable *odd; /* a set: keys that were read past a value of another type, each behind the type that was asked for and a space */
     guint64 added, settled; /* how many changes ever waited, and how many no longer do */
     guint64 overtaken;      /* of those that do, how many went for a later one of the same key that waits itself */
     guint64 tries, failed;  /* how often a write was tried, and which was the last that failed after others had for long; 0: none */
@@ -188,16 +192,15 @@ void store_begin(DconfdbBackend *self);
 /* Opens it for the first time, if nobody has: the worker does, or whoever needs a snapshot sooner. */
 void store_open(DconfdbBackend *self);
 
-/* Writes what waits, as one change; what is refused is taken back. It goes on waiting while others have their turn, or the
- * disk is full or fails: the worker comes back to it, and anybody else waits for others until then. Gives when the worker is to
- * try it again, or 0. `tries_again`: somebody will; else one failure is told as those that go on. */
-gint64 store_write(DconfdbBackend *self, gint64 end, bool tries_again);
+/* Writes what waits, as one change, in that turn, which it gives back; what is refused is taken back. Where the disk is full or fails it goes on
+ * waiting. Gives when the worker is to try it again, or 0. */
+gint64 store_write(DconfdbBackend *self, const Turn *turn);
 
 /* Looks at the files, where nobody told of them since a set was made: what is older than the set is seen before its turn. What is
  * there already by the newest files is settled without a turn. */
 void store_settle(DconfdbBackend *self);
 
-/* Both, as far as they are due, by who has no worker, or is it. */
+/* Both, as far as they are due, by who has no worker, or is it: it waits for others until then, and one failure is told as those that go on. */
 void store_write_alone(DconfdbBackend *self, gint64 end);
 
 bool store_has_waiting(DconfdbBackend *self);
@@ -240,18 +243,13 @@ void turn_give(DconfdbBackend *self);
 void turn_leave(DconfdbBackend *self);
 
 /* How long something that waits for its turn is waited for. Neither call takes a lock or memory. */
-typedef struct {
-    DconfdbPatience time;
-    DconfdbFileTime changed; /* the folder, then: a turn makes a file in it, and renames it */
-} Patience;
-
-Patience patience_of(const DconfdbBackend *self, gint64 each);
+DconfdbPatience patience_of(const DconfdbBackend *self, gint64 each);
 
 /* Whether it goes on, by what was written: `failed` and `settled` are from now, the others from when the wait began. */
-bool patience_goes_on(const DconfdbPatience *time, guint64 settled, guint64 added, guint64 failed, guint64 tries);
+bool patience_goes_on(const DconfdbPatience *patience, guint64 settled, guint64 added, guint64 failed, guint64 tries);
 
 /* To be called now and then: it is renewed if there was a turn since the last call. */
-void patience_renew(Patience *patience, const DconfdbBackend *self);
+void patience_renew(DconfdbPatience *patience, const DconfdbBackend *self);
 
 /* ---- the thread that writes and watches (worker.c); `lock` is held */
 
@@ -271,7 +269,6 @@ static inline bool is_at_work(const DconfdbBackend *self)
 void know_what_waits(const DconfdbBackend *self, DconfdbRound *known);
 void know_before_write(const DconfdbBackend *self, DconfdbRound *known);
 
-bool worker_is_here(const DconfdbBackend *self);
 void worker_begin(DconfdbBackend *self);
 void worker_wake(DconfdbBackend *self);
 
@@ -303,8 +300,9 @@ void watch_end(DconfdbBackend *self);
 typedef struct {
     DconfdbSnapshot *before, *after;
     bool is_first; /* the store was opened: nobody has seen another one */
-    bool waits_again;        /* what was taken could not be written */
-    GQueue written, refused; /* changes of ours */
+    bool waits_again; /* what was taken could not be written */
+    GQueue taken;     /* changes of ours that are being written */
+    Gone gone;        /* and those that no longer wait */
     GArray *edited;          /* keys that an edit of ours was for; NULL: none */
     char **odd;              /* keys that were read past a value of another type, and that type, each pair in turn; NULL: none */
     GPtrArray *faults;       /* to warn of; NULL: none */

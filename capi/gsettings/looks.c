@@ -1,10 +1,8 @@
 /* A look at the backend's files: what is seen is handed out, and faults are warned of. */
 #define _GNU_SOURCE
 #include "looks.h"
-#include "lists.h"
-#include "notices.h"
 
-#include <stdlib.h>
+#include <string.h>
 
 /* One that says nothing yet: of its text the first byte alone is cleared. */
 void begin_error(DconfdbError *error)
@@ -34,43 +32,20 @@ void warn_once(DconfdbBackend *self, Notice *notice, const DconfdbError *error)
     warned_renew(&self->told, self->store, error, keep, notice);
 }
 
-/* One that can't be looked at isn't there. */
-static Profiles look_at_profiles(const DconfdbBackend *self)
-{
-    Profiles now = {.asked = file_clock()};
-    for (int i = 0; i < 2; i++)
-        file_look(self->profiles[i], &now.files[i]);
-    return now;
-}
-
-static uint32_t profile_sameness(const DconfdbBackend *self, const Profiles *now, int which)
-{
-    return dconfdb_same_file(&self->seen.files[which], &now->files[which], self->seen.asked, false);
-}
-
-/* Whether they have the same databases, by their names. */
-static bool have_same_files(const DconfdbStore *one, const DconfdbStore *other)
-{
-    char *ours = files_of(one), *others = files_of(other);
-    bool have = ours && others && are_same_texts(ours, others);
-    free(ours);
-    free(others);
-    return have;
-}
-
 /* `lock` is held. */
 static char **odd_keys(const DconfdbBackend *self)
 {
     GHashTableIter at;
-    gpointer path, type;
+    gpointer odd;
     guint count = g_hash_table_size(self->odd);
     if (count == 0)
         return NULL;
     char **keys = g_new0(char *, 2 * count + 1);
     g_hash_table_iter_init(&at, self->odd);
-    for (guint i = 0; i < count && g_hash_table_iter_next(&at, &path, &type); i++) {
+    for (guint i = 0; i < count && g_hash_table_iter_next(&at, &odd, NULL); i++) {
+        const char *type = odd, *path = strchr(type, ' ') + 1;
         keys[2 * i] = g_strdup(path);
-        keys[2 * i + 1] = g_strdup(type);
+        keys[2 * i + 1] = g_strndup(type, (size_t)(path - type) - 1);
     }
     return keys;
 }
@@ -78,11 +53,10 @@ static char **odd_keys(const DconfdbBackend *self)
 /* `lock` is held. Hands the newest snapshot to who reads, together with what no longer waits. */
 void hand_newest(DconfdbBackend *self, Notice *notice)
 {
-    guint overtaken;
-    notice->edited = waiting_end_try(&self->waiting, &notice->written, &notice->refused, !notice->waits_again, &overtaken);
+    notice->edited = waiting_end_try(&self->waiting, &notice->taken, !notice->waits_again, &notice->gone);
     notice->odd = odd_keys(self);
-    self->overtaken += overtaken;
-    self->settled += notice->written.length + notice->refused.length;
+    self->overtaken += notice->gone.overtaken;
+    self->settled += notice->gone.changes.length - notice->gone.overtaken;
     g_cond_broadcast(&self->settles);
     notice->before = self->now;
     notice->is_first = !self->has_opened;
@@ -189,10 +163,9 @@ static void carry_out(DconfdbBackend *self, uint32_t task, Looking *it)
 
 bool look(DconfdbBackend *self, Notice *notice)
 {
-    Looking it = {.number = (guint)g_atomic_int_add(&self->looks_begun, 1) + 1, .profiles = look_at_profiles(self), .notice = notice};
+    Looking it = {.number = (guint)g_atomic_int_add(&self->looks_begun, 1) + 1, .profiles = profiles_now(self->names, self->profiles), .notice = notice};
     uint32_t task = DCONFDB_GLANCE_BEGINS;
-    it.known.first = profile_sameness(self, &it.profiles, 0);
-    it.known.second = profile_sameness(self, &it.profiles, 1);
+    profiles_compare(&self->seen, &it.profiles, &it.known);
     it.known.is_open = self->store != NULL;
     while ((task = dconfdb_glance_after(task, &it.known)) < DCONFDB_GLANCE_SEEN)
         carry_out(self, task, &it);

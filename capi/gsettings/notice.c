@@ -13,19 +13,17 @@ enum { NOTICE_ROOM = 256 };
 
 enum { FEW_KEYS = 4 };
 
-/* Whether somebody listens to the path, or to a directory above it. */
-static bool is_subscribed(DconfdbBackend *self, const char *path)
+/* Whether somebody listens to what the path is or is below, or, of a directory, to what is below it. */
+static bool is_listened(DconfdbBackend *self, const char *path)
 {
+    GHashTableIter at;
+    gpointer name;
     bool is = false;
-    char *prefix = g_strdup(path);
     g_mutex_lock(&self->lock);
-    for (size_t len = strlen(prefix); !is && len > 0; len--) {
-        prefix[len] = 0;
-        if (path[len] == 0 || path[len - 1] == '/')
-            is = self->subscribed && g_hash_table_contains(self->subscribed, prefix);
-    }
+    g_hash_table_iter_init(&at, self->subscribed);
+    while (!is && g_hash_table_iter_next(&at, &name, NULL))
+        is = paths_meet(name, path);
     g_mutex_unlock(&self->lock);
-    g_free(prefix);
     return is;
 }
 
@@ -112,7 +110,7 @@ static void send_changed(DconfdbBackend *self, DconfdbTelling *telling, const ch
     telling->has_path = true;
     for (const char *at = paths; telling->has_path; at += strlen(at) + 1) {
         telling->has_path = *at != 0;
-        telling->is_listened = !telling->has_path || is_subscribed(self, at);
+        telling->is_listened = !telling->has_path || is_listened(self, at);
         uint32_t next = dconfdb_tell_next(telling);
         if (next == DCONFDB_TELL_ALL)
             g_settings_backend_path_changed(&self->parent, "/", NULL);
@@ -138,7 +136,7 @@ static void send_writable(DconfdbBackend *self, DconfdbTelling *telling, const c
     telling->has_path = true;
     for (const char *at = paths; telling->has_path; at += strlen(at) + 1) {
         telling->has_path = *at != 0;
-        telling->is_listened = g_str_has_suffix(at, "/") || is_subscribed(self, at);
+        telling->is_listened = is_listened(self, at);
         uint32_t next = dconfdb_tell_next(telling);
         if (next == DCONFDB_TELL_ALL)
             send_writable_of(self, "/");
@@ -195,8 +193,7 @@ void notice_tell(DconfdbBackend *self, Notice *notice)
     g_clear_pointer(&notice->faults, g_ptr_array_unref);
     g_clear_pointer(&notice->edited, g_array_unref);
     g_strfreev(notice->odd);
-    changes_free(&notice->written);
-    changes_free(&notice->refused);
+    changes_free(&notice->gone.changes);
     dconfdb_snapshot_unref(notice->before);
     dconfdb_snapshot_unref(notice->after);
 }

@@ -5,6 +5,8 @@
 #include "lent_value.h"
 #include "seen.h"
 
+#include <string.h>
+
 /* ---- reads */
 
 /* Where nothing is watched, since no main loop has turned, each read may look at the files. */
@@ -67,14 +69,16 @@ static GVariant *take_lent(Source *source, Reads *reads, const char *key)
     return lent_value(g_steal_pointer(&source->now), reads, key);
 }
 
-/* Since only who reads knows the type that is asked for, it is kept which keys are found elsewhere than by who asks for any: a value of
- * another type was passed over. Where their default changes, it is told. */
+/* Since only who reads knows the type that is asked for, it is kept which keys were read past a value of another type, as the proved call says.
+ * Where their default changes, it is told. */
 static void remember_odd(DconfdbBackend *self, const char *key, const GVariantType *expected)
 {
+    char *type = g_variant_type_dup_string(expected);
     g_mutex_lock(&self->lock);
     if (!self->has_ended)
-        g_hash_table_insert(self->odd, g_strdup(key), g_variant_type_dup_string(expected));
+        g_hash_table_add(self->odd, g_strconcat(type, " ", key, NULL));
     g_mutex_unlock(&self->lock);
+    g_free(type);
 }
 
 static bool fits(GVariant *value, const GVariantType *expected)
@@ -83,10 +87,10 @@ static bool fits(GVariant *value, const GVariantType *expected)
 }
 
 /* Where the setting is found, or its default (`of_default`), as the proved call has it. */
-static uint32_t found_of(const Source *source, bool of_default, bool may, bool edit_fits, bool stored_fits)
+static uint32_t found_of(const Source *source, bool of_default, bool may, bool edit_fits, bool stored_fits, bool *is_odd)
 {
     DconfdbKnown known = {source->is_edited, source->value != NULL, source->has_user, may, edit_fits, stored_fits};
-    return dconfdb_found(false, of_default, &known);
+    return dconfdb_found(false, of_default, &known, is_odd);
 }
 
 /* What is there; `stored` is what is stored, if that was read. */
@@ -105,8 +109,9 @@ static GVariant *read_beside(DconfdbBackend *self, Source *source, const char *k
 {
     GVariant *stored = lent_value(source->now ? dconfdb_snapshot_ref(source->now) : NULL, dconfdb_snapshot_read, key);
     bool may = source->now && dconfdb_snapshot_is_writable(source->now, key);
-    uint32_t found = found_of(source, false, may, fits(source->value, expected), fits(stored, expected));
-    if (found != found_of(source, false, may, true, true))
+    bool is_odd;
+    uint32_t found = found_of(source, false, may, fits(source->value, expected), fits(stored, expected), &is_odd);
+    if (is_odd)
         remember_odd(self, key, expected);
     return take_found(source, found, stored, key);
 }
@@ -116,13 +121,14 @@ GVariant *dconfdb_backend_read(GSettingsBackend *backend, const char *key, const
 {
     DconfdbBackend *self = backend_of(backend);
     Source source = source_of(self, key);
+    bool is_odd;
     if (default_value)
-        return take_found(&source, found_of(&source, true, false, false, false), NULL, key);
+        return take_found(&source, found_of(&source, true, false, false, false, &is_odd), NULL, key);
     if (G_UNLIKELY(source.is_edited))
         return read_beside(self, &source, key, expected);
     /* Nearly all reads end here: what is stored is seen, if it is of that type. */
     GVariant *value = take_lent(&source, dconfdb_snapshot_read, key);
-    if (G_LIKELY(found_of(&source, false, false, true, fits(value, expected)) == DCONFDB_FOUND_STORED))
+    if (G_LIKELY(found_of(&source, false, false, true, fits(value, expected), &is_odd) == DCONFDB_FOUND_STORED))
         return value;
     g_variant_unref(value);
     source = source_of(self, key);
@@ -134,7 +140,8 @@ GVariant *dconfdb_backend_read_user_value(GSettingsBackend *backend, const char 
     (void)expected;
     Source source = source_of(backend_of(backend), key);
     DconfdbKnown known = {.waits = source.is_edited, .sets = source.value != NULL, .writable = source.has_user};
-    uint32_t found = dconfdb_found(true, false, &known);
+    bool is_odd;
+    uint32_t found = dconfdb_found(true, false, &known, &is_odd);
     GVariant *value = found == DCONFDB_FOUND_USERS ? take_lent(&source, dconfdb_snapshot_read_user, key)
         : found == DCONFDB_FOUND_EDIT              ? g_steal_pointer(&source.value)
                                                    : NULL;
@@ -149,7 +156,8 @@ gboolean dconfdb_backend_get_writable(GSettingsBackend *backend, const char *nam
     DconfdbBackend *self = backend_of(backend);
     look_if_unwatched(self);
     lock_opened(self);
-    bool is = self->now && is_at_work(self) && seen_is_writable(self->now, name);
+    bool may = self->now && seen_is_writable(self->now, name);
+    bool is = dconfdb_may_be_made((const uint8_t *)name, strlen(name), true, is_at_work(self), may);
     g_mutex_unlock(&self->lock);
     return is;
 }

@@ -22,18 +22,14 @@ bool mutex_lock_until(GMutex *mutex, gint64 end)
 void store_begin(DconfdbBackend *self)
 {
     DconfdbError error = DCONFDB_ERROR_INIT;
-    /* The environment is read now, and not again: the program may change it. The first file is the
-     * profile that is named or the folder's, the second that of all users. */
+    /* The environment is read now, and not again: the program may change it. */
     bool are_all;
-    char *files = place_find(NULL, &self->place, &error) ? place_files(&self->place, &are_all, &error) : NULL;
-    if (!files)
-        place_release(&self->place);
-    self->profiles[0] = g_strdup(files);
-    self->profiles[1] = files ? g_strdup(files + strlen(files) + 1) : NULL;
-    self->has_opened = !files;
-    if (!files)
-        g_warning("%s", error.text);
-    free(files);
+    self->names = place_find(NULL, &self->place, &error) ? place_files(&self->place, &self->profiles, &are_all, &error) : NULL;
+    self->has_opened = !self->names;
+    if (self->names)
+        return;
+    place_release(&self->place);
+    g_warning("%s", error.text);
 }
 
 void store_open(DconfdbBackend *self)
@@ -112,15 +108,18 @@ static bool shows_amid_write(DconfdbBackend *self)
 {
     Notice notice = {.faults = NULL};
     g_mutex_lock(&self->lock);
-    bool is = self->store && is_amid_change(self->store);
-    if (is && !is_shown(self))
+    uint32_t task = DCONFDB_GLANCE_BEGINS;
+    DconfdbGlance known = {.is_barred = true, .is_open = self->store != NULL};
+    known.is_amid = known.is_open && is_amid_change(self->store);
+    known.is_shown = known.is_open && is_shown(self);
+    while ((task = dconfdb_glance_after(task, &known)) < DCONFDB_GLANCE_SEEN)
         hand_newest(self, &notice);
     g_mutex_unlock(&self->lock);
     if (notice.before != notice.after)
         worker_tells(self, &notice);
     else
         notice_tell(self, &notice);
-    return is;
+    return task == DCONFDB_GLANCE_SEEN;
 }
 
 void store_catch_up(DconfdbBackend *self)
@@ -146,8 +145,7 @@ void store_end(DconfdbBackend *self)
     warned_end(&self->told);
     dconfdb_snapshot_unref(self->now);
     dconfdb_store_close(self->store);
-    for (int i = 0; i < 2; i++)
-        g_free(self->profiles[i]);
+    free(self->names);
     place_release(&self->place);
 }
 
@@ -158,5 +156,4 @@ void store_leave(DconfdbBackend *self)
     self->told = (Warned){NULL};
     self->has_worker = false;
     self->wakes = -1;
-    self->is_watching = true; /* its reads look at nothing, as its parent's store isn't its own */
 }

@@ -15,7 +15,7 @@ struct Wait {
     DconfdbFailing failing; /* others have their turn */
     bool has_thread;
     pthread_t thread;
-    int fault;
+    int fault; /* EWOULDBLOCK: it isn't had yet */
     bool is_over; /* the thread's; guarded by `lock` of the backend, as is `fault` until then */
 };
 
@@ -76,6 +76,7 @@ Turn turn_take(DconfdbBackend *self, gint64 end)
     if (!wait) {
         wait = self->wait = g_new0(Wait, 1);
         wait->backend = self;
+        wait->fault = EWOULDBLOCK;
     }
     if (is_over(self, wait, end))
         return (Turn){&wait->lock, wait->fault};
@@ -100,43 +101,30 @@ void turn_give(DconfdbBackend *self)
     g_clear_pointer(&self->wait, g_free);
 }
 
-/* Without a thread it has nothing, and none that waits can be called back: it wakes the worker when it has the turn. */
+/* No thread that waits can be called back: it wakes the worker when it has the turn. */
 void turn_leave(DconfdbBackend *self)
 {
-    if (self->wait && !self->wait->has_thread)
-        g_clear_pointer(&self->wait, g_free);
-    else if (self->wait && is_thread_over(self, self->wait, 0))
+    if (self->wait && (!self->wait->has_thread || is_thread_over(self, self->wait, 0)))
         turn_give(self);
 }
 
 /* ---- how long it is waited for */
 
-static DconfdbFileTime changed_at(const DconfdbBackend *self)
+DconfdbPatience patience_of(const DconfdbBackend *self, gint64 each)
 {
-    FileState folder;
-    if (!self->place.folder || file_look(self->place.folder, &folder) != 0)
-        return (DconfdbFileTime){0, 0};
-    return folder.written;
-}
-
-Patience patience_of(const DconfdbBackend *self, gint64 each)
-{
-    Patience patience = {.time = {.each = (uint64_t)each}, .changed = changed_at(self)};
-    dconfdb_patience_renew(&patience.time, (uint64_t)g_get_monotonic_time());
+    DconfdbPatience patience = {.each = (uint64_t)each};
+    patience_renew(&patience, self);
     return patience;
 }
 
-bool patience_goes_on(const DconfdbPatience *time, guint64 settled, guint64 added, guint64 failed, guint64 tries)
+bool patience_goes_on(const DconfdbPatience *patience, guint64 settled, guint64 added, guint64 failed, guint64 tries)
 {
     DconfdbProgress progress = {settled, added, failed, tries, UINT64_MAX};
-    return dconfdb_patience_goes_on(time, &progress, (uint64_t)g_get_monotonic_time());
+    return dconfdb_patience_goes_on(patience, &progress, (uint64_t)g_get_monotonic_time());
 }
 
-void patience_renew(Patience *patience, const DconfdbBackend *self)
+void patience_renew(DconfdbPatience *patience, const DconfdbBackend *self)
 {
-    DconfdbFileTime changed = changed_at(self);
-    if (changed.seconds == patience->changed.seconds && changed.nanoseconds == patience->changed.nanoseconds)
-        return;
-    patience->changed = changed;
-    dconfdb_patience_renew(&patience->time, (uint64_t)g_get_monotonic_time());
+    DconfdbFileTime changed = folder_written(self->place.folder);
+    dconfdb_patience_renew(patience, &changed, (uint64_t)g_get_monotonic_time());
 }

@@ -87,15 +87,19 @@ static gboolean are_of_one_key(gconstpointer one, gconstpointer other)
     return strcmp(((const Edit *)one)->path, ((const Edit *)other)->path) == 0;
 }
 
-static void move(GQueue *from, GList *change, GQueue *to)
+static DconfdbWaiter *line_of(const Waiting *waiting)
 {
-    g_queue_unlink(from, change);
-    g_queue_push_tail_link(to, change);
+    return (DconfdbWaiter *)(gpointer)waiting->line->data;
+}
+
+static Change *change_at(const Waiting *waiting, guint at)
+{
+    return (Change *)line_of(waiting)[at].change;
 }
 
 void waiting_begin(Waiting *waiting)
 {
-    g_queue_init(&waiting->changes);
+    waiting->line = g_array_sized_new(FALSE, FALSE, sizeof(DconfdbWaiter), 1);
     waiting->keys = g_hash_table_new(hash_of, are_of_one_key);
     waiting->edits = g_ptr_array_new();
     waiting->newest = g_array_sized_new(FALSE, FALSE, sizeof(size_t), 1);
@@ -106,7 +110,9 @@ void waiting_end(Waiting *waiting)
     g_hash_table_destroy(waiting->keys);
     g_ptr_array_unref(waiting->edits);
     g_array_unref(waiting->newest);
-    changes_free(&waiting->changes);
+    for (guint at = 0; at < waiting->line->len; at++)
+        change_free(change_at(waiting, at));
+    g_array_unref(waiting->line);
 }
 
 /* A key's number is its edit's if that has one already. */
@@ -137,29 +143,27 @@ static void put_again(Waiting *waiting)
     g_hash_table_remove_all(waiting->keys);
     g_ptr_array_set_size(waiting->edits, 0);
     g_array_set_size(waiting->newest, 0);
-    for (const GList *at = waiting->changes.head; at; at = at->next) {
-        Change *change = at->data;
+    for (guint at = 0; at < waiting->line->len; at++) {
+        Change *change = change_at(waiting, at);
         for (size_t i = 0; i < change->count; i++)
             change->edits[i].key = key_of(waiting, &change->edits[i]);
         put_change(waiting, change);
     }
 }
 
-bool waiting_add(Waiting *waiting, Change *change)
+bool waiting_is_any(const Waiting *waiting)
 {
-    bool is_first = waiting->changes.length == 0;
-    change->moment = order_clock();
-    g_queue_push_tail_link(&waiting->changes, &change->link);
-    put_change(waiting, change);
-    return is_first;
+    return waiting->line->len > waiting->taken;
 }
 
-void waiting_renew(Waiting *waiting, const Change *change)
+bool waiting_add(Waiting *waiting, Change *change)
 {
-    Change *waits = newest_of(waiting, change->edits[0].key)->change;
-    g_queue_unlink(&waiting->changes, &waits->link);
-    g_queue_push_tail_link(&waiting->changes, &waits->link);
-    waits->moment = order_clock();
+    DconfdbWaiter waiter = {.change = (uintptr_t)change};
+    bool is_first = !waiting_is_any(waiting);
+    change->moment = order_clock();
+    g_array_append_val(waiting->line, waiter);
+    put_change(waiting, change);
+    return is_first;
 }
 
 const Edit *waiting_find(const Waiting *waiting, const char *path)
@@ -172,8 +176,8 @@ const Edit *waiting_find(const Waiting *waiting, const char *path)
 
 bool waiting_asks(const Waiting *waiting)
 {
-    for (const GList *at = waiting->changes.head; at; at = at->next) {
-        if (((const Change *)at->data)->asks)
+    for (guint at = waiting->taken; at < waiting->line->len; at++) {
+        if (change_at(waiting, at)->asks)
             return true;
     }
     return false;
@@ -181,10 +185,14 @@ bool waiting_asks(const Waiting *waiting)
 
 GQueue waiting_take(Waiting *waiting)
 {
-    GQueue taken = waiting->changes;
-    g_queue_init(&waiting->changes);
-    for (GList *at = taken.head; at; at = at->next)
-        ((Change *)at->data)->is_taken = true;
+    GQueue taken = G_QUEUE_INIT;
+    for (waiting->taken = 0; waiting->taken < waiting->line->len; waiting->taken++) {
+        Change *change = change_at(waiting, waiting->taken);
+        change->is_taken = true;
+        change->is_refused = false;
+        change->link = (GList){.data = change};
+        g_queue_push_tail_link(&taken, &change->link);
+    }
     return taken;
 }
 
@@ -233,61 +241,83 @@ static bool is_there_already(const Waiting *waiting, Change *change, const Dconf
     return edits_are_there(change->known, change->count);
 }
 
-guint waiting_settle(Waiting *waiting, const DconfdbSnapshot *now)
-{
-    GQueue settled = G_QUEUE_INIT;
-    for (GList *at = waiting->changes.head, *next; at; at = next) {
-        next = at->next;
-        if (((const Change *)at->data)->asks && is_there_already(waiting, at->data, now))
-            move(&waiting->changes, at, &settled);
-    }
-    guint count = settled.length;
-    if (count > 0)
-        put_again(waiting);
-    changes_free(&settled);
-    return count;
-}
+/* ---- what becomes of them, as the proved call has it */
 
-/* What becomes of a change, none of which is refused. A later one that sets its key, and goes on waiting, is refused where this one would be. */
-static uint32_t fate_of(const Waiting *waiting, const Change *change, bool is_written)
+/* What is known of a change once it was tried to write those that were taken. */
+static DconfdbWaiter known_after_try(const Waiting *waiting, const Change *change)
 {
     const Edit *edit = &change->edits[0], *newest = newest_of(waiting, edit->key);
-    return dconfdb_waiting_fate(is_written, false, edit->number, is_alone(edit), newest ? newest->number : 0, newest && is_alone(newest));
+    return (DconfdbWaiter){.change = (uintptr_t)change,
+                           .edit = {edit->number, is_alone(edit)},
+                           .newest = {newest ? newest->number : 0, newest && is_alone(newest)},
+                           .is_tried = change->is_taken,
+                           .is_refused = change->is_taken && change->is_refused};
 }
 
-/* By what became of each change: those that wait do so again, before all others, and those that are overtaken are freed, of which it
- * gives how many there are. */
-static guint sort_by_fate(Waiting *waiting, GQueue *taken, bool is_written)
+/* Those that wait on are the first, and the others go, but for who waits behind them now. */
+static void settle_line(Waiting *waiting, bool is_written, Gone *gone)
 {
-    GQueue overtaken = G_QUEUE_INIT;
-    for (GList *at = taken->tail, *before; at; at = before) {
-        Change *change = at->data;
-        before = at->prev;
-        switch (fate_of(waiting, change, is_written)) {
-        case DCONFDB_FATE_WAITS:
-            change->is_taken = false;
-            g_queue_unlink(taken, at);
-            g_queue_push_head_link(&waiting->changes, at);
-            break;
-        case DCONFDB_FATE_OVERTAKEN:
-            move(taken, at, &overtaken);
-            break;
-        default:
-            break;
+    DconfdbWaiter *line = line_of(waiting);
+    guint count = waiting->line->len, waits = (guint)dconfdb_waiting_line(line, count, is_written);
+    for (guint at = waits; at < count; at++) {
+        Change *change = (Change *)line[at].change;
+        if (line[at].fate == DCONFDB_FATE_RENEWED) {
+            line[waits++] = line[at];
+            continue;
         }
+        gone->overtaken += line[at].fate == DCONFDB_FATE_OVERTAKEN;
+        change->link = (GList){.data = change};
+        g_queue_push_tail_link(&gone->changes, &change->link);
     }
-    guint count = overtaken.length;
-    changes_free(&overtaken);
+    g_array_set_size(waiting->line, waits);
+}
+
+void waiting_renew(Waiting *waiting, const Change *change)
+{
+    Change *waits = newest_of(waiting, change->edits[0].key)->change;
+    Gone none = {.overtaken = 0};
+    for (guint at = 0; at < waiting->line->len; at++) {
+        Change *one = change_at(waiting, at);
+        line_of(waiting)[at] = (DconfdbWaiter){.change = (uintptr_t)one, .is_renewed = one == waits};
+    }
+    settle_line(waiting, false, &none);
+    waits->moment = order_clock();
+}
+
+guint waiting_settle(Waiting *waiting, const DconfdbSnapshot *now)
+{
+    Gone settled = {.overtaken = 0};
+    for (guint at = 0; at < waiting->line->len; at++) {
+        Change *one = change_at(waiting, at);
+        line_of(waiting)[at] = (DconfdbWaiter){.change = (uintptr_t)one, .asks = one->asks, .is_there = is_there_already(waiting, one, now)};
+    }
+    settle_line(waiting, false, &settled);
+    guint count = settled.changes.length;
+    if (count > 0)
+        put_again(waiting);
+    changes_free(&settled.changes);
     return count;
 }
 
-GArray *waiting_end_try(Waiting *waiting, GQueue *taken, const GQueue *refused, bool is_written, guint *overtaken)
+/* Nobody writes them any longer. */
+static void let_go_of_taken(Waiting *waiting, GQueue *taken)
+{
+    for (const GList *at = taken->head; at; at = at->next)
+        ((Change *)at->data)->is_taken = false;
+    g_queue_init(taken);
+    waiting->taken = 0;
+}
+
+GArray *waiting_end_try(Waiting *waiting, GQueue *taken, bool is_written, Gone *gone)
 {
     GArray *all = edited_of(waiting);
-    bool was_one = taken->length + refused->length > 0;
-    *overtaken = sort_by_fate(waiting, taken, is_written);
-    if (was_one)
+    if (taken->length > 0) {
+        for (guint at = 0; at < waiting->line->len; at++)
+            line_of(waiting)[at] = known_after_try(waiting, change_at(waiting, at));
+        let_go_of_taken(waiting, taken);
+        settle_line(waiting, is_written, gone);
         put_again(waiting);
+    }
     for (guint i = 0; all && i < all->len; i++) {
         Edited *one = &g_array_index(all, Edited, i);
         const Edit *edit = waiting_find(waiting, one->path);
@@ -319,26 +349,24 @@ static Batch batch_of(const GQueue *changes)
     return batch;
 }
 
-/* Tells each edit that it is left out, and takes away the changes that are refused. */
-static void sort_refused(const Batch *batch, GQueue *changes, GQueue *refused)
+/* Tells each edit that it is left out, and each change that it is refused. */
+static void mark_unmade(const Batch *batch, const GQueue *changes)
 {
     size_t first = 0;
-    for (GList *at = changes->head, *next; at; at = next) {
+    for (const GList *at = changes->head; at; at = at->next) {
         Change *change = at->data;
-        next = at->next;
         for (size_t i = 0; i < change->count; i++)
             change->edits[i].is_left_out = batch_is_left_out(batch, first + i);
-        if (change->count > 0 && batch_is_refused(batch, first))
-            move(changes, at, refused);
+        change->is_refused = batch_is_refused(batch, first);
         first += change->count;
     }
 }
 
-bool changes_write(DconfdbStore *store, const Turn *turn, GQueue *changes, GQueue *refused, DconfdbError *refusal, DconfdbError *fault)
+bool changes_write(DconfdbStore *store, const Turn *turn, const GQueue *changes, DconfdbError *refusal, DconfdbError *fault)
 {
     Batch batch = batch_of(changes);
     bool done = batch_write(&batch, store, turn, refusal, fault);
-    sort_refused(&batch, changes, refused);
+    mark_unmade(&batch, changes);
     batch_end(&batch);
     return done;
 }

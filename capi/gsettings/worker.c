@@ -58,7 +58,7 @@ void know_what_waits(const DconfdbBackend *self, DconfdbRound *known)
 {
     known->failed = self->failed;
     known->last_try = self->last_try;
-    known->waits = self->waiting.changes.length > 0;
+    known->waits = waiting_is_any(&self->waiting);
 }
 
 /* Where not all is watched a look comes before a write anyway. */
@@ -75,6 +75,7 @@ static void know_all(DconfdbBackend *self, DconfdbRound *known)
     know_before_write(self, known);
     known->again = (uint64_t)self->again;
     known->is_in_line = self->wait != NULL;
+    known->has_turn = false;
     known->moment = (uint64_t)g_get_monotonic_time();
     known->ends = self->has_ended;
     known->is_let_go = g_atomic_int_get(&self->is_let_go);
@@ -103,11 +104,20 @@ static void look_before_write(DconfdbBackend *self, DconfdbRound *known)
     g_atomic_int_set(&self->is_writing, known->waits || known->is_in_line);
 }
 
-static void write_what_waits(DconfdbBackend *self, DconfdbRound *known)
+static void take_turn(DconfdbBackend *self, DconfdbRound *known, Turn *turn)
 {
     g_atomic_int_set(&self->is_writing, TRUE);
-    self->again = store_write(self, 0, true);
+    *turn = turn_take(self, 0);
+    self->again = turn_next(self);
     know_anew(self, known);
+    known->has_turn = turn->fault != EWOULDBLOCK;
+}
+
+static void write_what_waits(DconfdbBackend *self, DconfdbRound *known, const Turn *turn)
+{
+    self->again = store_write(self, turn);
+    know_anew(self, known);
+    known->has_turn = false;
     g_atomic_int_set(&self->is_writing, known->again != 0 || known->is_in_line);
 }
 
@@ -121,7 +131,7 @@ static void leave_line(DconfdbBackend *self, DconfdbRound *known)
     g_atomic_int_set(&self->is_writing, FALSE);
 }
 
-static void carry_out(DconfdbBackend *self, uint32_t task, DconfdbRound *known)
+static void carry_out(DconfdbBackend *self, uint32_t task, DconfdbRound *known, Turn *turn)
 {
     switch (task) {
     case DCONFDB_ROUND_TELL:
@@ -133,8 +143,11 @@ static void carry_out(DconfdbBackend *self, uint32_t task, DconfdbRound *known)
     case DCONFDB_ROUND_LOOK:
         look_before_write(self, known);
         break;
+    case DCONFDB_ROUND_TAKE:
+        take_turn(self, known, turn);
+        break;
     case DCONFDB_ROUND_WRITE:
-        write_what_waits(self, known);
+        write_what_waits(self, known, turn);
         break;
     default:
         leave_line(self, known);
@@ -145,12 +158,13 @@ static void carry_out(DconfdbBackend *self, uint32_t task, DconfdbRound *known)
 static bool takes_turn(DconfdbBackend *self)
 {
     DconfdbRound known;
+    Turn turn = {NULL, 0};
     uint32_t task = DCONFDB_ROUND_BEGINS;
     g_mutex_lock(&self->lock);
     know_all(self, &known);
     g_mutex_unlock(&self->lock);
     while ((task = dconfdb_round_after(task, &known)) < DCONFDB_ROUND_RESTS)
-        carry_out(self, task, &known);
+        carry_out(self, task, &known, &turn);
     if (task == DCONFDB_ROUND_GIVES_UP)
         g_atomic_int_set(&self->has_given_up, TRUE);
     return task == DCONFDB_ROUND_RESTS;
@@ -197,11 +211,6 @@ static void *work(void *data)
 }
 
 /* ---- `lock` is held */
-
-bool worker_is_here(const DconfdbBackend *self)
-{
-    return self->has_worker && is_at_work(self);
-}
 
 void worker_begin(DconfdbBackend *self)
 {
@@ -260,7 +269,7 @@ void worker_tells(DconfdbBackend *self, Notice *notice)
 
 static bool is_settled(DconfdbBackend *self)
 {
-    if (!g_mutex_trylock(&self->lock))
+    if (!mutex_lock_until(&self->lock, g_get_monotonic_time() + TICK))
         return false;
     bool is = self->settled == self->added;
     g_mutex_unlock(&self->lock);
@@ -310,34 +319,31 @@ static bool has_done_here(DconfdbBackend *self)
 void worker_end(DconfdbBackend *self)
 {
     gint64 now = g_get_monotonic_time();
-    DconfdbProgress progress = {.added = 1, .moved = (uint64_t)now}; /* of which nothing is known without `lock` but that it moved */
-    Patience patience = patience_of(self, LONGEST_END);
+    DconfdbPatience patience = patience_of(self, LONGEST_END);
     if (!mutex_lock_until(&self->lock, now + LONGEST_REST))
         return; /* this very thread has it */
-    bool has_worker = self->has_worker, is_over = false, is_this = has_worker && pthread_equal(self->worker, pthread_self());
+    bool has_worker = self->has_worker, is_this = has_worker && pthread_equal(self->worker, pthread_self());
+    /* Without `lock` nothing more is known of the thread, if there is one, than that it moves, and that it is over. */
+    DconfdbProgress progress = {.added = has_worker, .moved = (uint64_t)now};
     self->has_ended = self->is_asked = true;
     self->last_try = self->tries;
     g_mutex_unlock(&self->lock);
     if (has_worker)
         worker_wake(self);
-    while (has_worker && dconfdb_patience_goes_on(&patience.time, &progress, (uint64_t)now)) {
-        is_over = is_this ? has_done_here(self) : has_done(self);
-        if (is_over)
-            break;
+    while (dconfdb_patience_goes_on(&patience, &progress, (uint64_t)now)) {
+        progress.settled = is_this ? has_done_here(self) : has_done(self);
         patience_renew(&patience, self);
         now = g_get_monotonic_time();
         if (g_atomic_int_get(&self->is_writing))
             progress.moved = (uint64_t)now;
     }
-    if (!is_over || g_atomic_int_get(&self->has_given_up))
-        say_what_waits(self);
+    say_what_waits(self);
 }
 
 /* `lock` is held, and let go of meanwhile: until the thread is over, or a later write than these has failed. */
 static void await_over(DconfdbBackend *self, guint64 tries)
 {
-    DconfdbPatience patience = {.each = LONGEST_END};
-    dconfdb_patience_renew(&patience, (uint64_t)g_get_monotonic_time());
+    DconfdbPatience patience = patience_of(self, LONGEST_END);
     while (patience_goes_on(&patience, self->is_over, 1, self->failed, tries))
         g_cond_wait_until(&self->settles, &self->lock, (gint64)patience.end);
 }

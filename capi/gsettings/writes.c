@@ -47,7 +47,7 @@ static gint64 write_it(DconfdbBackend *self, const Turn *turn, Notice *notice, b
     DconfdbError refusal, fault;
     begin_error(&refusal);
     begin_error(&fault);
-    bool done = changes_write(self->store, turn, &notice->written, &notice->refused, &refusal, &fault);
+    bool done = changes_write(self->store, turn, &notice->taken, &refusal, &fault);
     if (refusal.code != DCONFDB_ERROR_NONE)
         warn_of(notice, refusal.text);
     if (!done)
@@ -66,32 +66,13 @@ static gint64 write_in(DconfdbBackend *self, const Turn *turn, Notice *notice, b
     gint64 again = 0;
     g_mutex_lock(&self->turn);
     g_mutex_lock(&self->lock);
-    notice->written = waiting_take(&self->waiting);
+    notice->taken = waiting_take(&self->waiting);
     self->tries++;
     g_mutex_unlock(&self->lock);
-    if (notice->written.length > 0)
+    if (notice->taken.length > 0)
         again = write_it(self, turn, notice, tries_again);
     g_mutex_unlock(&self->turn);
     return again;
-}
-
-/* Where no worker can be had. What can't be written goes on waiting, and is written with what is set next. */
-static void write_here(DconfdbBackend *self, Notice *notice, gint64 end)
-{
-    FolderLock lock;
-    DconfdbError error = DCONFDB_ERROR_INIT;
-    gint64 left = MAX(end - g_get_monotonic_time(), 0);
-    Turn turn = {&lock, folder_lock(self->place.folder, (int)(left / MILLISECOND), &lock)};
-    if (turn.fault != EWOULDBLOCK) {
-        write_in(self, &turn, notice, false);
-        if (turn.fault == 0)
-            folder_unlock(&lock);
-        return;
-    }
-    g_mutex_lock(&self->turn);
-    refuse_lock(self->store, turn.fault, &error);
-    warn_once(self, notice, &error);
-    g_mutex_unlock(&self->turn);
 }
 
 void store_settle(DconfdbBackend *self)
@@ -113,31 +94,60 @@ void store_settle(DconfdbBackend *self)
 bool store_has_waiting(DconfdbBackend *self)
 {
     g_mutex_lock(&self->lock);
-    bool has = self->waiting.changes.length > 0;
+    bool has = waiting_is_any(&self->waiting);
     g_mutex_unlock(&self->lock);
     return has;
 }
 
-gint64 store_write(DconfdbBackend *self, gint64 end, bool tries_again)
+gint64 store_write(DconfdbBackend *self, const Turn *turn)
 {
     Notice notice = {.faults = NULL};
-    gint64 again = 0;
-    if (worker_is_this(self)) {
-        Turn turn = turn_take(self, end);
-        if (turn.fault == EWOULDBLOCK)
-            return turn_next(self);
-        again = write_in(self, &turn, &notice, tries_again);
-        turn_give(self);
-    } else {
-        write_here(self, &notice, end);
-    }
+    gint64 again = write_in(self, turn, &notice, true);
+    turn_give(self);
     notice_tell(self, &notice);
     return again;
+}
+
+/* ---- by a sync or a set of this thread's: it is the worker, or there is none */
+
+typedef struct {
+    bool is_worker, has_turn;
+    FolderLock lock;
+    Turn turn;
+} OwnTurn;
+
+/* It waits for others until then. Only the worker is in line from then on; what it waited for in vain else goes on waiting, and is told. */
+static void take_own(DconfdbBackend *self, OwnTurn *own, gint64 end)
+{
+    gint64 left = MAX(end - g_get_monotonic_time(), 0);
+    if (own->is_worker)
+        own->turn = turn_take(self, end);
+    else
+        own->turn = (Turn){&own->lock, folder_lock(self->place.folder, (int)(left / MILLISECOND), &own->lock)};
+    own->has_turn = !own->is_worker || own->turn.fault != EWOULDBLOCK;
+}
+
+static void give_own(DconfdbBackend *self, OwnTurn *own)
+{
+    if (own->has_turn && own->is_worker)
+        turn_give(self);
+    else if (own->has_turn && own->turn.fault == 0)
+        folder_unlock(&own->lock);
+    own->has_turn = false;
+}
+
+static void write_alone(DconfdbBackend *self, OwnTurn *own)
+{
+    Notice notice = {.faults = NULL};
+    write_in(self, &own->turn, &notice, false);
+    give_own(self, own);
+    notice_tell(self, &notice);
 }
 
 void store_write_alone(DconfdbBackend *self, gint64 end)
 {
     DconfdbRound known = {.again = 0};
+    OwnTurn own = {.is_worker = worker_is_this(self)};
     uint32_t task = DCONFDB_ROUND_BEGINS;
     g_mutex_lock(&self->lock);
     know_before_write(self, &known);
@@ -145,12 +155,16 @@ void store_write_alone(DconfdbBackend *self, gint64 end)
     while ((task = dconfdb_round_after(task, &known)) < DCONFDB_ROUND_RESTS) {
         if (task == DCONFDB_ROUND_LOOK)
             store_settle(self);
+        if (task == DCONFDB_ROUND_TAKE)
+            take_own(self, &own, end);
         if (task == DCONFDB_ROUND_WRITE)
-            store_write(self, end, false);
+            write_alone(self, &own);
         g_mutex_lock(&self->lock);
         know_what_waits(self, &known);
         g_mutex_unlock(&self->lock);
+        known.has_turn = own.has_turn;
     }
+    give_own(self, &own);
 }
 
 /* Asks for a write now, where one that failed is to be tried again later. Gives how many were tried so far. */
@@ -167,9 +181,9 @@ static guint64 ask_for_a_try(DconfdbBackend *self)
 }
 
 /* `lock` is held, and let go of meanwhile. For so long, or until changes are settled, or a write has failed. */
-static void await_news(DconfdbBackend *self, Patience *patience)
+static void await_news(DconfdbBackend *self, DconfdbPatience *patience)
 {
-    gint64 end = MIN((gint64)patience->time.end, g_get_monotonic_time() + BETWEEN_TURNS);
+    gint64 end = MIN((gint64)patience->end, g_get_monotonic_time() + BETWEEN_TURNS);
     if (g_cond_wait_until(&self->settles, &self->lock, end))
         return;
     g_mutex_unlock(&self->lock);
@@ -178,11 +192,11 @@ static void await_news(DconfdbBackend *self, Patience *patience)
 }
 
 /* Until all that waits now is settled, or a later write than these has failed after others had for long. */
-static bool await_settled(DconfdbBackend *self, Patience *patience, guint64 tries)
+static bool await_settled(DconfdbBackend *self, DconfdbPatience *patience, guint64 tries)
 {
     g_mutex_lock(&self->lock);
     guint64 added = self->added;
-    while (patience_goes_on(&patience->time, self->settled, added, self->failed, tries))
+    while (patience_goes_on(patience, self->settled, added, self->failed, tries))
         await_news(self, patience);
     bool is_settled = self->settled >= added;
     g_mutex_unlock(&self->lock);
@@ -209,7 +223,7 @@ static bool has_looked_since(const DconfdbBackend *self, guint begun)
 typedef struct {
     guint begun;
     guint64 tries;
-    Patience patience;
+    DconfdbPatience patience;
     DconfdbSync known;
     Notice notice;
 } Sync;
@@ -217,7 +231,7 @@ typedef struct {
 /* `turn` is taken, if that is possible in time; then the rest is known. */
 static bool take_turn(DconfdbBackend *self, Sync *sync)
 {
-    if (!mutex_lock_until(&self->turn, (gint64)sync->patience.time.end))
+    if (!mutex_lock_until(&self->turn, (gint64)sync->patience.end))
         return false;
     sync->known.has_looked = has_looked_since(self, sync->begun);
     g_mutex_lock(&self->lock);
@@ -231,7 +245,7 @@ static bool carry_out(DconfdbBackend *self, uint32_t task, Sync *sync)
 {
     switch (task) {
     case DCONFDB_SYNC_WRITE:
-        store_write_alone(self, (gint64)sync->patience.time.end);
+        store_write_alone(self, (gint64)sync->patience.end);
         return true;
     case DCONFDB_SYNC_AWAIT:
         return await_settled(self, &sync->patience, sync->tries);

@@ -3,37 +3,38 @@
  * program without shared libraries. */
 #define _DEFAULT_SOURCE
 #define _POSIX_C_SOURCE 200809L
-#include "environment.h"
+#include "home.h"
 
-#include <errno.h>
-#include <pwd.h>
-#include <stdbool.h>
 #include <stdio.h>
-#include <stdlib.h>
-#include <unistd.h>
 
-/* False: no memory is left. A user whose home isn't known has none. */
-static bool set_home(void)
+/* One that the system has for nobody is as one that the environment has empty. Gives 0, or errno. */
+static int set_home(void)
 {
-    struct passwd entry, *found = NULL;
-    char *room = malloc(ROOM_OF_PASSWD);
-    int fault = room ? getpwuid_r(getuid(), &entry, room, ROOM_OF_PASSWD, &found) : ENOMEM;
-    bool is_set = fault != ENOMEM;
-    if (fault == 0 && found && found->pw_dir)
-        is_set = setenv("HOME", found->pw_dir, 1) == 0;
-    free(room);
-    return is_set;
+    char *home;
+    int fault = home_of_user(&home);
+    if (fault == 0 && setenv("HOME", home, 1) != 0)
+        fault = errno;
+    free(home);
+    return fault;
+}
+
+/* In the words of the proved program. It returns 1. */
+static int refuse(int fault, const char *of)
+{
+    if (dconfdb_error_code(false, (uint32_t)fault) == DCONFDB_MEMORY)
+        fprintf(stderr, "error: Memory\n");
+    else
+        fprintf(stderr, "error: %s %s\n", fault == ENOENT ? "NoFile" : "Device", of);
+    return 1;
 }
 
 int main(int count, char **words)
 {
     static const char program[] = LIBEXEC "/dconfdb";
     (void)count;
-    if (!set_home()) {
-        fprintf(stderr, "error: Memory\n");
-        return 1;
-    }
+    int fault = set_home();
+    if (fault != 0)
+        return refuse(fault, "the user's home");
     execv(program, words);
-    fprintf(stderr, "error: %s %s\n", errno == ENOENT ? "NoFile" : "Device", program);
-    return 1;
+    return refuse(errno, program);
 }

@@ -32,7 +32,7 @@ static Program *program_of(const char *word)
 /* As for the library: what the environment says doesn't count for a program that has more rights than whoever started it. */
 static void forget_environment(void)
 {
-    for (size_t i = 0; i < VARIABLES; i++)
+    for (size_t i = 0; i < OWN_VARIABLES; i++)
         unsetenv(variables[i]);
 }
 
@@ -43,7 +43,7 @@ static Program *proved_program(void)
     const DconfdbBytes nothing = DCONFDB_NOTHING;
     if (!environment.counts)
         forget_environment();
-    return dconfdb_place_base(&environment, DCONFDB_GIVEN_BY_NOBODY, nothing.at, nothing.len, false) == DCONFDB_ASK_HOME ? &homeless : &proved;
+    return dconfdb_place_base(&environment, DCONFDB_GIVEN_BY_NOBODY, nothing.at, nothing.len, DCONFDB_WANT_FOLDER) == DCONFDB_ASK_HOME ? &homeless : &proved;
 }
 
 int main(int count, char **words)

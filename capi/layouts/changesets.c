@@ -1,4 +1,4 @@
-/* What the calls only read of a change to a set, and of one whose caller waits for it. */
+/* What the calls only read of a change to a set, of one whose caller waits for it, and of looks and words. */
 #include "layouts.h"
 
 #include <stdio.h>
@@ -6,6 +6,9 @@
 
 bool dconfdb_makes_difference(const char *path, size_t path_len, bool sets, const void *base);
 uint32_t dconfdb_changing_after(uint32_t task, bool yes, const void *known);
+bool dconfdb_is_said(const void *said, size_t count, bool is_stored);
+bool dconfdb_is_unmade(const void *edit);
+uint32_t dconfdb_look_due(uint32_t looker, const void *known);
 
 enum { MOST_FLAGS = 16 };
 
@@ -48,20 +51,88 @@ static uint32_t task_after(uint32_t task, bool yes, unsigned fields)
 
 static void finds_changing(void)
 {
-    enum { EMPTY = 1, REFUSED = 2, USER = 4, THERE = 8, LEFT = 16, NEWS = 32, WATCHED = 64, LOCKED = 128, UNWRITABLE = 256, FIELDS = 9 };
-    static const char *const names[FIELDS] = {"is_empty", "is_refused", "has_user", "is_there", "is_left", "is_news", "is_watched", "is_locked", "is_unwritable"};
+    enum { EMPTY = 1, REFUSED = 2, STORE = 4, USER = 8, THERE = 16, LEFT = 32, NEWS = 64, WATCHED = 128, LOCKED = 256, UNWRITABLE = 512, FIELDS = 10 };
+    static const char *const names[FIELDS] = {"is_empty", "is_refused", "has_store", "has_user", "is_there",
+                                              "is_left",  "is_news",    "is_watched", "is_locked", "is_unwritable"};
     is_so(task_after(0, true, EMPTY) == 5 && task_after(0, true, REFUSED) == 6 && task_after(0, true, LEFT | NEWS | WATCHED) == 1, "DconfdbChanging");
-    is_so(task_after(1, true, USER | THERE) == 2 && task_after(1, true, USER) == 5 && task_after(1, true, THERE) == 5, "DconfdbChanging");
-    is_so(task_after(1, true, LEFT) == 3 && task_after(3, true, NEWS | WATCHED) == 4 && task_after(3, true, NEWS) == 5, "DconfdbChanging");
+    is_so(task_after(1, true, USER | THERE) == 7 && task_after(1, true, STORE | THERE) == 6, "DconfdbChanging");
+    is_so(task_after(1, true, STORE | USER | THERE) == 2 && task_after(1, true, STORE | USER) == 5, "DconfdbChanging");
+    is_so(task_after(1, true, STORE | USER | LEFT) == 3 && task_after(3, true, NEWS | WATCHED) == 4 && task_after(3, true, NEWS) == 5, "DconfdbChanging");
     is_so(task_after(3, true, WATCHED) == 5 && task_after(3, false, LOCKED) == 6 && task_after(3, false, UNWRITABLE) == 6, "DconfdbChanging");
-    is_so(task_after(3, false, EMPTY | REFUSED | USER | THERE | LEFT) == 7, "DconfdbChanging");
+    is_so(task_after(3, false, EMPTY | REFUSED | STORE | USER | THERE | LEFT) == 7, "DconfdbChanging");
     for (size_t i = 0; i < FIELDS; i++)
         lies("DconfdbChanging", names[i], i, FLAG);
     printf("TAKES(DconfdbChanging, %d);\n", FIELDS);
+}
+
+static bool is_said(unsigned first, unsigned second, bool is_stored)
+{
+    enum { FIELDS = 3 };
+    uint8_t said[2 * FIELDS];
+    for (int i = 0; i < FIELDS; i++) {
+        said[i] = first >> i & 1;
+        said[FIELDS + i] = second >> i & 1;
+    }
+    return dconfdb_is_said(said, 2, is_stored);
+}
+
+static void finds_said(void)
+{
+    enum { SAYS = 1, SAME = 2, BELOW = 4 };
+    is_so(is_said(SAYS | SAME, SAYS, false) && !is_said(SAYS, SAYS | SAME, true), "DconfdbSaid");
+    is_so(is_said(SAME, SAYS | SAME, false) && is_said(0, SAME, true) && !is_said(SAME, SAME, false), "DconfdbSaid");
+    is_so(!is_said(SAYS | SAME | BELOW, 0, true) && !is_said(0, BELOW, true) && is_said(SAYS | SAME, BELOW, false), "DconfdbSaid");
+    lies("DconfdbSaid", "says", 0, FLAG);
+    lies("DconfdbSaid", "is_same", 1, FLAG);
+    lies("DconfdbSaid", "has_below", 2, FLAG);
+    printf("TAKES(DconfdbSaid, %d);\n", 3);
+}
+
+static bool is_unmade(unsigned fields)
+{
+    Flags edit = flags_of(fields);
+    return dconfdb_is_unmade(&edit);
+}
+
+static void finds_tried(void)
+{
+    enum { WRITTEN = 1, REFUSED = 2, LEFT = 4, NOW = 8, THERE = 16, FIELDS = 5 };
+    static const char *const names[FIELDS] = {"is_written", "is_refused", "is_left_out", "is_now", "is_there"};
+    is_so(is_unmade(REFUSED) && is_unmade(LEFT) && is_unmade(WRITTEN) && !is_unmade(0), "DconfdbTried");
+    is_so(!is_unmade(WRITTEN | NOW) && !is_unmade(WRITTEN | THERE) && is_unmade(WRITTEN | REFUSED | NOW | THERE), "DconfdbTried");
+    for (size_t i = 0; i < FIELDS; i++)
+        lies("DconfdbTried", names[i], i, FLAG);
+    printf("TAKES(DconfdbTried, %d);\n", FIELDS);
+}
+
+static uint32_t look_due(uint32_t looker, uint64_t until, unsigned fields)
+{
+    struct {
+        uint64_t until;
+        Flags flags;
+    } known = {until, flags_of(fields)};
+    return dconfdb_look_due(looker, &known);
+}
+
+static void finds_looks(void)
+{
+    enum { OPEN = 1, WATCHED = 2, WHOLE = 4, TOLD = 8, OWN = 16, BUSY = 32, FIELDS = 6 };
+    static const char *const names[FIELDS] = {"is_open", "is_watched", "is_whole", "is_told", "is_own", "is_busy"};
+    enum { HEARD = OPEN | WATCHED | WHOLE | OWN };
+    is_so(look_due(2, 0, HEARD) == 0 && look_due(2, 1, HEARD) == 2 && look_due(2, 1ull << 63, HEARD) == 2, "DconfdbLookKnown");
+    is_so(look_due(2, 0, HEARD | TOLD) == 2 && look_due(2, 0, HEARD & ~OWN) == 2 && look_due(2, 0, HEARD & ~WHOLE) == 2, "DconfdbLookKnown");
+    is_so(look_due(2, 0, HEARD & ~WATCHED) == 2 && look_due(2, 0, HEARD & ~OPEN) == 1 && look_due(2, 0, HEARD | TOLD | BUSY) == 3, "DconfdbLookKnown");
+    lies("DconfdbLookKnown", "until", 0, WORD);
+    for (size_t i = 0; i < FIELDS; i++)
+        lies("DconfdbLookKnown", names[i], 8 + i, FLAG);
+    printf("TAKES(DconfdbLookKnown, %d);\n", 16);
 }
 
 void finds_changesets(void)
 {
     finds_base();
     finds_changing();
+    finds_said();
+    finds_tried();
+    finds_looks();
 }

@@ -7,7 +7,7 @@
 uint32_t dconfdb_open(const void *old, bool was_mapped, const uint8_t *file, size_t len, bool is_there, void *layer, void *unsound);
 bool dconfdb_read(const void *layers, size_t n, const uint8_t *path, size_t path_len, void *found);
 bool dconfdb_fault_text(uint32_t number, void *text);
-bool dconfdb_child_at(const uint8_t *type_text, size_t type_text_len, const uint8_t *value, size_t value_len, size_t index, size_t *passed,
+bool dconfdb_child_at(const uint8_t *type_text, size_t type_text_len, const uint8_t *value, size_t value_len, bool of_variant, size_t index, size_t *passed,
                       void *found);
 size_t dconfdb_put_children(const uint8_t *type_text, size_t type_text_len, const uint8_t *value, size_t value_len, size_t origin, void *room,
                             size_t room_len);
@@ -159,7 +159,7 @@ static void finds_part(void)
 {
     Written room = room_of("DconfdbPart");
     size_t passed = 0;
-    is_so(dconfdb_child_at(file + TYPE, TYPE_LEN, file + VALUE, VALUE_LEN, 0, &passed, room.bytes), "dconfdb_child_at");
+    is_so(dconfdb_child_at(file + TYPE, TYPE_LEN, file + VALUE, VALUE_LEN, false, 0, &passed, room.bytes), "dconfdb_child_at");
     finds_lent(&room, "type_text", file + TYPE + 1, TYPE_LEN - 1);
     finds_lent(&room, "value", file + VALUE, VALUE_LEN - 1);
     ends(&room);

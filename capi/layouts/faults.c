@@ -1,20 +1,24 @@
-/* What is said of faults, how long it is waited meanwhile, and what is told. */
+/* What is said of faults, how long it is waited meanwhile, what is told, and what the service answers. */
 #include "layouts.h"
 
 #include <stdio.h>
 #include <string.h>
 
-void dconfdb_patience_renew(void *patience, uint64_t now);
+void dconfdb_patience_renew(void *patience, const void *changed, uint64_t now);
 bool dconfdb_patience_goes_on(const void *patience, const void *progress, uint64_t now);
 uint32_t dconfdb_failing_met(void *failing, bool is_there, bool is_momentary, bool tries_again, uint64_t now);
 uint32_t dconfdb_tell_next(const void *known);
+uint32_t dconfdb_served_after(uint32_t done, const void *known);
 
 /* One that begins at moment 7, and is to take so long. */
-static void makes_patience(uint64_t patience[3], uint64_t each)
+enum { PATIENCE = 5 };
+
+static void makes_patience(uint64_t patience[PATIENCE], uint64_t each)
 {
-    patience[0] = patience[2] = 0;
+    const uint64_t changed[2] = {0, 0};
+    memset(patience, 0, PATIENCE * WORD);
     patience[1] = each;
-    dconfdb_patience_renew(patience, 7);
+    dconfdb_patience_renew(patience, changed, 7);
 }
 
 /* What was written meanwhile is read alone. */
@@ -23,7 +27,7 @@ enum { SETTLED = 0, ADDED = 8, FAILED_TRY = 16, TRIES = 24, MOVED = 32, PROGRESS
 static bool goes_on(uint64_t settled, uint64_t added, uint64_t failed, uint64_t tries, uint64_t moved, uint64_t now)
 {
     const uint64_t progress[5] = {settled, added, failed, tries, moved};
-    uint64_t patience[3];
+    uint64_t patience[PATIENCE];
     makes_patience(patience, 11);
     return dconfdb_patience_goes_on(patience, progress, now);
 }
@@ -33,7 +37,7 @@ static void finds_progress(void)
     is_so(goes_on(1, 2, 3, 3, 7, 17) && !goes_on(2, 2, 3, 3, 7, 17) && !goes_on(1, 1, 3, 3, 7, 17), "DconfdbProgress");
     is_so(!goes_on(1, 2, 4, 3, 7, 17) && goes_on(1, 2, 4, 4, 7, 17) && !goes_on(1, 2, 3, 3, 7, 18), "DconfdbProgress");
     const uint64_t old[5] = {0, 1, 0, 0, 7}, moved[5] = {0, 1, 0, 0, 8};
-    uint64_t patience[3];
+    uint64_t patience[PATIENCE];
     makes_patience(patience, 9000000);
     is_so(!dconfdb_patience_goes_on(patience, old, 2000007) && dconfdb_patience_goes_on(patience, moved, 2000007), "DconfdbProgress");
     lies("DconfdbProgress", "settled", SETTLED, WORD);
@@ -97,9 +101,47 @@ static void finds_telling(void)
     printf("TAKES(DconfdbTelling, %d);\n", TELLING);
 }
 
+/* What is known of a change is read alone: the numbers, what is said, and the fields of which these are so. */
+enum { SERVED_SIZE = 0, SERVED_WAITING = 8, SERVED_WAITING_SIZE = 16, SERVED_NAMES = 24, SERVED_SAID = 32, SERVED_FLAGS = 36, SERVED_IS_USED = 36,
+       SERVED_IS_NORMAL = 37, SERVED_HAS_EDITS = 38, SERVED_IS_WRITTEN = 39, SERVED_IS_CLOSED = 40, SERVED = 48 };
+
+static bool is_served(uint32_t done, const uint64_t numbers[4], uint32_t said, unsigned fields, uint32_t next)
+{
+    _Alignas(16) uint8_t known[SERVED] = {0};
+    memcpy(known, numbers, SERVED_SAID);
+    memcpy(known + SERVED_SAID, &said, NUMBER);
+    for (int i = 0; i < SERVED_IS_CLOSED + 1 - SERVED_FLAGS; i++)
+        known[SERVED_FLAGS + i] = fields >> i & 1;
+    return dconfdb_served_after(done, known) == next;
+}
+
+static void finds_served(void)
+{
+    enum { USED = 1, NORMAL = 2, HAS_EDITS = 4, IS_WRITTEN = 8, IS_CLOSED = 16, PLAIN = NORMAL | HAS_EDITS };
+    static const uint64_t few[4] = {1, 1, 1, 1}, large[4] = {67108865, 1, 1, 1}, many[4] = {1, 10000, 1, 1}, full[4] = {1, 1, 268435456, 1},
+                          named[4] = {1, 1, 1, 64}, odd[4] = {32769, 1, 1, 1};
+    is_so(is_served(0, few, 0, 0, 0) && is_served(0, large, 0, 0, 5) && is_served(0, many, 0, 0, 6) && is_served(0, full, 0, 0, 6), "DconfdbServed");
+    is_so(is_served(0, named, 0, 0, 7) && is_served(0, named, 0, USED, 0) && is_served(1, odd, 0, 0, 4) && is_served(1, odd, 0, NORMAL, 0),
+          "DconfdbServed");
+    is_so(is_served(2, few, 0, PLAIN, 0) && is_served(2, few, 1, PLAIN, 2) && is_served(2, few, 1, NORMAL, 1), "DconfdbServed");
+    is_so(is_served(2, few, 0, PLAIN | IS_WRITTEN, 1) && is_served(2, few, 0, PLAIN | IS_WRITTEN | IS_CLOSED, 3), "DconfdbServed");
+    lies("DconfdbServed", "size", SERVED_SIZE, WORD);
+    lies("DconfdbServed", "waiting", SERVED_WAITING, WORD);
+    lies("DconfdbServed", "waiting_size", SERVED_WAITING_SIZE, WORD);
+    lies("DconfdbServed", "names", SERVED_NAMES, WORD);
+    lies("DconfdbServed", "said", SERVED_SAID, NUMBER);
+    lies("DconfdbServed", "is_used", SERVED_IS_USED, FLAG);
+    lies("DconfdbServed", "is_normal", SERVED_IS_NORMAL, FLAG);
+    lies("DconfdbServed", "has_edits", SERVED_HAS_EDITS, FLAG);
+    lies("DconfdbServed", "is_written", SERVED_IS_WRITTEN, FLAG);
+    lies("DconfdbServed", "is_closed", SERVED_IS_CLOSED, FLAG);
+    printf("TAKES(DconfdbServed, %d);\n", SERVED);
+}
+
 void finds_faults(void)
 {
     finds_progress();
     finds_failing();
     finds_telling();
+    finds_served();
 }

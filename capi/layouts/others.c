@@ -4,7 +4,8 @@
 #include <stdio.h>
 #include <string.h>
 
-uint32_t dconfdb_notes_written(const void *notes, size_t n, size_t most, size_t most_bytes, uint8_t *room, size_t room_len, size_t *len);
+uint32_t dconfdb_notes_read(const uint8_t *bytes, size_t bytes_len, void *room, size_t room_len, size_t *len);
+uint32_t dconfdb_notes_written(const void *notes, size_t n, uint8_t *room, size_t room_len, size_t *len);
 uint32_t dconfdb_told(const void *before, size_t before_n, const void *after, size_t after_n, bool was_writable, bool is_writable, bool same_others,
                       const void *asked, size_t count, uint8_t *room, size_t room_len, size_t *len);
 uint32_t dconfdb_leave_out(const void *notes, size_t n, const void *seen, size_t seen_n, const void *edits, size_t count, uint64_t now, bool *room,
@@ -14,7 +15,8 @@ uint32_t dconfdb_settling_after(uint32_t task, bool yes, const void *known);
 uint32_t dconfdb_is_changed(const void *before, size_t before_n, const void *after, size_t after_n, bool was_writable, bool is_writable,
                             bool same_others, const void *files_before, size_t files_before_n, const void *files_after, size_t files_after_n,
                             bool *is);
-void dconfdb_ending(uint32_t outcome, uint32_t fault, bool before, void *ending);
+void dconfdb_ending(uint32_t outcome, uint32_t fault, bool before, bool is_aside, void *ending);
+uint32_t dconfdb_course_after(uint32_t task, bool yes, uint32_t users, const void *changes, size_t n, const void *known);
 
 /* ---- two times, of which the second is asked for */
 
@@ -34,14 +36,38 @@ static void tries_times(void)
     makes_time(times + TIME, "/k", 5);
     lies("DconfdbTime", "path", PATH, LENT);
     uint64_t value = 0x0102030405060708;
+    memcpy(times + SET_VALUE, &value, WORD);
     uint8_t written[128];
     size_t len = 0;
-    memcpy(times + SET_VALUE, &value, WORD);
-    is_so(dconfdb_notes_written(times, 1, 2, sizeof written, written, sizeof written, &len) == 0 && len <= sizeof written, "DconfdbTime");
+    is_so(dconfdb_notes_written(times, 1, written, sizeof written, &len) == 0 && len <= sizeof written, "DconfdbTime");
     is_so(memcmp(written + TITLE_AND_WHEN, &value, WORD) == 0, "DconfdbTime");
     lies("DconfdbTime", "when", WHEN, WORD);
     lies("DconfdbTime", "value", SET_VALUE, WORD);
     printf("TAKES(DconfdbTime, %d);\n", TIME);
+}
+
+/* How many notes a file has of so many bytes, in which the path of the only one fills what is left. */
+static size_t notes_of(size_t size)
+{
+    enum { LEN_AT = 56, FRAME = 72 };
+    static uint8_t bytes[(1 << 20) + 8];
+    _Alignas(16) uint8_t times[2 * TIME];
+    uint64_t path = size - FRAME;
+    size_t len = 0;
+    makes_time(times, "", 0);
+    makes_time(times + TIME, "", 0);
+    is_so(dconfdb_notes_written(times, 2, bytes, sizeof bytes, &len) == 0 && len == FRAME, "DconfdbTime");
+    memcpy(bytes + LEN_AT, &path, WORD);
+    is_so(dconfdb_notes_read(bytes, size, times, 2, &len) == 0, "DconfdbTime");
+    return len;
+}
+
+/* The longest one that is read. */
+static void tries_most_noted(void)
+{
+    enum { MOST = 1 << 20 };
+    is_so(notes_of(MOST) == 2 && notes_of(MOST + 1) == 0, "DCONFDB_MOST_NOTED");
+    printf("_Static_assert(DCONFDB_MOST_NOTED == %d, \"another file of notes is the longest in the proved calls\");\n", MOST);
 }
 
 /* ---- edits that are asked for, beside the guess that the second path was set at 5, and what was seen */
@@ -114,15 +140,42 @@ enum { WAS_KEPT = 1, WAS_EITHER = 2, WAS_UNSETTLED = 3 };
 
 static void finds_ending(void)
 {
-    Written either = room_of("DconfdbEnding"), kept = either, unsettled = either;
-    dconfdb_ending(WAS_EITHER, FAULT, false, either.bytes);
-    dconfdb_ending(WAS_KEPT, FAULT, false, kept.bytes);
-    dconfdb_ending(WAS_UNSETTLED, FAULT, false, unsettled.bytes);
-    finds_number(&either, "newest", 2);
-    finds_number(&either, "told", 3);
-    takes(&either, "is_there", bit_of(&either, &unsettled, 2 * NUMBER, 2 * NUMBER + 2, 0, 1), FLAG);
-    takes(&either, "is_unsettled", bit_of(&kept, &either, 2 * NUMBER, 2 * NUMBER + 2, 0, 1), FLAG);
-    ends(&either);
+    Written either = room_of("DconfdbEnding"), kept = either, unsettled = either, aside = either;
+    enum { FLAGS = 3 * NUMBER, END = FLAGS + 3 };
+    dconfdb_ending(WAS_EITHER, FAULT, false, false, either.bytes);
+    dconfdb_ending(WAS_KEPT, FAULT, false, false, kept.bytes);
+    dconfdb_ending(WAS_UNSETTLED, FAULT, false, false, unsettled.bytes);
+    dconfdb_ending(WAS_UNSETTLED, FAULT, false, true, aside.bytes);
+    finds_number(&unsettled, "newest", 1);
+    finds_number(&unsettled, "told", 4);
+    finds_number(&unsettled, "outcome", 3);
+    takes(&unsettled, "is_there", bit_of(&either, &unsettled, FLAGS, END, 0, 1), FLAG);
+    takes(&unsettled, "is_unsettled", bit_of(&kept, &either, FLAGS, END, 0, 1), FLAG);
+    takes(&unsettled, "keeps_fault", bit_of(&unsettled, &aside, FLAGS, END, 0, 1), FLAG);
+    ends(&unsettled);
+}
+
+/* ---- a change from its beginning to its end, of which each field in turn changes what is done next */
+
+enum { HAS_EDITS, HAS_USER, IS_LOCKED, STORE_IS_UNSYNCED, COURSE };
+
+static bool is_done(uint32_t next, uint32_t task, size_t one, size_t other)
+{
+    uint8_t known[COURSE] = {0};
+    known[one] = known[other] = 1;
+    return dconfdb_course_after(task, true, 4, file, 0, known) == next;
+}
+
+static void tries_course(void)
+{
+    bool are = is_done(7, 0, HAS_USER, IS_LOCKED) && is_done(5, 0, HAS_EDITS, HAS_EDITS) && is_done(4, 0, HAS_EDITS, HAS_USER);
+    are = are && is_done(5, 0, HAS_EDITS, IS_LOCKED) && is_done(6, 5, HAS_USER, HAS_USER) && is_done(7, 5, HAS_USER, STORE_IS_UNSYNCED);
+    is_so(are, "DconfdbCourse");
+    lies("DconfdbCourse", "has_edits", HAS_EDITS, FLAG);
+    lies("DconfdbCourse", "has_user", HAS_USER, FLAG);
+    lies("DconfdbCourse", "is_locked", IS_LOCKED, FLAG);
+    lies("DconfdbCourse", "is_unsynced", STORE_IS_UNSYNCED, FLAG);
+    printf("TAKES(DconfdbCourse, %d);\n", COURSE);
 }
 
 /* ---- a key that is asked for by itself, and the edits of it: it is told where these differ, for who asks for their type */
@@ -184,7 +237,7 @@ static void tries_key(void)
 
 /* ---- whether the user's file is on the disk, of which each field in turn changes what is asked next */
 
-enum { HAS_FILE, IS_KNOWN, IS_UNSYNCED, IS_IN_TURN, ASKS_ONLY, SETTLING };
+enum { HAS_FILE, IS_KNOWN, IS_UNSYNCED, IS_IN_TURN, ASKS_ONLY, IS_READABLE, SETTLING };
 
 /* Whether that comes after a task that was answered so, where there is a file, and that is known, too. */
 static bool comes(uint32_t next, uint32_t task, bool yes, size_t known)
@@ -197,15 +250,16 @@ static bool comes(uint32_t next, uint32_t task, bool yes, size_t known)
 static void tries_settling(void)
 {
     const uint8_t nothing[SETTLING] = {0};
-    bool are = dconfdb_settling_after(0, true, nothing) == 4 && comes(1, 0, true, HAS_FILE) && comes(4, 0, true, IS_KNOWN);
-    are = are && comes(2, 1, false, HAS_FILE) && comes(6, 1, false, ASKS_ONLY);
-    are = are && comes(3, 2, true, HAS_FILE) && comes(5, 2, true, IS_UNSYNCED) && comes(4, 2, true, IS_IN_TURN);
+    bool are = dconfdb_settling_after(0, true, nothing) == 5 && comes(1, 0, true, HAS_FILE) && comes(5, 0, true, IS_KNOWN);
+    are = are && comes(3, 1, false, HAS_FILE) && comes(2, 1, false, IS_READABLE) && comes(7, 1, false, ASKS_ONLY) && comes(6, 1, false, IS_UNSYNCED);
+    are = are && comes(4, 2, true, HAS_FILE) && comes(5, 2, true, IS_IN_TURN);
     is_so(are, "DconfdbSettling");
     lies("DconfdbSettling", "has_file", HAS_FILE, FLAG);
     lies("DconfdbSettling", "is_known", IS_KNOWN, FLAG);
     lies("DconfdbSettling", "is_unsynced", IS_UNSYNCED, FLAG);
     lies("DconfdbSettling", "is_in_turn", IS_IN_TURN, FLAG);
     lies("DconfdbSettling", "asks_only", ASKS_ONLY, FLAG);
+    lies("DconfdbSettling", "is_readable", IS_READABLE, FLAG);
     printf("TAKES(DconfdbSettling, %d);\n", SETTLING);
 }
 
@@ -244,8 +298,10 @@ static void tries_file_seen(void)
 void finds_others(void)
 {
     tries_settling();
+    tries_course();
     tries_file_seen();
     tries_times();
+    tries_most_noted();
     tries_asked();
     tries_seen();
     finds_ending();

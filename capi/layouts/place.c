@@ -4,23 +4,35 @@
 #include <stdio.h>
 #include <string.h>
 
-bool dconfdb_place(const void *environment, uint32_t giver, const uint8_t *folder, size_t folder_len, bool is_profile, const uint8_t *base,
+uint32_t dconfdb_place_kind(const void *environment, uint32_t giver);
+bool dconfdb_place(const void *environment, uint32_t giver, const uint8_t *folder, size_t folder_len, uint32_t wanted, const uint8_t *base,
                    size_t base_len, void *path);
-void dconfdb_database_path(const uint8_t *folder, size_t folder_len, const uint8_t *profile, size_t profile_len, bool is_given, uint32_t kind,
-                           const uint8_t *name, size_t name_len, void *path);
-uint32_t dconfdb_profile_step(const void *look, uint32_t *telling);
+bool dconfdb_profile_path(const void *place, uint32_t which, size_t dir, void *path);
+bool dconfdb_database_path(const void *place, const uint8_t *profile, size_t profile_len, uint32_t kind, const uint8_t *name, size_t name_len,
+                           void *path, void *flag);
+uint32_t dconfdb_profile_step(const void *place, const void *look, size_t *dir, uint32_t *telling);
 
-/* ---- a path in its parts, and an environment, of which each variable in turn is the first that counts */
+/* ---- a place, of which each text in turn is in a path */
 
-enum { COUNTED = 0, STORE = 8, CONFIG = 24, HOME = 40, PROFILE = 56, ENVIRONMENT = 72 };
+enum { FOLDER = 0, NAMED = 16, DCONFS = 32, SESSION = 48, DATA = 64, USER = 80, IS_GIVEN = 96, IS_DCONFS = 97, A_PLACE = 104 };
+
+static void begins_place(uint8_t *place)
+{
+    memset(place, 0, A_PLACE);
+    for (size_t at = FOLDER; at <= USER; at += LENT)
+        lends(place + at, "", 0);
+}
 
 /* `/` and `.db` are the calls' own: so these parts are found by what they are. */
 static void finds_path(void)
 {
     static const char *const fields[PART_OF_PATH] = {"first", "second", "third", "fourth"};
     static const char *const parts[PART_OF_PATH] = {"/folder", "/", "site", ".db"};
+    _Alignas(16) uint8_t place[A_PLACE], flag[PART_OF_PATH * LENT];
     Written path = room_of("DconfdbPath");
-    dconfdb_database_path((const uint8_t *)"/folder", 7, file, 0, false, 1, (const uint8_t *)"site", 4, path.bytes);
+    begins_place(place);
+    lends(place + FOLDER, "/folder", 7);
+    is_so(!dconfdb_database_path(place, file, 0, 1, (const uint8_t *)"site", 4, path.bytes, flag), "dconfdb_database_path");
     for (size_t i = 0; i < PART_OF_PATH; i++) {
         is_so(is_lent(path.bytes + i * LENT, parts[i], strlen(parts[i])), "DconfdbPath");
         takes(&path, fields[i], i * LENT, LENT);
@@ -28,77 +40,160 @@ static void finds_path(void)
     ends(&path);
 }
 
-/* Whether that variable lies there: the path begins by it, or is the profile's. */
-static void tries_variable(uint8_t *said, const char *field, size_t at, size_t part)
+/* Whether that text lies there: it is that part of the path of such a profile. */
+static void tries_text(const char *field, size_t at, uint32_t which, size_t part)
+{
+    _Alignas(16) uint8_t place[A_PLACE], path[PART_OF_PATH * LENT];
+    const char *const text = "/a text";
+    begins_place(place);
+    lends(place + at, text, strlen(text));
+    bool is = dconfdb_profile_path(place, which, 0, path);
+    is_so(is && is_lent(path + part * LENT, text, strlen(text)), "DconfdbPlace");
+    lies("DconfdbPlace", field, at, LENT);
+}
+
+/* A database of the system is in the folder that is given, beside the profile of all users, or in dconf's folder. */
+static void tries_flags(void)
+{
+    static const char everyones[] = "/etc/dconfdb/profile";
+    _Alignas(16) uint8_t place[A_PLACE], path[PART_OF_PATH * LENT], flag[PART_OF_PATH * LENT];
+    const uint8_t *profile = (const uint8_t *)everyones, *name = (const uint8_t *)"site";
+    begins_place(place);
+    lends(place + FOLDER, "/folder", 7);
+    dconfdb_database_path(place, profile, sizeof everyones - 1, 1, name, 4, path, flag);
+    bool are = is_lent(path, "/etc/dconfdb", 12);
+    place[IS_GIVEN] = 1;
+    dconfdb_database_path(place, profile, sizeof everyones - 1, 1, name, 4, path, flag);
+    are = are && is_lent(path, "/folder", 7);
+    place[IS_DCONFS] = 1;
+    dconfdb_database_path(place, profile, sizeof everyones - 1, 1, name, 4, path, flag);
+    is_so(are && is_lent(path + LENT, "/etc/dconf/db", 13), "DconfdbPlace");
+    lies("DconfdbPlace", "is_given", IS_GIVEN, FLAG);
+    lies("DconfdbPlace", "is_dconfs", IS_DCONFS, FLAG);
+}
+
+static void tries_place(void)
+{
+    tries_text("folder", FOLDER, 1, 2);
+    tries_text("named", NAMED, 0, 3);
+    tries_text("profile", DCONFS, 9, 3);
+    tries_text("runtime", SESSION, 10, 1);
+    tries_text("data_dirs", DATA, 12, 1);
+    tries_text("user", USER, 8, 3);
+    tries_flags();
+    printf("TAKES(DconfdbPlace, %d);\n", A_PLACE);
+}
+
+/* ---- an environment, of which each variable in turn is the first that counts */
+
+enum {
+    COUNTED = 0,
+    STORE = 8,
+    CONFIG = 24,
+    HOME = 40,
+    PROFILE = 56,
+    RUNTIME = 72,
+    CACHE = 88,
+    MACHINE = 104,
+    IS_UNREADABLE = 120,
+    ENVIRONMENT = 128
+};
+
+/* Whether that variable lies there: the path that is wanted begins by it, or is the profile's. */
+static void tries_variable(uint8_t *said, const char *field, size_t at, uint32_t wanted)
 {
     _Alignas(16) uint8_t path[PART_OF_PATH * LENT];
     const char *const text = "/a path";
     lends(said + at, text, strlen(text));
-    bool is = dconfdb_place(said, 0, file, 0, at == PROFILE, file, 0, path);
-    is_so(is && is_lent(path + part * LENT, text, strlen(text)), "DconfdbEnvironment");
+    bool is = dconfdb_place(said, 0, file, 0, wanted, file, 0, path);
+    is_so(is && is_lent(path + 2 * LENT, text, strlen(text)), "DconfdbEnvironment");
     lends(said + at, "", 0);
     lies("DconfdbEnvironment", field, at, LENT);
+}
+
+/* What the machine's file says. */
+static void tries_machine(uint8_t *said)
+{
+    bool are = dconfdb_place_kind(said, 0) == 0;
+    lends(said + MACHINE, "dconf\n", 6);
+    are = are && dconfdb_place_kind(said, 0) == 1;
+    said[IS_UNREADABLE] = 1;
+    is_so(are && dconfdb_place_kind(said, 0) == 2, "DconfdbEnvironment");
+    said[IS_UNREADABLE] = 0;
+    lies("DconfdbEnvironment", "machine", MACHINE, LENT);
+    lies("DconfdbEnvironment", "is_unreadable", IS_UNREADABLE, FLAG);
 }
 
 static void tries_environment(void)
 {
     _Alignas(16) uint8_t said[ENVIRONMENT] = {0}, path[PART_OF_PATH * LENT];
-    for (size_t at = STORE; at < ENVIRONMENT; at += LENT)
+    for (size_t at = STORE; at <= MACHINE; at += LENT)
         lends(said + at, "", 0);
     said[COUNTED] = 1;
-    tries_variable(said, "store", STORE, 2);
-    tries_variable(said, "config", CONFIG, 2);
-    tries_variable(said, "home", HOME, 2);
-    tries_variable(said, "profile", PROFILE, 2);
+    tries_variable(said, "store", STORE, 0);
+    tries_variable(said, "config", CONFIG, 0);
+    tries_variable(said, "home", HOME, 0);
+    tries_variable(said, "profile", PROFILE, 1);
+    tries_machine(said);
+    tries_variable(said, "runtime", RUNTIME, 2);
+    tries_variable(said, "cache", CACHE, 2);
     said[COUNTED] = 0;
     lends(said + STORE, "/s", 2);
-    is_so(!dconfdb_place(said, 0, file, 0, false, file, 0, path), "DconfdbEnvironment");
+    is_so(!dconfdb_place(said, 0, file, 0, 0, file, 0, path), "DconfdbEnvironment");
     lies("DconfdbEnvironment", "counts", COUNTED, FLAG);
     printf("TAKES(DconfdbEnvironment, %d);\n", ENVIRONMENT);
 }
 
 /* ---- a look at a profile, of which each field in turn changes what is told */
 
-enum { IS_NAMED = 4, FAILS = 5, IS_OWN = 6, IS_THERE = 7, IS_LENIENT = 8, HAS_KEPT = 9, PROFILE_LOOK = 12, BEGINS = 7 };
+enum { DIR = 8, FAILS = 16, IS_OWN = 17, IS_THERE = 18, IS_LENIENT = 19, HAS_KEPT = 20, PROFILE_LOOK = 24, IN_DATA = 12 };
 
-static bool leads(const uint8_t *look, uint32_t step, uint32_t telling)
+static bool leads(const uint8_t *place, const uint8_t *look, uint32_t step, size_t dir, uint32_t telling)
 {
     uint32_t told = UNTOUCHED;
-    return dconfdb_profile_step(look, &told) == step && told == telling;
+    size_t next = UNTOUCHED;
+    return dconfdb_profile_step(place, look, &next, &told) == step && next == dir && told == telling;
+}
+
+/* That of the second of three folders. */
+static void tries_dir(uint8_t *place, uint8_t *look)
+{
+    lends(place + DATA, "/a:/b:/c", 8);
+    look[0] = IN_DATA;
+    look[DIR] = 1;
+    is_so(leads(place, look, IN_DATA, 2, 0), "DconfdbProfileLook");
+    lies("DconfdbProfileLook", "dir", DIR, WORD);
 }
 
 static void tries_profile_look(void)
 {
-    _Alignas(16) uint8_t look[PROFILE_LOOK] = {1};
-    bool are = leads(look, 2, 0);
+    _Alignas(16) uint8_t place[A_PLACE], look[PROFILE_LOOK] = {1}, missing[PROFILE_LOOK] = {0};
+    begins_place(place);
+    bool are = leads(place, look, 2, 0, 0);
     look[IS_THERE] = 1;
-    are = are && leads(look, 4, 0);
+    are = are && leads(place, look, 4, 0, 0);
     look[FAILS] = 1;
-    are = are && leads(look, 6, 1);
+    are = are && leads(place, look, 6, 0, 1);
     look[IS_LENIENT] = 1;
-    are = are && leads(look, 6, 1);
+    are = are && leads(place, look, 6, 0, 1);
     look[IS_OWN] = 1;
-    are = are && leads(look, 2, 2);
+    are = are && leads(place, look, 2, 0, 2);
     look[HAS_KEPT] = 1;
-    are = are && leads(look, 2, 0);
-    look[0] = BEGINS;
-    uint32_t told;
-    are = are && dconfdb_profile_step(look, &told) == 1;
-    look[IS_NAMED] = 1;
-    is_so(are && dconfdb_profile_step(look, &told) == 0, "DconfdbProfileLook");
+    is_so(are && leads(place, look, 2, 0, 0), "DconfdbProfileLook");
     lies("DconfdbProfileLook", "which", 0, NUMBER);
-    lies("DconfdbProfileLook", "is_named", IS_NAMED, FLAG);
     lies("DconfdbProfileLook", "fails", FAILS, FLAG);
     lies("DconfdbProfileLook", "is_own", IS_OWN, FLAG);
     lies("DconfdbProfileLook", "is_there", IS_THERE, FLAG);
     lies("DconfdbProfileLook", "is_lenient", IS_LENIENT, FLAG);
     lies("DconfdbProfileLook", "has_kept", HAS_KEPT, FLAG);
+    tries_dir(place, missing);
     printf("TAKES(DconfdbProfileLook, %d);\n", PROFILE_LOOK);
 }
 
 void finds_places(void)
 {
     finds_path();
+    tries_place();
     tries_environment();
     tries_profile_look();
 }

@@ -9,10 +9,12 @@ void dconfdb_turn_answered(void *turn, uint32_t fault, size_t n, void *step);
 void dconfdb_refresh_begin(void *refresh, size_t count, bool has_old, bool in_turn, bool is_lenient, void *step);
 uint32_t dconfdb_same_file(const void *old, const void *now, uint64_t opened, bool is_held);
 uint32_t dconfdb_owner_and_bits(const void *old, const void *above, bool is_root, bool keeps, void *given);
+uint32_t dconfdb_handing_after(uint32_t what, uint32_t done, uint32_t fault, const void *file, uint32_t *number);
 uint32_t dconfdb_standing(uint32_t purpose, const void *stood, uint32_t *fault);
-void dconfdb_refresh_answered(void *refresh, bool yes, void *step);
-size_t dconfdb_with_left(const uint8_t *left, size_t left_len, const uint8_t *name, size_t name_len, const void *file, bool is_synced, size_t most,
-                         uint8_t *room, size_t room_len);
+void dconfdb_refresh_answered(void *refresh, bool yes, uint32_t fault, void *step);
+uint32_t dconfdb_beside(uint32_t purpose, const void *old, const void *now, const void *seen);
+size_t dconfdb_with_left(const uint8_t *left, size_t left_len, const uint8_t *name, size_t name_len, const void *file, bool is_synced, uint8_t *room,
+                         size_t room_len);
 
 /* ---- a turn, and its steps: of a new file of 7,777 bytes, of which 1,234 are written */
 
@@ -86,7 +88,7 @@ static void finds_refresh(void)
     dconfdb_refresh_begin(lenient.bytes, 9, true, false, true, step.bytes);
     dconfdb_refresh_begin(look.bytes, 9, false, false, false, step.bytes);
     for (int i = 0; i < 12; i++)
-        dconfdb_refresh_answered(look.bytes, true, step.bytes);
+        dconfdb_refresh_answered(look.bytes, true, 0, step.bytes);
     finds_first(&look, "stage", 1);
     finds_word(&look, "at", 6);
     finds_word(&look, "count", 9);
@@ -130,6 +132,45 @@ static void tries_stamp(void)
     lies("DconfdbFileTime", "nanoseconds", WORD, WORD);
 }
 
+/* What is known of a file of which something was made, each field of which makes it another one, or the same. */
+enum { OPENED = 0, LOOK_FAULT = 8, WAS_CODE = 12, WAS_ERRNUM = 16, READ_CODE = 20, READ_ERRNUM = 24, HELD = 28, HAS_BYTES = 29, PART_SEEN = 32 };
+enum { TO_KEEP, TO_TAKE };
+
+/* What the file is, of which these bytes are known beside the moment. */
+static uint32_t is_beside(uint32_t purpose, uint64_t opened, size_t one, size_t other, bool is_touched)
+{
+    _Alignas(16) uint8_t old[STAMP_SIZE] = {0}, now[STAMP_SIZE], seen[PART_SEEN] = {0};
+    uint64_t second = 1, nanosecond = 7;
+    old[IS_THERE] = 1;
+    memcpy(old + 40, &second, WORD);
+    memcpy(old + 48, &nanosecond, WORD);
+    memcpy(now, old, STAMP_SIZE);
+    now[48] += is_touched;
+    memcpy(seen + OPENED, &opened, WORD);
+    if (one != OPENED)
+        seen[one] = seen[other] = 1;
+    return dconfdb_beside(purpose, old, now, seen);
+}
+
+static void tries_part(void)
+{
+    enum { SAME, OTHER, IF_READABLE, LATER = 1010000007 };
+    bool are = is_beside(TO_KEEP, LATER, OPENED, OPENED, false) == SAME && is_beside(TO_KEEP, LATER - 1, OPENED, OPENED, false) == OTHER;
+    are = are && is_beside(TO_KEEP, LATER, LOOK_FAULT, LOOK_FAULT, false) == OTHER && is_beside(TO_KEEP, 0, HELD, HELD, true) == IF_READABLE;
+    are = are && is_beside(TO_TAKE, 0, HAS_BYTES, HAS_BYTES, false) == SAME && is_beside(TO_TAKE, 0, HAS_BYTES, WAS_CODE, false) == OTHER;
+    are = are && is_beside(TO_TAKE, 0, WAS_CODE, READ_CODE, false) == SAME && is_beside(TO_TAKE, 0, READ_CODE, HAS_BYTES, false) == OTHER;
+    is_so(are, "DconfdbPartSeen");
+    lies("DconfdbPartSeen", "opened", OPENED, WORD);
+    lies("DconfdbPartSeen", "fault", LOOK_FAULT, NUMBER);
+    lies("DconfdbPartSeen", "code", WAS_CODE, NUMBER);
+    lies("DconfdbPartSeen", "errnum", WAS_ERRNUM, NUMBER);
+    lies("DconfdbPartSeen", "read_code", READ_CODE, NUMBER);
+    lies("DconfdbPartSeen", "read_errnum", READ_ERRNUM, NUMBER);
+    lies("DconfdbPartSeen", "is_held", HELD, FLAG);
+    lies("DconfdbPartSeen", "has_bytes", HAS_BYTES, FLAG);
+    printf("TAKES(DconfdbPartSeen, %d);\n", PART_SEEN);
+}
+
 /* Which word of it is which: the record of a file that is left has its words in this order, behind a number for the name. */
 static void tries_left(void)
 {
@@ -137,7 +178,7 @@ static void tries_left(void)
     uint64_t words[] = {1, 2, 3, 4, 5}, entry[7];
     memcpy(stamp, words, sizeof words);
     stamp[IS_THERE] = 1;
-    is_so(dconfdb_with_left(stamp, 0, stamp, 0, stamp, true, 1, (uint8_t *)entry, sizeof entry) == sizeof entry, "DconfdbFileStamp");
+    is_so(dconfdb_with_left(stamp, 0, stamp, 0, stamp, true, (uint8_t *)entry, sizeof entry) == sizeof entry, "DconfdbFileStamp");
     is_so(memcmp(entry + 1, words, sizeof words) == 0 && entry[6] == 1, "DconfdbFileStamp");
 }
 
@@ -159,12 +200,12 @@ static void finds_owner(void)
     printf("TAKES(DconfdbFileOwner, %d);\n", 2 * NUMBER);
     memcpy(old, numbers, sizeof numbers);
     old[OLD_IS_THERE] = old[OLD_IS_REGULAR] = 1;
-    is_so(dconfdb_owner_and_bits(old, above, true, false, given.bytes) == 2, "DconfdbOldFile");
+    is_so(dconfdb_owner_and_bits(old, above, true, false, given.bytes) == 11, "DconfdbOldFile");
     old[OLD_IS_READ] = 1;
     is_so(dconfdb_owner_and_bits(old, above, true, false, given.bytes) == 0, "DconfdbOldFile");
     is_so(memcmp(given.bytes, numbers, sizeof numbers) == 0, "DconfdbOldFile");
     old[OLD_IS_LINK] = 1;
-    is_so(dconfdb_owner_and_bits(old, above, true, true, given.bytes) == 1, "DconfdbOldFile");
+    is_so(dconfdb_owner_and_bits(old, above, true, true, given.bytes) == 13, "DconfdbOldFile");
     lies("DconfdbOldFile", "user", OLD_USER, NUMBER);
     lies("DconfdbOldFile", "group", OLD_GROUP, NUMBER);
     lies("DconfdbOldFile", "bits", OLD_BITS, NUMBER);
@@ -175,11 +216,71 @@ static void finds_owner(void)
     printf("TAKES(DconfdbOldFile, %d);\n", OLD_SIZE);
 }
 
+/* ---- what was made is read alone: a file of 0644 for user 9 and group 8, made by user 7 in a folder of that group */
+
+enum { MADE_WANTED = 0, MADE_MADE = 12, MADE_ABOVE = 24, MADE_GIVES_GROUP = 28, MADE_IS_ROOT = 29, MADE_IS_BESIDE = 30, MADE_IS_EMPTY = 31, MADE = 32 };
+enum { OWNER_GROUP = 4, OWNER_BITS = 8 };
+enum { A_LOCK, A_FILE, A_FOLDER };
+
+/* The step after that one if this field is another number. */
+static uint32_t hands(uint32_t what, uint32_t done, size_t at, size_t width, uint32_t other, uint32_t *number)
+{
+    const uint32_t numbers[] = {9, 8, 0644, 7, 8, 0644, 8};
+    _Alignas(16) uint8_t made[MADE] = {0};
+    memcpy(made, numbers, sizeof numbers);
+    memcpy(made + at, &other, width);
+    return dconfdb_handing_after(what, done, 0, made, number);
+}
+
+/* The bits with which a file of 0640 and group 8 is made. */
+static uint32_t first_bits(uint32_t above, uint32_t maker, uint8_t gives_group)
+{
+    const uint32_t numbers[] = {7, 8, 0640, 7, maker, 0, above};
+    _Alignas(16) uint8_t made[MADE] = {[MADE_GIVES_GROUP] = gives_group};
+    uint32_t number = 0;
+    memcpy(made, numbers, sizeof numbers);
+    dconfdb_handing_after(A_FILE, 0, 0, made, &number);
+    return number;
+}
+
+/* The step after root made a folder. */
+static uint32_t hands_folder(uint8_t is_beside, uint8_t is_empty)
+{
+    _Alignas(16) uint8_t made[MADE] = {[MADE_IS_BESIDE] = is_beside, [MADE_IS_EMPTY] = is_empty};
+    uint32_t number;
+    return dconfdb_handing_after(A_FOLDER, 1, 0, made, &number);
+}
+
+static void finds_made(void)
+{
+    uint32_t number = 1;
+    is_so(hands(A_FILE, 1, MADE_IS_ROOT, FLAG, 0, &number) == 6 && number == 0, "DconfdbMadeFile");
+    is_so(hands(A_FILE, 1, MADE_IS_ROOT, FLAG, 1, &number) == 4 && hands(A_LOCK, 1, MADE_WANTED + OWNER_BITS, NUMBER, 0755, &number) == 5 && number == 0600,
+          "DconfdbMadeFile");
+    is_so(hands(A_FILE, 1, MADE_WANTED + OWNER_BITS, NUMBER, 0640, &number) == 5 && number == 0640, "DconfdbMadeFile");
+    is_so(hands(A_FILE, 1, MADE_MADE + OWNER_BITS, NUMBER, 0640, &number) == 5 && number == 0644, "DconfdbMadeFile");
+    is_so(hands(A_FILE, 1, MADE_WANTED + OWNER_GROUP, NUMBER, 9, &number) == 3 && hands(A_FILE, 1, MADE_MADE + OWNER_GROUP, NUMBER, 9, &number) == 3,
+          "DconfdbMadeFile");
+    is_so(hands(A_FILE, 0, MADE_WANTED + OWNER_BITS, NUMBER, 0640, &number) == 1 && number == 0640, "DconfdbMadeFile");
+    is_so(hands(A_FILE, 0, MADE_ABOVE, NUMBER, 9, &number) == 1 && number == 0644 && hands(A_FILE, 0, MADE_GIVES_GROUP, FLAG, 1, &number) == 1,
+          "DconfdbMadeFile");
+    is_so(first_bits(9, 8, 0) == 0600 && first_bits(8, 9, 0) == 0600 && first_bits(8, 9, 1) == 0640, "DconfdbMadeFile");
+    is_so(hands_folder(1, 1) == 4 && hands_folder(0, 1) == 7 && hands_folder(1, 0) == 7, "DconfdbMadeFile");
+    lies("DconfdbMadeFile", "wanted", MADE_WANTED, 3 * NUMBER);
+    lies("DconfdbMadeFile", "made", MADE_MADE, 3 * NUMBER);
+    lies("DconfdbMadeFile", "above", MADE_ABOVE, NUMBER);
+    lies("DconfdbMadeFile", "gives_group", MADE_GIVES_GROUP, FLAG);
+    lies("DconfdbMadeFile", "is_root", MADE_IS_ROOT, FLAG);
+    lies("DconfdbMadeFile", "is_beside", MADE_IS_BESIDE, FLAG);
+    lies("DconfdbMadeFile", "is_empty", MADE_IS_EMPTY, FLAG);
+    printf("TAKES(DconfdbMadeFile, %d);\n", MADE);
+}
+
 /* ---- a file of root's, of 65,537 bytes, with one name, that is read, is a lock, or has links in it */
 
-enum { STOOD_FAULT = 0, STOOD_MODE = 4, STOOD_USER = 8, STOOD_LINKS = 16, STOOD_LEN = 24, STOOD_MOST = 32, STOOD_MAY_MAP = 40, STOOD_MAY_STOP = 41,
-       STOOD_IS_NAMED = 42, STOOD_IS_ROOT = 43, STOOD = 48 };
-enum { TO_READ = 2, TO_HOLD = 4, TO_FOLLOW = 5 };
+enum { STOOD_FAULT = 0, STOOD_MODE = 4, STOOD_USER = 8, STOOD_LINKS = 16, STOOD_LEN = 24, STOOD_MOST = 32, STOOD_TRIED = 40, STOOD_MAY_MAP = 48,
+       STOOD_MAY_STOP = 49, STOOD_IS_NAMED = 50, STOOD_IS_ROOT = 51, STOOD_MAY_MAKE = 52, STOOD = 56 };
+enum { TO_READ = 2, TO_HOLD = 4, TO_FOLLOW = 5, TO_ENTER = 14, LINKS = 40 };
 
 /* What becomes of it if it is of that user, and this field is another number. */
 static uint32_t stands(uint32_t purpose, uint32_t user, size_t at, size_t width, uint64_t number)
@@ -197,6 +298,16 @@ static uint32_t stands(uint32_t purpose, uint32_t user, size_t at, size_t width,
     return dconfdb_standing(purpose, stood, &fault);
 }
 
+/* What becomes of a folder that is missing. */
+static uint32_t enters(uint8_t may_make)
+{
+    static const uint32_t missing = 2;
+    _Alignas(16) uint8_t stood[STOOD] = {[STOOD_MAY_MAKE] = may_make};
+    uint32_t fault;
+    memcpy(stood + STOOD_FAULT, &missing, NUMBER);
+    return dconfdb_standing(TO_ENTER, stood, &fault);
+}
+
 static void finds_stood(void)
 {
     is_so(stands(TO_READ, 7, STOOD_FAULT, NUMBER, 0) == 0 && stands(TO_READ, 7, STOOD_FAULT, NUMBER, FAULT) == 5, "DconfdbStood");
@@ -205,17 +316,22 @@ static void finds_stood(void)
     is_so(stands(TO_READ, 7, STOOD_MAY_STOP, FLAG, 1) == 3 && stands(TO_HOLD, 7, STOOD_FAULT, NUMBER, 0) == 0, "DconfdbStood");
     is_so(stands(TO_HOLD, 7, STOOD_LINKS, WORD, 2) == 4 && stands(TO_HOLD, 7, STOOD_IS_NAMED, FLAG, 0) == 1, "DconfdbStood");
     is_so(stands(TO_FOLLOW, 7, STOOD_FAULT, NUMBER, 0) == 5 && stands(TO_FOLLOW, 7, STOOD_IS_ROOT, FLAG, 0) == 0, "DconfdbStood");
-    is_so(stands(TO_FOLLOW, 0, STOOD_FAULT, NUMBER, 0) == 0, "DconfdbStood");
+    is_so(stands(TO_FOLLOW, 0, STOOD_FAULT, NUMBER, 0) == 0 && stands(TO_FOLLOW, 0, STOOD_TRIED, WORD, LINKS) == 5, "DconfdbStood");
+    is_so(stands(TO_FOLLOW, 0, STOOD_TRIED, WORD, LINKS - 1) == 0, "DconfdbStood");
+    printf("_Static_assert(DCONFDB_MOST_LINKS == %d, \"other links are the last in the proved calls\");\n", LINKS);
+    is_so(stands(TO_ENTER, 2, STOOD_FAULT, NUMBER, 2) == 5 && enters(1) == 1 && enters(0) == 5, "DconfdbStood");
     lies("DconfdbStood", "fault", STOOD_FAULT, NUMBER);
     lies("DconfdbStood", "mode", STOOD_MODE, NUMBER);
     lies("DconfdbStood", "user", STOOD_USER, NUMBER);
     lies("DconfdbStood", "links", STOOD_LINKS, WORD);
     lies("DconfdbStood", "size", STOOD_LEN, WORD);
     lies("DconfdbStood", "most", STOOD_MOST, WORD);
+    lies("DconfdbStood", "tried", STOOD_TRIED, WORD);
     lies("DconfdbStood", "may_map", STOOD_MAY_MAP, FLAG);
     lies("DconfdbStood", "may_stop", STOOD_MAY_STOP, FLAG);
     lies("DconfdbStood", "is_named", STOOD_IS_NAMED, FLAG);
     lies("DconfdbStood", "is_root", STOOD_IS_ROOT, FLAG);
+    lies("DconfdbStood", "may_make", STOOD_MAY_MAKE, FLAG);
     printf("TAKES(DconfdbStood, %d);\n", STOOD);
 }
 
@@ -225,7 +341,9 @@ void finds_turns(void)
     finds_step();
     finds_refresh();
     tries_stamp();
+    tries_part();
     tries_left();
     finds_owner();
+    finds_made();
     finds_stood();
 }

@@ -5,17 +5,20 @@
 #include <string.h>
 
 uint32_t dconfdb_entry(const void *edits, size_t count, bool *is_there);
-uint32_t dconfdb_found(bool of_user, bool of_default, const void *known);
+uint32_t dconfdb_found(bool of_user, bool of_default, const void *known, bool *is_odd);
 uint32_t dconfdb_round_after(uint32_t task, const void *known);
 uint32_t dconfdb_glance_after(uint32_t task, const void *known);
 uint32_t dconfdb_sync_after(uint32_t task, bool yes, const void *known);
-void dconfdb_patience_renew(void *patience, uint64_t now);
+size_t dconfdb_waiting_line(void *line, size_t count, bool is_written);
+void dconfdb_patience_renew(void *patience, const void *changed, uint64_t now);
 void dconfdb_queue_begin(void *queue, const void *edits, size_t count, void *step);
 void dconfdb_queue_answered(void *queue, void *edits, size_t count, uint32_t answer, size_t at, void *step);
 void dconfdb_wait_begin(void *wait, uint32_t what, uint32_t longest, uint64_t now, void *step);
 void dconfdb_wait_answered(void *wait, uint32_t tried, uint32_t fault, uint64_t at, void *step);
+void dconfdb_taking_answered(void *taking, const void *stood);
+void dconfdb_taking_answered(void *taking, const void *stood);
 void dconfdb_notice_begin(void *notice);
-void dconfdb_notice_heard(void *notice, uint32_t event, uint64_t now);
+uint32_t dconfdb_notice_told(void *notice, uint32_t what, uint32_t event, bool listens, uint64_t now);
 uint64_t dconfdb_notice_answered(void *notice, bool yes, uint64_t now);
 void dconfdb_watched_name(bool minds, const uint8_t *folder, size_t folder_len, const uint8_t *name, size_t name_len, bool is_last, uint32_t mode,
                           uint64_t links, uint32_t role, void *watched);
@@ -36,6 +39,47 @@ static void finds_wait(void)
     finds_number(&wait, "tried", 3);
     takes(&wait, "is_timed", bit_of(&wait, &endless, wait.end, wait.end + 1, 1, 0), FLAG);
     ends(&wait);
+}
+
+/* What the system says in a try to take a lock: an errno, and what was found. */
+typedef struct {
+    uint32_t fault, mode;
+} Said;
+
+/* A try of which so much was said. */
+static Written taking_by(const Said *said, size_t count)
+{
+    enum { STOOD = 56, TAKING = 24 };
+    _Alignas(16) uint8_t stood[STOOD] = {0};
+    Written taking = room_of("DconfdbTaking");
+    memset(taking.bytes, 0, TAKING);
+    dconfdb_taking_answered(taking.bytes, stood);
+    for (size_t i = 0; i < count; i++) {
+        memcpy(stood, &said[i], sizeof *said);
+        dconfdb_taking_answered(taking.bytes, stood);
+    }
+    return taking;
+}
+
+/* Of the first the folder was made, two children of fork() and then others were in the way five times, and the disk was full; of the second the
+ * lock's name was another's. */
+static void finds_taking(void)
+{
+    enum { MISSING = 2, FORKED = 11, EXISTS = 17, FULL = 28, REGULAR = 0100600 };
+    static const Said made[] = {{MISSING, 0}, {0, 0},       {0, 0}, {0, REGULAR}, {FORKED, 0},  {0, 0}, {0, REGULAR}, {FORKED, 0}, {0, 0},
+                                {MISSING, 0}, {0, 0},       {EXISTS, 0}, {MISSING, 0}, {0, 0}, {EXISTS, 0}, {MISSING, 0}, {0, 0}, {EXISTS, 0},
+                                {MISSING, 0}, {0, 0},       {EXISTS, 0}, {MISSING, 0}, {0, 0}, {EXISTS, 0}, {MISSING, 0}, {0, 0}, {FULL, 0}};
+    static const Said moved[] = {{0, 0}, {0, REGULAR}, {0, 0}, {0, 0}, {0, REGULAR}};
+    Written taking = taking_by(made, sizeof made / sizeof *made), again = taking_by(moved, sizeof moved / sizeof *moved);
+    finds_number(&taking, "task", 15);
+    finds_number(&taking, "tried", 3);
+    finds_number(&taking, "fault", FULL);
+    finds_number(&taking, "openings", 5);
+    finds_number(&taking, "forks", 2);
+    size_t from = taking.end;
+    takes(&taking, "has_made", bit_of(&taking, &again, from, from + 2, 1, 0), FLAG);
+    takes(&taking, "is_again", bit_of(&again, &taking, from, from + 2, 1, 0), FLAG);
+    ends(&taking);
 }
 
 /* New edits are read alone: each field changes what becomes of one, and the second of two lies behind the first. */
@@ -80,7 +124,8 @@ static uint32_t found_of(bool of_user, unsigned fields)
     uint8_t known[KNOWN];
     for (int i = 0; i < KNOWN; i++)
         known[i] = fields >> i & 1;
-    return dconfdb_found(of_user, false, known);
+    bool is_odd;
+    return dconfdb_found(of_user, false, known, &is_odd);
 }
 
 static void finds_known(void)
@@ -101,9 +146,9 @@ static void finds_known(void)
 
 /* What is known of a round is read alone, too: the numbers, and the fields of which these are so. */
 enum { ROUND_AGAIN = 0, ROUND_MOMENT = 8, ROUND_FAILED = 16, ROUND_LAST_TRY = 24, ROUND_FLAGS = 32, ROUND_ENDS = 32, ROUND_IS_LET_GO = 33,
-       ROUND_WAITS = 34, ROUND_IS_IN_LINE = 35, ROUND_HAS_UNTOLD = 36, ROUND_IS_TO_WATCH = 37, ROUND_IS_ASKED = 38, ROUND_ASKS = 39,
-       ROUND_IS_WATCHED = 40, ROUND = 48 };
-enum { IT_ENDS = 1, LET_GO = 2, IT_WAITS = 4, IN_LINE = 8, UNTOLD = 16, TO_WATCH = 32, ASKED = 64, ASKS = 128, WATCHED = 256 };
+       ROUND_WAITS = 34, ROUND_IS_IN_LINE = 35, ROUND_HAS_TURN = 36, ROUND_HAS_UNTOLD = 37, ROUND_IS_TO_WATCH = 38,
+       ROUND_IS_ASKED = 39, ROUND_ASKS = 40, ROUND_IS_WATCHED = 41, ROUND = 48 };
+enum { IT_ENDS = 1, LET_GO = 2, IT_WAITS = 4, IN_LINE = 8, HAS_TURN = 16, UNTOLD = 32, TO_WATCH = 64, ASKED = 128, ASKS = 256, WATCHED = 512 };
 
 static bool is_after(uint32_t task, const uint64_t numbers[4], unsigned fields, uint32_t next)
 {
@@ -117,12 +162,13 @@ static bool is_after(uint32_t task, const uint64_t numbers[4], unsigned fields, 
 static void finds_round(void)
 {
     static const uint64_t none[4] = {0}, later[4] = {5, 4, 0, 0}, due[4] = {5, 5, 0, 0}, old[4] = {5, 0, 2, 2}, failed[4] = {5, 0, 2, 1};
-    is_so(is_after(0, none, 0, 6) && is_after(0, none, UNTOLD, 1) && is_after(0, none, TO_WATCH, 2) && is_after(0, none, IT_ENDS, 7), "DconfdbRound");
-    is_so(is_after(0, later, IT_WAITS, 6) && is_after(0, due, IT_WAITS, 3) && is_after(0, due, IT_WAITS | WATCHED, 4), "DconfdbRound");
+    is_so(is_after(0, none, 0, 7) && is_after(0, none, UNTOLD, 1) && is_after(0, none, TO_WATCH, 2) && is_after(0, none, IT_ENDS, 8), "DconfdbRound");
+    is_so(is_after(0, later, IT_WAITS, 7) && is_after(0, due, IT_WAITS, 3) && is_after(0, due, IT_WAITS | WATCHED, 4), "DconfdbRound");
     is_so(is_after(0, due, IT_WAITS | WATCHED | ASKS, 3) && is_after(3, later, IT_WAITS | ASKED, 4), "DconfdbRound");
-    is_so(is_after(3, later, IT_WAITS | IN_LINE, 4) && is_after(0, none, IN_LINE, 5) && is_after(4, later, 0, 5), "DconfdbRound");
-    is_so(is_after(5, none, IT_ENDS | IN_LINE, 7) && is_after(5, none, IT_ENDS | IN_LINE | LET_GO, 6), "DconfdbRound");
-    is_so(is_after(4, old, IT_ENDS | IT_WAITS, 6) && is_after(4, failed, IT_ENDS | IT_WAITS, 8), "DconfdbRound");
+    is_so(is_after(3, later, IT_WAITS | IN_LINE, 4) && is_after(0, none, IN_LINE, 6) && is_after(4, later, 0, 6), "DconfdbRound");
+    is_so(is_after(4, later, IT_WAITS | HAS_TURN, 5) && is_after(4, later, IT_WAITS, 7), "DconfdbRound");
+    is_so(is_after(6, none, IT_ENDS | IN_LINE, 8) && is_after(6, none, IT_ENDS | IN_LINE | LET_GO, 7), "DconfdbRound");
+    is_so(is_after(4, old, IT_ENDS | IT_WAITS, 7) && is_after(4, failed, IT_ENDS | IT_WAITS, 9), "DconfdbRound");
     lies("DconfdbRound", "again", ROUND_AGAIN, WORD);
     lies("DconfdbRound", "moment", ROUND_MOMENT, WORD);
     lies("DconfdbRound", "failed", ROUND_FAILED, WORD);
@@ -131,6 +177,7 @@ static void finds_round(void)
     lies("DconfdbRound", "is_let_go", ROUND_IS_LET_GO, FLAG);
     lies("DconfdbRound", "waits", ROUND_WAITS, FLAG);
     lies("DconfdbRound", "is_in_line", ROUND_IS_IN_LINE, FLAG);
+    lies("DconfdbRound", "has_turn", ROUND_HAS_TURN, FLAG);
     lies("DconfdbRound", "has_untold", ROUND_HAS_UNTOLD, FLAG);
     lies("DconfdbRound", "is_to_watch", ROUND_IS_TO_WATCH, FLAG);
     lies("DconfdbRound", "is_asked", ROUND_IS_ASKED, FLAG);
@@ -162,26 +209,27 @@ static void finds_sync(void)
 }
 
 enum { GLANCE_FIRST = 0, GLANCE_SECOND = 4, GLANCE_FLAGS = 8, GLANCE_IS_OPEN = 8, GLANCE_IS_DONE = 9, GLANCE_IS_SHOWN = 10,
-       GLANCE_IS_OTHER = 11, GLANCE_WAITS = 12, GLANCE_HAS_SAME_FILES = 13, GLANCE = 16 };
+       GLANCE_IS_OTHER = 11, GLANCE_WAITS = 12, GLANCE_HAS_SAME_FILES = 13, GLANCE_IS_BARRED = 14, GLANCE_IS_AMID = 15, GLANCE = 16 };
 
 static bool is_next(uint32_t task, uint32_t first, uint32_t second, unsigned fields, uint32_t next)
 {
     _Alignas(16) uint8_t known[GLANCE] = {0};
     memcpy(known + GLANCE_FIRST, &first, NUMBER);
     memcpy(known + GLANCE_SECOND, &second, NUMBER);
-    for (int i = 0; i < GLANCE_HAS_SAME_FILES + 1 - GLANCE_FLAGS; i++)
+    for (int i = 0; i < GLANCE_IS_AMID + 1 - GLANCE_FLAGS; i++)
         known[GLANCE_FLAGS + i] = fields >> i & 1;
     return dconfdb_glance_after(task, known) == next;
 }
 
 static void finds_glance(void)
 {
-    enum { IS_OPEN = 1, IS_DONE = 2, IS_SHOWN = 4, IS_OTHER = 8, SETS_WAIT = 16, SAME_FILES = 32 };
+    enum { IS_OPEN = 1, IS_DONE = 2, IS_SHOWN = 4, IS_OTHER = 8, SETS_WAIT = 16, SAME_FILES = 32, BARRED = 64, AMID = 128 };
     is_so(is_next(0, 0, 0, 0, 2) && is_next(0, 0, 0, IS_OPEN, 1) && is_next(0, 2, 0, IS_OPEN, 3), "DconfdbGlance");
     is_so(is_next(0, 2, 1, IS_OPEN, 2) && is_next(1, 0, 0, IS_OPEN | IS_DONE, 4), "DconfdbGlance");
     is_so(is_next(1, 0, 0, IS_OPEN | IS_DONE | IS_SHOWN, 7) && is_next(1, 0, 0, IS_OPEN | IS_SHOWN, 4), "DconfdbGlance");
     is_so(is_next(4, 0, 0, IS_OTHER, 8) && is_next(4, 0, 0, SETS_WAIT, 8) && is_next(4, 0, 0, IS_OTHER | SETS_WAIT, 5), "DconfdbGlance");
     is_so(is_next(5, 2, 0, IS_OPEN | IS_DONE, 6) && is_next(5, 2, 0, IS_OPEN | IS_DONE | SAME_FILES, 7), "DconfdbGlance");
+    is_so(is_next(0, 0, 0, BARRED, 8) && is_next(0, 0, 0, BARRED | AMID, 4) && is_next(0, 0, 0, AMID, 2), "DconfdbGlance");
     lies("DconfdbGlance", "first", GLANCE_FIRST, NUMBER);
     lies("DconfdbGlance", "second", GLANCE_SECOND, NUMBER);
     lies("DconfdbGlance", "is_open", GLANCE_IS_OPEN, FLAG);
@@ -190,20 +238,75 @@ static void finds_glance(void)
     lies("DconfdbGlance", "is_other", GLANCE_IS_OTHER, FLAG);
     lies("DconfdbGlance", "waits", GLANCE_WAITS, FLAG);
     lies("DconfdbGlance", "has_same_files", GLANCE_HAS_SAME_FILES, FLAG);
+    lies("DconfdbGlance", "is_barred", GLANCE_IS_BARRED, FLAG);
+    lies("DconfdbGlance", "is_amid", GLANCE_IS_AMID, FLAG);
     printf("TAKES(DconfdbGlance, %d);\n", GLANCE);
 }
 
 static void finds_patience(void)
 {
     Written patience = room_of("DconfdbPatience");
-    const uint64_t each = 11;
-    memset(patience.bytes, 0, 3 * WORD);
+    const uint64_t each = 11, changed[2] = {23, 29};
+    memset(patience.bytes, 0, 5 * WORD);
     memcpy(patience.bytes + WORD, &each, WORD);
-    dconfdb_patience_renew(patience.bytes, 7);
+    dconfdb_patience_renew(patience.bytes, changed, 7);
     finds_word(&patience, "end", 18);
     finds_word(&patience, "each", 11);
     finds_word(&patience, "latest", 60000007);
+    finds_word(&patience, "changed.seconds", 23);
+    finds_word(&patience, "changed.nanoseconds", 29);
     ends(&patience);
+}
+
+/* The flags of a change in the line are read alone. */
+enum { ONE_CHANGE = 0, ONE_NUMBER = 8, ONE_ALONE = 16, ONE_NEWEST = 24, ONE_NEWEST_ALONE = 32, ONE_FATE = 40, ONE_FLAGS = 44, ONE_TRIED = 44,
+       ONE_REFUSED = 45, ONE_ASKS = 46, ONE_THERE = 47, ONE_RENEWED = 48, ONE = 56 };
+
+/* What becomes of one of which these fields are so, by the numbers of its edit and of the newest, both alone or not. */
+static uint32_t fate_of(size_t number, size_t newest, uint8_t alone, uint8_t newest_alone, unsigned fields)
+{
+    _Alignas(16) uint8_t line[ONE] = {0};
+    uint32_t fate = 77;
+    memcpy(line + ONE_NUMBER, &number, WORD);
+    memcpy(line + ONE_NEWEST, &newest, WORD);
+    memcpy(line + ONE_FATE, &fate, NUMBER);
+    line[ONE_ALONE] = alone;
+    line[ONE_NEWEST_ALONE] = newest_alone;
+    for (int i = 0; i < ONE_RENEWED + 1 - ONE_FLAGS; i++)
+        line[ONE_FLAGS + i] = fields >> i & 1;
+    size_t waits = dconfdb_waiting_line(line, 1, false);
+    memcpy(&fate, line + ONE_FATE, NUMBER);
+    is_so(waits == (fate == 0), "DconfdbWaiter");
+    return fate;
+}
+
+/* The second of two goes on waiting, and is the first then. */
+static void finds_waiter(void)
+{
+    enum { TRIED = 1, REFUSED = 2, ASKS_IT = 4, THERE = 8, RENEWED = 16 };
+    _Alignas(16) uint8_t line[2 * ONE] = {0};
+    const size_t changes[2] = {11, 13};
+    is_so(fate_of(1, 2, 1, 1, TRIED) == 3 && fate_of(2, 2, 1, 1, TRIED) == 0 && fate_of(1, 2, 0, 1, TRIED) == 0, "DconfdbWaiter");
+    is_so(fate_of(1, 2, 1, 0, TRIED) == 0 && fate_of(1, 2, 1, 1, 0) == 0 && fate_of(1, 1, 1, 1, REFUSED) == 2, "DconfdbWaiter");
+    is_so(fate_of(1, 1, 1, 1, ASKS_IT | THERE) == 1 && fate_of(1, 1, 1, 1, ASKS_IT) == 0 && fate_of(1, 1, 1, 1, THERE) == 0, "DconfdbWaiter");
+    is_so(fate_of(1, 1, 1, 1, RENEWED) == 4, "DconfdbWaiter");
+    line[ONE_REFUSED] = 1;
+    memcpy(line + ONE_CHANGE, &changes[0], WORD);
+    memcpy(line + ONE + ONE_CHANGE, &changes[1], WORD);
+    is_so(dconfdb_waiting_line(line, 2, false) == 1 && memcmp(line + ONE_CHANGE, &changes[1], WORD) == 0, "DconfdbWaiter");
+    is_so(memcmp(line + ONE + ONE_CHANGE, &changes[0], WORD) == 0, "DconfdbWaiter");
+    lies("DconfdbWaiter", "change", ONE_CHANGE, WORD);
+    lies("DconfdbWaiter", "edit.number", ONE_NUMBER, WORD);
+    lies("DconfdbWaiter", "edit.is_alone", ONE_ALONE, FLAG);
+    lies("DconfdbWaiter", "newest.number", ONE_NEWEST, WORD);
+    lies("DconfdbWaiter", "newest.is_alone", ONE_NEWEST_ALONE, FLAG);
+    lies("DconfdbWaiter", "fate", ONE_FATE, NUMBER);
+    lies("DconfdbWaiter", "is_tried", ONE_TRIED, FLAG);
+    lies("DconfdbWaiter", "is_refused", ONE_REFUSED, FLAG);
+    lies("DconfdbWaiter", "asks", ONE_ASKS, FLAG);
+    lies("DconfdbWaiter", "is_there", ONE_THERE, FLAG);
+    lies("DconfdbWaiter", "is_renewed", ONE_RENEWED, FLAG);
+    printf("TAKES(DconfdbWaiter, %d);\n", ONE);
 }
 
 /* A look is to come after one that failed, and other files may be the store's meanwhile. */
@@ -212,8 +315,8 @@ static void makes_notice(Written *notice, bool is_whole)
     dconfdb_notice_begin(notice->bytes);
     dconfdb_notice_answered(notice->bytes, is_whole, 5);
     dconfdb_notice_answered(notice->bytes, false, 5);
-    dconfdb_notice_heard(notice->bytes, 0, 6);
-    dconfdb_notice_heard(notice->bytes, 1, 6);
+    dconfdb_notice_told(notice->bytes, 0, 0, false, 6);
+    dconfdb_notice_told(notice->bytes, 0, 1, false, 6);
 }
 
 static void finds_notice(void)
@@ -308,12 +411,14 @@ static void finds_queue(void)
 void finds_waits(void)
 {
     finds_wait();
+    finds_taking();
     finds_new_edit();
     finds_known();
     finds_round();
     finds_sync();
     finds_glance();
     finds_patience();
+    finds_waiter();
     finds_notice();
     finds_watched_name();
     finds_queue();

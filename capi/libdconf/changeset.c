@@ -9,7 +9,6 @@
 struct _DConfChangeset {
     gatomicrefcount references;
     GTree *rows; /* of paths and values, NULL: a reset */
-    guint directories; /* how many of them are a directory's */
     gboolean is_database; /* it has values alone */
     gboolean is_sealed;
 
@@ -41,6 +40,13 @@ static bool is_directory(const gchar *path)
     return dconf_is_dir(path, NULL);
 }
 
+/* Whether it is the path of what is set, or, of NULL, of what is reset. */
+static bool is_path(const gchar *path, const GVariant *value)
+{
+    bool is_short;
+    return dconfdb_path_kind(bytes_of(path), strlen(path), value != NULL, false, &is_short) <= DCONFDB_PATH_DIRECTORY;
+}
+
 /* A path of the set, and its value; NULL: a reset. */
 typedef struct {
     const gchar *path;
@@ -59,22 +65,10 @@ static gboolean next_row(DConfChangeset *self, GTreeNode **at, Row *row)
     return *at != NULL;
 }
 
-static gboolean has_row(DConfChangeset *self, const gchar *path)
-{
-    return g_tree_lookup_extended(self->rows, path, NULL, NULL);
-}
-
 /* Puts a row, and leaves all others. */
 static void put_row(DConfChangeset *self, const gchar *path, GVariant *value)
 {
-    self->directories += is_directory(path) && !has_row(self, path);
     g_tree_replace(self->rows, g_strdup(path), value ? g_variant_ref_sink(value) : NULL);
-}
-
-static void take_row(DConfChangeset *self, const gchar *path)
-{
-    self->directories -= is_directory(path) && has_row(self, path);
-    g_tree_remove(self->rows, path);
 }
 
 /* ---- its life */
@@ -148,7 +142,7 @@ static uint32_t effect_of(const DConfChangeset *self, const gchar *path, const G
 static void clear_behind(DConfChangeset *self, const gchar *path, const GVariant *value)
 {
     for (const gchar *row; (row = row_behind(self, path)) && effect_of(self, path, value, row) == DCONFDB_ROW_GOES;)
-        take_row(self, row);
+        g_tree_remove(self->rows, row);
 }
 
 void dconf_changeset_set(DConfChangeset *changeset, const gchar *path, GVariant *value)
@@ -162,18 +156,20 @@ void dconf_changeset_set(DConfChangeset *changeset, const gchar *path, GVariant 
     if (effect_of(changeset, path, value, path) == DCONFDB_ROW_TAKES)
         put_row(changeset, path, value);
     else
-        take_row(changeset, path);
+        g_tree_remove(changeset->rows, path);
 }
 
-/* The row that says the key's word: its own, or that of a directory above it; NULL: there is none. */
+/* The row that says the key's word, as the proved call asks for it; NULL: there is none. */
 static const gchar *row_of(DConfChangeset *self, const gchar *key)
 {
     g_autofree gchar *above = g_strdup(key);
     gpointer row = NULL;
-    size_t len = strlen(key);
-    while (len > 0 && !g_tree_lookup_extended(self->rows, above, &row, NULL)) {
-        len = self->directories > 0 ? dconfdb_shared_within(bytes_of(key), strlen(key), len - 1, bytes_of(key), strlen(key)) : 0;
-        above[len] = 0;
+    size_t len = strlen(key), most = len;
+    while ((most = dconfdb_shared_within(bytes_of(key), len, most, bytes_of(key), len)) > 0) {
+        above[most] = 0;
+        if (g_tree_lookup_extended(self->rows, above, &row, NULL))
+            break;
+        most--;
     }
     return row;
 }
@@ -210,28 +206,35 @@ gboolean dconf_changeset_all(DConfChangeset *changeset, DConfChangesetPredicate 
     return TRUE;
 }
 
+/* All paths, a zero byte after each. */
+static GString *paths_of(DConfChangeset *self)
+{
+    GString *paths = g_string_new(NULL);
+    GTreeNode *at = NULL;
+    Row row;
+    while (next_row(self, &at, &row))
+        g_string_append_len(paths, row.path, (gssize)strlen(row.path) + 1);
+    return paths;
+}
+
 /* The same paths, whatever their values. */
 gboolean dconf_changeset_is_similar_to(DConfChangeset *changeset, DConfChangeset *other)
 {
-    GTreeNode *at = NULL, *other_at = NULL;
-    Row row, other_row;
     g_return_val_if_fail (changeset != NULL && other != NULL, FALSE);
-    if (g_tree_nnodes(changeset->rows) != g_tree_nnodes(other->rows))
-        return FALSE;
-    while (next_row(changeset, &at, &row) && next_row(other, &other_at, &other_row)) {
-        if (strcmp(row.path, other_row.path) != 0)
-            return FALSE;
-    }
-    return TRUE;
+    GString *paths = paths_of(changeset), *others = paths_of(other);
+    gboolean is = g_string_equal(paths, others);
+    g_string_free(paths, TRUE);
+    g_string_free(others, TRUE);
+    return is;
 }
 
 /* ---- sealed, and described */
 
-/* How many bytes of the first path are the directory in which all are; of one, all of it. */
+/* How many bytes of the first path are what all are, or are in. */
 static size_t common(const gchar *const *paths, size_t count)
 {
     size_t len = strlen(paths[0]), most = len;
-    for (size_t i = 1; i < count; i++)
+    for (size_t i = 0; i < count; i++)
         most = dconfdb_shared_within(bytes_of(paths[0]), len, most, bytes_of(paths[i]), strlen(paths[i]));
     return most;
 }
@@ -293,7 +296,7 @@ DConfChangeset *dconf_changeset_deserialise(GVariant *serialised)
     DConfChangeset *self = new_of(FALSE);
     g_variant_iter_init(&iter, serialised);
     while (g_variant_iter_loop(&iter, "{&smv}", &path, &value)) {
-        if (value ? dconf_is_key(path, NULL) : dconf_is_path(path, NULL))
+        if (is_path(path, value))
             put_row(self, path, value);
     }
     return self;
@@ -353,21 +356,24 @@ DConfChangeset *dconf_changeset_filter_changes(DConfChangeset *base, DConfChange
     return unless_empty(found);
 }
 
-DConfChangeset *dconf_changeset_diff(DConfChangeset *from, DConfChangeset *to)
+/* The change that makes all that is in the first one what is in the other. */
+static DConfChangeset *change_between(DConfChangeset *from, DConfChangeset *to)
 {
     GTreeNode *at = NULL;
     Row row;
+    DConfChangeset *all = new_of(FALSE);
+    while (next_row(from, &at, &row))
+        dconf_changeset_set(all, row.path, NULL);
+    for (at = NULL; next_row(to, &at, &row);)
+        dconf_changeset_set(all, row.path, row.value);
+    return all;
+}
+
+DConfChangeset *dconf_changeset_diff(DConfChangeset *from, DConfChangeset *to)
+{
     g_return_val_if_fail (from != NULL && to != NULL, NULL);
     g_return_val_if_fail (from->is_database, NULL);
     g_return_val_if_fail (to->is_database, NULL);
-    DConfChangeset *found = new_of(FALSE);
-    while (next_row(to, &at, &row))
-        put_if_differs(from, found, &row);
-    at = NULL;
-    while (next_row(from, &at, &row)) {
-        row.value = NULL;
-        if (!has_row(to, row.path))
-            put_if_differs(from, found, &row);
-    }
-    return unless_empty(found);
+    g_autoptr(DConfChangeset) all = change_between(from, to);
+    return dconf_changeset_filter_changes(from, all);
 }

@@ -10,12 +10,11 @@ static DconfdbEdit edit_of(const gchar *path, GVariant *value)
     return (DconfdbEdit){path, g_variant_get_type_string(value), g_variant_get_data(value), g_variant_get_size(value)};
 }
 
-/* Seals the set. */
 Edits edits_of(DConfChangeset *changes)
 {
     const gchar *prefix, *const *paths;
     GVariant *const *values;
-    guint count = dconf_changeset_describe(changes, &prefix, &paths, &values);
+    guint count = dconf_changeset_is_empty(changes) ? 0 : dconf_changeset_describe(changes, &prefix, &paths, &values);
     Edits self = {g_array_new(FALSE, FALSE, sizeof(DconfdbEdit)), g_ptr_array_new_with_free_func(g_free),
                   g_ptr_array_new_with_free_func((GDestroyNotify)g_variant_unref)};
     for (guint i = 0; i < count; i++) {
@@ -71,11 +70,10 @@ DConfChangeset *effective(const Edits *self, const DconfdbNewEdit *known, DConfC
     return found;
 }
 
-/* Keeps those that may be made, and what sets a key that may not: that is refused. */
 void leave_out(Edits *self, const DconfdbNewEdit *known)
 {
     for (guint at = self->edits->len; at > 0; at--) {
-        if (!known[at - 1].may && !known[at - 1].sets)
+        if (edit_is_left_out(&known[at - 1]))
             g_array_remove_index(self->edits, at - 1);
     }
 }

@@ -17,26 +17,23 @@ static void keep(void *texts, const char *text)
     g_ptr_array_add(texts, g_strdup(text));
 }
 
-/* Of the store's files, and of what failed: each fault once as long as it is there. */
-static void warn_of_faults(Engine *self, const DconfdbStore *store, const DconfdbError *error)
+/* Of the store's files, and of what failed, or NULL: each fault once as long as it is there. */
+static void warn_of_faults(Engine *self, const DconfdbError *error)
 {
     g_autoptr(GPtrArray) texts = g_ptr_array_new_with_free_func(g_free);
     g_mutex_lock(&self->lock);
-    warned_renew(&self->warned, store, error, keep, texts);
+    warned_renew(&self->warned, self->store, error, keep, texts);
     g_mutex_unlock(&self->lock);
     for (guint i = 0; i < texts->len; i++)
         g_warning("%s", (const char *)texts->pdata[i]);
 }
 
 /* The environment is read when the client is made, and not again: the program may change it. */
-static bool find_place(Engine *self)
+static bool find_place(Engine *self, DconfdbError *error)
 {
-    DconfdbError error = DCONFDB_ERROR_INIT;
     StorePlace place;
-    if (!place_find(NULL, &place, &error)) {
-        warn_of_faults(self, NULL, &error);
+    if (!place_find(NULL, &place, error))
         return false;
-    }
     g_mutex_lock(&self->lock);
     bool is_first = !self->place.folder;
     if (is_first)
@@ -47,47 +44,124 @@ static bool find_place(Engine *self)
     return true;
 }
 
-const StorePlace *engine_place(Engine *self)
+/* NULL: that fault. */
+static const StorePlace *place_or_fault(Engine *self, DconfdbError *error)
 {
     g_mutex_lock(&self->lock);
     bool has = self->place.folder != NULL;
     g_mutex_unlock(&self->lock);
-    return has || find_place(self) ? &self->place : NULL;
+    return has || find_place(self, error) ? &self->place : NULL;
 }
 
-/* A bad file counts as what can be read of it. */
-static DconfdbStore *open_store(Engine *self)
+const StorePlace *engine_place(Engine *self)
 {
     DconfdbError error = DCONFDB_ERROR_INIT;
-    const StorePlace *place = engine_place(self);
-    DconfdbStore *store = place ? place_open(place, &error) : NULL, *unused = store;
-    if (!store && place)
-        warn_of_faults(self, NULL, &error);
+    const StorePlace *place = place_or_fault(self, &error);
+    if (!place)
+        warn_of_faults(self, &error);
+    return place;
+}
+
+/* A bad file counts as what can be read of it. False: that fault. */
+static bool open_store(Engine *self, DconfdbError *error)
+{
+    const StorePlace *place = place_or_fault(self, error);
+    DconfdbStore *store = place ? place_open(place, error) : NULL, *unused = store;
     g_mutex_lock(&self->lock);
     if (!self->store)
         self->store = g_steal_pointer(&unused);
-    store = self->store;
     g_mutex_unlock(&self->lock);
     dconfdb_store_close(unused);
-    return store;
+    return store != NULL;
 }
 
-DconfdbStore *engine_store(Engine *self)
+/* ---- looks at the files */
+
+/* A look, and what is known of it. A profile is read once, as dconf's client does it: so it is the one that was read. */
+typedef struct {
+    DconfdbGlance known;
+    DconfdbStore *store; /* NULL: none is open */
+    DconfdbSnapshot *before, *after;
+    DconfdbError error; /* by which it failed */
+} Looking;
+
+static void read_files(Engine *self, uint32_t task, Looking *it)
 {
-    g_mutex_lock(&self->lock);
-    DconfdbStore *store = self->store;
-    g_mutex_unlock(&self->lock);
-    return store ? store : open_store(self);
+    bool has_changed = false;
+    it->known.is_done = task == DCONFDB_GLANCE_REFRESH ? dconfdb_store_refresh(it->store, &has_changed, &it->error) : open_store(self, &it->error);
+    it->known.is_shown = !has_changed;
 }
 
-static gboolean begin_look(Engine *self)
+/* Who reads asks the store for the newest by itself. */
+static void hand_out(Engine *self, Looking *it)
 {
     g_mutex_lock(&self->lock);
-    gboolean may = !self->is_busy;
-    self->is_to_look = self->is_to_look || !may;
-    self->looks += may ? 1 : 0;
+    it->after = self->store ? dconfdb_store_snapshot(self->store) : NULL;
+    it->known.is_other = it->before && it->before != it->after;
+    it->known.waits = self->waiting || self->flying;
     g_mutex_unlock(&self->lock);
-    return may;
+}
+
+static void carry_out(Engine *self, uint32_t task, Looking *it)
+{
+    switch (task) {
+    case DCONFDB_GLANCE_HAND:
+        hand_out(self, it);
+        break;
+    case DCONFDB_GLANCE_HEED:  /* the turn asks the file and its notes */
+    case DCONFDB_GLANCE_WATCH: /* who watches hears of it by the profile */
+        break;
+    default:
+        read_files(self, task, it);
+    }
+}
+
+static void look(Engine *self, Looking *it)
+{
+    uint32_t task = DCONFDB_GLANCE_BEGINS;
+    it->before = it->store ? dconfdb_store_snapshot(it->store) : NULL;
+    it->known.first = it->known.second = DCONFDB_FILE_SAME;
+    it->known.is_open = it->store != NULL;
+    while ((task = dconfdb_glance_after(task, &it->known)) < DCONFDB_GLANCE_SEEN)
+        carry_out(self, task, it);
+    it->known.is_done = task == DCONFDB_GLANCE_SEEN;
+    dconfdb_snapshot_unref(it->before);
+    dconfdb_snapshot_unref(it->after);
+}
+
+/* `lock` is held. Whether something may have been told that nobody has looked at yet. */
+static bool is_told(const Engine *self)
+{
+    struct pollfd file = {self->hearing.number - 1, POLLIN, 0};
+    return file.fd < 0 || poll(&file, 1, 0) != 0;
+}
+
+/* `lock` is held. Only for who reads the system is asked what was told. A child of fork() shares the descriptor with its parent, who may have
+ * taken it. */
+static uint32_t look_due(const Engine *self, uint32_t looker)
+{
+    DconfdbLookKnown known = {
+        .until = (uint64_t)self->hearing.until,
+        .is_open = self->store != NULL,
+        .is_watched = self->source != NULL,
+        .is_whole = self->hearing.is_whole,
+        .is_told = looker != DCONFDB_LOOKER_GETS || is_told(self),
+        .is_own = self->hearing.process == getpid(),
+        .is_busy = self->is_busy,
+    };
+    return dconfdb_look_due(looker, &known);
+}
+
+/* What becomes of a look. */
+static uint32_t begin_look(Engine *self, uint32_t looker, DconfdbStore **store)
+{
+    g_mutex_lock(&self->lock);
+    uint32_t due = look_due(self, looker);
+    self->is_to_look = self->is_to_look || due == DCONFDB_LOOK_LATER;
+    self->looks += due == DCONFDB_LOOK_OPENS || due == DCONFDB_LOOK_NOW;
+    *store = self->store;
+    g_mutex_unlock(&self->lock);
+    return due;
 }
 
 static void end_look(Engine *self)
@@ -98,63 +172,67 @@ static void end_look(Engine *self)
     g_mutex_unlock(&self->lock);
 }
 
-/* False: it failed, or is not the moment. */
-static bool refresh(Engine *self, DconfdbStore *store)
+/* Messages are logged after it: who gets them may change a setting. False: it failed. */
+static bool look_now(Engine *self, DconfdbStore *store)
 {
-    DconfdbError error = DCONFDB_ERROR_INIT;
-    bool has_changed = false;
-    if (!begin_look(self))
-        return false;
-    bool is_done = dconfdb_store_refresh(store, &has_changed, &error);
+    Looking it = {.store = store, .error = DCONFDB_ERROR_INIT};
+    look(self, &it);
     end_look(self);
-    if (!is_done)
-        warn_of_faults(self, store, &error);
-    /* A look that finds nothing new finds the same faults. */
-    bool had_failed = g_atomic_int_compare_and_exchange(&self->has_failed, is_done, !is_done);
-    if (is_done && (has_changed || had_failed))
-        warn_of_faults(self, store, NULL);
-    return is_done;
+    warn_of_faults(self, it.known.is_done ? NULL : &it.error);
+    return it.known.is_done;
+}
+
+/* False: it failed, or is still to be made. */
+static bool look_if_due(Engine *self, uint32_t looker)
+{
+    DconfdbStore *store;
+    switch (begin_look(self, looker, &store)) {
+    case DCONFDB_LOOK_OPENS:
+    case DCONFDB_LOOK_NOW:
+        return look_now(self, store);
+    case DCONFDB_LOOK_LATER:
+        return false;
+    default:
+        return true;
+    }
+}
+
+static DconfdbSnapshot *see(Engine *self, uint32_t looker)
+{
+    look_if_due(self, looker);
+    g_mutex_lock(&self->lock);
+    DconfdbSnapshot *now = self->store ? dconfdb_store_snapshot(self->store) : NULL;
+    g_mutex_unlock(&self->lock);
+    return now;
 }
 
 bool engine_refresh(Engine *self)
 {
-    DconfdbStore *store = engine_store(self);
-    return store && refresh(self, store);
+    return look_if_due(self, DCONFDB_LOOKER_SEES);
 }
 
 DconfdbSnapshot *engine_look(Engine *self)
 {
-    DconfdbStore *store = engine_store(self);
-    if (!store)
-        return NULL;
-    refresh(self, store);
-    return dconfdb_store_snapshot(store);
+    return see(self, DCONFDB_LOOKER_SEES);
 }
 
 DconfdbSnapshot *engine_newest(Engine *self)
 {
-    g_mutex_lock(&self->lock);
-    DconfdbSnapshot *now = self->source && self->store ? dconfdb_store_snapshot(self->store) : NULL;
-    g_mutex_unlock(&self->lock);
-    return now ? now : engine_look(self);
-}
-
-/* Whether something may have been told that nobody has looked at yet. */
-static bool is_told(struct pollfd file)
-{
-    return file.fd < 0 || poll(&file, 1, 0) != 0;
-}
-
-/* Whether who reads needs no look. A child of fork() shares the descriptor with its parent, who may have taken what was told. */
-static bool is_current(Engine *self)
-{
-    struct pollfd file = {g_atomic_int_get(&self->hears) - 1, POLLIN, 0};
-    return dconfdb_is_current(file.fd >= 0, is_told(file), g_atomic_int_get(&self->hearer) == getpid());
+    return see(self, DCONFDB_LOOKER_CHANGES);
 }
 
 DconfdbSnapshot *engine_current(Engine *self)
 {
-    return is_current(self) ? engine_newest(self) : engine_look(self);
+    return see(self, DCONFDB_LOOKER_GETS);
+}
+
+DconfdbStore *engine_store(Engine *self)
+{
+    look_if_due(self, DCONFDB_LOOKER_OPENS);
+    g_mutex_lock(&self->lock);
+    DconfdbStore *store = self->store;
+    g_mutex_unlock(&self->lock);
+    return store;
 }
 
 void engine_begin_write(Engine *self)
@@ -173,7 +251,7 @@ void engine_end_write(Engine *self)
     self->is_busy = self->is_to_look = FALSE;
     g_mutex_unlock(&self->lock);
     if (is_to_look)
-        dconfdb_snapshot_unref(engine_look(self));
+        engine_refresh(self);
 }
 
 gboolean engine_has_user(Engine *self)
@@ -194,10 +272,7 @@ Engine *engine_new(DConfClient *client)
     g_cond_init(&self->looked);
     self->watched = g_hash_table_new_full(g_str_hash, g_str_equal, g_free, NULL);
     self->moments = g_hash_table_new_full(g_str_hash, g_str_equal, g_free, g_free);
-    DconfdbSnapshot *now = engine_look(self);
-    if (now)
-        warn_of_faults(self, self->store, NULL);
-    dconfdb_snapshot_unref(now);
+    engine_store(self);
     return self;
 }
 
@@ -281,7 +356,8 @@ static uint32_t find(Engine *self, const gchar *key, DConfReadFlags flags, const
     DconfdbKnown known = {.waits = is_edited, .sets = value != NULL, .edit_fits = true, .stored_fits = true};
     known.writable = of_user && engine_has_user(self);
     known.may_write = is_edited && seen_is_writable(now, key);
-    return dconfdb_found(of_user, of_default, &known);
+    bool is_odd;
+    return dconfdb_found(of_user, of_default, &known, &is_odd);
 }
 
 GVariant *engine_read(Engine *self, const gchar *key, DConfReadFlags flags, const GQueue *read_through)

@@ -66,27 +66,30 @@ static gboolean is_no_value_below(const gchar *path, GVariant *value, gpointer d
     return !value || !paths_meet(path, directory);
 }
 
-static gboolean says_same(GVariant *found, GVariant *value)
+/* A key has nothing below it. */
+static bool has_value_below(DConfChangeset *set, const gchar *path)
 {
-    gboolean is = found && value ? g_variant_equal(found, value) : found == value;
-    g_clear_pointer(&found, g_variant_unref);
-    return is;
+    return dconf_is_dir(path, NULL) && !dconf_changeset_all(set, is_no_value_below, (gpointer)path);
+}
+
+/* What a set says of an edit's path, or none. */
+static DconfdbSaid said_of(DConfChangeset *set, const gchar *path, GVariant *value)
+{
+    g_autoptr(GVariant) found = NULL;
+    if (!set)
+        return (DconfdbSaid){.says = false};
+    bool says = dconf_changeset_get(set, path, &found);
+    return (DconfdbSaid){says, found && value ? g_variant_equal(found, value) : found == value, has_value_below(set, path)};
 }
 
 /* `lock` is held. Whether the user has that already, or will have once what waits is written. */
-static gboolean is_redundant(Engine *self, const DconfdbSnapshot *now, const DconfdbEdit *edit, GVariant *value)
+static bool is_redundant(Engine *self, const DconfdbSnapshot *now, const DconfdbEdit *edit, GVariant *value)
 {
-    GVariant *found = NULL;
-    bool is_directory = dconf_is_dir(edit->path, NULL);
-    size_t number, asked = 0;
-    while ((number = dconfdb_asked_after(DCONFDB_ASKED_WAITING, asked++)) != DCONFDB_ASKED_STORE) {
-        DConfChangeset *set = engine_set(self, number, NULL);
-        if (set && is_directory && !dconf_changeset_all(set, is_no_value_below, (gpointer)edit->path))
-            return FALSE;
-        if (set && dconf_changeset_get(set, edit->path, &found))
-            return says_same(found, value);
-    }
-    return dconfdb_snapshot_has_edit(now, edit);
+    DconfdbSaid said[DCONFDB_ASKED_WAITING];
+    size_t count = 0, number;
+    while ((number = dconfdb_asked_after(DCONFDB_ASKED_WAITING, count)) != DCONFDB_ASKED_STORE)
+        said[count++] = said_of(engine_set(self, number, NULL), edit->path, value);
+    return dconfdb_is_said(said, count, dconfdb_snapshot_has_edit(now, edit));
 }
 
 /* `lock` is held. What becomes of the changes beside what waits. */
@@ -151,8 +154,6 @@ static gboolean take(Engine *self, const DconfdbSnapshot *now, const Edits *edit
 
 gboolean engine_change_fast(Engine *self, DConfChangeset *changes, GError **error)
 {
-    if (dconf_changeset_is_empty(changes))
-        return TRUE;
     DconfdbSnapshot *now = engine_newest(self);
     Edits edits = edits_of(changes);
     gboolean is_done = take(self, now, &edits, changes, error);

@@ -11,6 +11,14 @@
 
 /* ---- a client's store (engine.c) */
 
+/* What the source of a client has heard of its files. */
+typedef struct {
+    int number; /* one more than the descriptor by which it is told; 0: none, or what was told is not looked at yet */
+    int process; /* that has it */
+    bool is_whole; /* it is told of all that happens to the files */
+    gint64 until; /* when it looks again of itself; 0: once something is told */
+} Hearing;
+
 /* It outlives its client as long as something waits. `turn` is taken before `lock`. No signal is emitted while either
  * is held, and no message logged while `lock` is. */
 typedef struct {
@@ -31,14 +39,11 @@ typedef struct {
     gboolean is_busy;        /* its file is being replaced: nobody looks at the files, which would wait for the disk */
     gboolean is_to_look;     /* somebody wanted to, meanwhile */
     guint looks;             /* how many threads look at the files */
-    gint has_failed;         /* the last look; atomic */
     GCond looked;            /* none does */
     gboolean has_thread;     /* one writes what waits */
     GHashTable *watched;     /* paths, and how often each is watched */
     GSource *source;         /* NULL: nothing is watched */
-    gint hears;              /* one more than the descriptor by which all that happens to the files is told, as long as all that was told
-                              * is looked at; 0: none; atomic */
-    gint hearer;             /* the process that has it; atomic */
+    Hearing hearing;
     DconfdbSnapshot *told;   /* what listeners know of; NULL: nothing is watched, or no store could be opened yet */
 } Engine;
 
@@ -50,14 +55,11 @@ void engine_unref(Engine *self);
 /* The store; NULL: it can't be opened. One warning says why. */
 DconfdbStore *engine_store(Engine *self);
 
-/* The files as they are now, a reference; NULL: the store can't be opened. It waits for no disk: as long as this
- * client replaces the user's file, it is what was seen before. */
+/* What is seen of the files, a reference; NULL: the store can't be opened. It waits for no disk: as long as this client replaces the user's
+ * file, it is what was seen before. Whether they are looked at, dconfdb_look_due says: for who wants to see them, who changes a setting, and
+ * who reads one. */
 DconfdbSnapshot *engine_look(Engine *self);
-
-/* The same without a look, where the files are watched. */
 DconfdbSnapshot *engine_newest(Engine *self);
-
-/* The same without a look where they are watched, and nothing has been told of them since they were looked at: for who reads. */
 DconfdbSnapshot *engine_current(Engine *self);
 
 /* Looks at the files. False: the store can't be opened, or the files can't be read now, or this client replaces the user's: a look

@@ -79,39 +79,41 @@ typedef struct {
     GPtrArray *paths; /* lists of the paths below directories */
 } Own;
 
-static void add_edit(const Own *own, const gchar *path, GVariant *value)
+/* What the changes say of a key. */
+static void add_key(const Own *own, DConfChangeset *changes, const gchar *key)
 {
-    DconfdbEdit edit = {path, NULL, NULL, 0};
-    if (value)
-        edit = (DconfdbEdit){path, g_variant_get_type_string(value), g_variant_get_data(value), g_variant_get_size(value)};
+    DconfdbEdit edit = {key, NULL, NULL, 0};
+    GVariant *value = NULL;
+    if (!dconf_changeset_get(changes, key, &value))
+        return;
+    if (value) {
+        edit = (DconfdbEdit){key, g_variant_get_type_string(value), g_variant_get_data(value), g_variant_get_size(value)};
+        g_variant_unref(value); /* the changes have it */
+    }
     g_array_append_val(own->edits, edit);
 }
 
-/* The reset of a directory is that of each key below it. */
-static void add_resets(const Own *own, const DconfdbSnapshot *snapshot, const gchar *directory)
+/* The same of each key below a directory. */
+static void add_below(const Own *own, DConfChangeset *changes, const DconfdbSnapshot *snapshot, const gchar *directory)
 {
-    char *paths = snapshot ? snapshot_paths(snapshot, directory, NULL) : NULL;
+    char *paths = snapshot && dconf_is_dir(directory, NULL) ? snapshot_paths(snapshot, directory, NULL) : NULL;
     if (!paths)
         return;
     g_ptr_array_add(own->paths, paths);
     for (const char *at = paths; *at; at += strlen(at) + 1)
-        add_edit(own, at, NULL);
+        add_key(own, changes, at);
 }
 
 static void add_own(const Own *own, DConfChangeset *changes, const DconfdbSnapshot *before, const DconfdbSnapshot *now)
 {
     const gchar *prefix, *const *paths;
-    GVariant *const *values;
-    guint count = dconf_changeset_describe(changes, &prefix, &paths, &values);
+    guint count = dconf_changeset_describe(changes, &prefix, &paths, NULL);
     for (guint i = 0; i < count; i++) {
         gchar *path = g_strconcat(prefix, paths[i], NULL);
         g_ptr_array_add(own->paths, path);
-        if (!dconf_is_dir(path, NULL)) {
-            add_edit(own, path, values[i]);
-            continue;
-        }
-        add_resets(own, before, path);
-        add_resets(own, now, path);
+        add_key(own, changes, path);
+        add_below(own, changes, before, path);
+        add_below(own, changes, now, path);
     }
 }
 

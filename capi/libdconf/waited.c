@@ -72,54 +72,76 @@ static Batch batch_of(Engine *self, const Edits *edits)
 
 /* ---- what is made */
 
-/* Whether others have set it since. What counts as set in the turn nobody has. */
-static bool is_overtaken(const Batch *batch, size_t at, const DconfdbSnapshot *now)
+/* What is known of an edit that was tried. */
+static DconfdbTried tried_of(const Batch *batch, size_t at, bool is_written, const DconfdbSnapshot *now)
 {
-    return batch->moments[at] != UINT64_MAX && !dconfdb_snapshot_has_edit(now, batch->edits[at]);
+    return (DconfdbTried){
+        .is_written = is_written,
+        .is_refused = batch_is_refused(batch, at),
+        .is_left_out = batch_is_left_out(batch, at),
+        .is_now = batch->moments[at] == UINT64_MAX,
+        .is_there = dconfdb_snapshot_has_edit(now, batch->edits[at]),
+    };
 }
 
-/* Adds the paths of what isn't made: what is refused or left out, and what others have set since. */
-static void add_unmade(const Batch *batch, DconfdbStore *store, gboolean is_done, GHashTable *unmade)
+/* The paths of what isn't made, by what was there then. */
+static void add_unmade(const Batch *batch, const DconfdbSnapshot *then, bool is_written, GHashTable *unmade)
 {
-    DconfdbSnapshot *now = dconfdb_store_snapshot(store);
     for (size_t at = 0; at < batch->count; at++) {
-        if (batch_is_refused(batch, at) || batch_is_left_out(batch, at) || (is_done && is_overtaken(batch, at, now)))
+        DconfdbTried tried = tried_of(batch, at, is_written, then);
+        if (dconfdb_is_unmade(&tried))
             g_hash_table_add(unmade, g_strdup(batch->edits[at]->path));
     }
-    dconfdb_snapshot_unref(now);
 }
 
-static gboolean put_batch(Engine *self, Batch *batch, GHashTable *unmade, DconfdbError *refusal, DconfdbError *fault)
+/* A try to write what waits. */
+typedef struct {
+    Engine *engine;
+    DconfdbStore *store;
+    DconfdbSnapshot *after; /* what is there at the turn's end, or NULL: nothing was put */
+    Batch batch;
+    DconfdbError refusal; /* what is to be told of what isn't made, if it has a number */
+    DconfdbError *fault;
+} Try;
+
+/* But for what is refused, or others have set since. */
+static bool put(Try *try)
 {
     FolderLock lock;
     Turn turn;
-    DconfdbStore *store = store_of(self, fault);
-    if (!store)
-        return FALSE;
-    bool has_begun = turn_begin(self, store, &lock, &turn);
-    gboolean is_done = batch_write(batch, store, &turn, refusal, fault);
-    add_unmade(batch, store, is_done, unmade);
+    bool has_begun = turn_begin(try->engine, try->store, &lock, &turn);
+    bool is_done = batch_write(&try->batch, try->store, &turn, &try->refusal, try->fault);
+    try->after = dconfdb_store_snapshot(try->store);
     if (has_begun)
-        turn_end(self, &turn, &lock);
+        turn_end(try->engine, &lock);
     return is_done;
 }
 
-/* Makes the changes that waited, but for those that are refused, or that others have set since: their paths come into `unmade`. What is to be
- * told of that is in `refusal`, if it has a number. */
-static gboolean put_waiting(Engine *self, DConfChangeset *changes, GHashTable *unmade, DconfdbError *refusal, DconfdbError *fault)
+/* As a change whose caller waits for it: what is there is only brought to the disk. */
+static bool put_in_steps(Try *try, DconfdbChanging *known)
 {
-    DconfdbSnapshot *now = engine_look(self);
+    uint32_t task = DCONFDB_CHANGING_BEFORE;
+    bool yes = true;
+    while ((task = dconfdb_changing_after(task, yes, known)) < DCONFDB_CHANGING_MADE)
+        yes = task == DCONFDB_CHANGING_SETTLE ? settle_store(try->store, NULL) : put(try);
+    return task == DCONFDB_CHANGING_MADE;
+}
+
+/* Makes the changes that waited. The paths of what isn't made come into `unmade`. */
+static bool put_waiting(Try *try, DConfChangeset *changes, GHashTable *unmade)
+{
+    DconfdbSnapshot *now = engine_look(try->engine);
     Edits edits = edits_of(changes);
-    g_autofree DconfdbNewEdit *known = now ? known_of(&edits, true, now) : NULL;
-    /* What another program wrote may not be on the disk yet. */
-    gboolean is_done = known && edits_are_there(known, edits.edits->len) && settle_store(engine_store(self), NULL);
-    if (!is_done) {
-        if (known)
-            leave_out(&edits, known);
-        Batch batch = batch_of(self, &edits);
-        is_done = put_batch(self, &batch, unmade, refusal, fault);
-        batch_end(&batch);
-    }
+    DconfdbChanging changing = {.has_store = try->store, .has_user = engine_has_user(try->engine)};
+    g_autofree DconfdbNewEdit *known = known_of(&edits, changing.has_user, now);
+    changing.is_there = edits_are_there(known, edits.edits->len);
+    leave_out(&edits, known);
+    changing.is_left = edits.edits->len > 0;
+    try->batch = batch_of(try->engine, &edits);
+    bool is_done = put_in_steps(try, &changing);
+    add_unmade(&try->batch, try->after ? try->after : now, is_done, unmade);
+    dconfdb_snapshot_unref(try->after);
+    batch_end(&try->batch);
     edits_clear(&edits);
     dconfdb_snapshot_unref(now);
     return is_done;
@@ -142,7 +164,9 @@ static DConfChangeset *take_waiting(Engine *self)
 static bool goes_on(const gchar *path, GHashTable *unmade, DConfChangeset *newer)
 {
     bool is_newer = newer && dconf_changeset_get(newer, path, NULL);
-    return dconfdb_waiting_fate(false, g_hash_table_contains(unmade, path), 1, true, is_newer ? 2 : 0, true) == DCONFDB_FATE_WAITS;
+    DconfdbWaiter one = {
+        .edit = {1, true}, .newest = {is_newer ? 2 : 0, true}, .is_tried = true, .is_refused = g_hash_table_contains(unmade, path)};
+    return dconfdb_waiting_line(&one, 1, false) > 0;
 }
 
 /* What goes on waiting of a set, and all that was asked for since. */
@@ -210,11 +234,11 @@ gboolean write_waiting(Engine *self, gboolean tries_again, DconfdbError *fault)
     DConfChangeset *taken = take_waiting(self);
     if (!taken)
         return TRUE;
-    DconfdbError refusal = DCONFDB_ERROR_INIT;
     g_autoptr(GHashTable) unmade = g_hash_table_new_full(g_str_hash, g_str_equal, g_free, NULL);
-    gboolean is_done = put_waiting(self, taken, unmade, &refusal, fault);
-    if (refusal.code != DCONFDB_ERROR_NONE)
-        g_warning("failed to commit changes to dconf: %s", refusal.text);
+    Try try = {.engine = self, .store = store_of(self, fault), .refusal = DCONFDB_ERROR_INIT, .fault = fault};
+    bool is_done = put_waiting(&try, taken, unmade);
+    if (try.refusal.code != DCONFDB_ERROR_NONE)
+        g_warning("failed to commit changes to dconf: %s", try.refusal.text);
     if (is_done) {
         dconfdb_failing_met(&self->failing, false, false, false, 0);
         end_flying(self);

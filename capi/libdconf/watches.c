@@ -20,19 +20,21 @@ static void begin(FileSource *self)
     const DconfdbStore *store = engine_store(self->engine);
     bool is_whole = store ? watch_store(self->watch, store) : watch_begin(self->watch, engine_place(self->engine));
     int descriptor = watch_descriptor(self->watch);
-    if (descriptor >= 0 && !self->descriptor)
+    if (descriptor >= 0 && !self->descriptor && !g_source_is_destroyed(&self->source))
         self->descriptor = g_source_add_unix_fd(&self->source, descriptor, G_IO_IN);
     watch_answer(self->watch, is_whole);
 }
 
-/* Whether who reads is to ask it first, from now on. */
-static void hears(FileSource *self, bool is)
+/* From now on, unless another source watches the files by now, or none. */
+static void hears(FileSource *self, Hearing hearing)
 {
-    g_atomic_int_set(&self->engine->hearer, getpid());
-    g_atomic_int_set(&self->engine->hears, is ? watch_descriptor(self->watch) + 1 : 0);
+    g_mutex_lock(&self->engine->lock);
+    if (self->engine->source == &self->source)
+        self->engine->hearing = hearing;
+    g_mutex_unlock(&self->engine->lock);
 }
 
-/* Until there is nothing to do but to wait. Where only what inotify tells is waited for all that it told is looked at. */
+/* Until there is nothing to do but to wait. */
 static void carry_out(FileSource *self)
 {
     gint64 until;
@@ -45,14 +47,14 @@ static void carry_out(FileSource *self)
         }
     }
     g_source_set_ready_time(&self->source, until == 0 ? -1 : until);
-    hears(self, until == 0 && watch_is_whole(self->watch));
+    hears(self, (Hearing){watch_descriptor(self->watch) + 1, getpid(), watch_is_whole(self->watch), until});
 }
 
 static gboolean dispatch(GSource *source, GSourceFunc callback, gpointer data)
 {
     FileSource *self = (FileSource *)source;
     (void)callback, (void)data;
-    hears(self, false);
+    hears(self, (Hearing){0});
     watch_hear(self->watch);
     carry_out(self);
     return G_SOURCE_CONTINUE;
@@ -80,6 +82,15 @@ static GSource *source_new(Engine *engine)
 
 /* ---- the paths */
 
+/* Unless another thread has ended it meanwhile. */
+static void attach(Engine *self, GSource *source)
+{
+    g_mutex_lock(&self->lock);
+    if (self->source == source)
+        g_source_attach(source, self->context);
+    g_mutex_unlock(&self->lock);
+}
+
 /* Looks at the files, watches them, and looks again: what changes in between is told. Where the store can't be opened now, all that
  * is in it will be. */
 static void begin_watching(Engine *self)
@@ -95,7 +106,7 @@ static void begin_watching(Engine *self)
     g_mutex_unlock(&self->lock);
     if (is_first) {
         carry_out((FileSource *)source);
-        g_source_attach(source, self->context);
+        attach(self, source);
     }
     g_source_unref(source);
     dconfdb_snapshot_unref(now);
@@ -115,12 +126,13 @@ void engine_watch(Engine *self, const gchar *path)
 static void end_watching(Engine *self)
 {
     g_mutex_lock(&self->lock);
-    gboolean is_last = g_hash_table_size(self->watched) == 0;
+    bool is_last = g_hash_table_size(self->watched) == 0;
     GSource *source = is_last ? g_steal_pointer(&self->source) : NULL;
     DconfdbSnapshot *told = is_last ? g_steal_pointer(&self->told) : NULL;
+    if (is_last)
+        self->hearing = (Hearing){0};
     g_mutex_unlock(&self->lock);
     if (source) {
-        g_atomic_int_set(&self->hears, 0);
         g_source_destroy(source);
         g_source_unref(source);
     }

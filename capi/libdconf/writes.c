@@ -28,18 +28,16 @@ void set_writing(Engine *self, DConfChangeset *changes)
 /* Waits for the turn to write, before anybody who reads is kept from the files. False: that fault. */
 bool turn_begin(Engine *self, DconfdbStore *store, FolderLock *lock, Turn *turn)
 {
-    bool has_user = engine_has_user(self);
-    *turn = (Turn){has_user ? lock : NULL, has_user ? folder_lock(dconfdb_store_folder(store), LONGEST_WAIT, lock) : 0};
+    *turn = (Turn){lock, folder_lock(dconfdb_store_folder(store), LONGEST_WAIT, lock)};
     if (turn->fault != 0)
         return false;
     engine_begin_write(self);
     return true;
 }
 
-void turn_end(Engine *self, const Turn *turn, FolderLock *lock)
+void turn_end(Engine *self, FolderLock *lock)
 {
-    if (turn->lock)
-        folder_unlock(lock);
+    folder_unlock(lock);
     engine_end_write(self);
 }
 
@@ -65,7 +63,7 @@ static gboolean put(Engine *self, const Edits *edits, DconfdbError *fault)
     if (!turn_begin(self, store, &lock, &turn))
         return refuse_lock(store, turn.fault, fault);
     gboolean is_done = locked_change(store, turn.lock, edit_at(edits, 0), NULL, edits->edits->len, fault);
-    turn_end(self, &turn, &lock);
+    turn_end(self, &lock);
     return is_done;
 }
 
@@ -103,12 +101,12 @@ static bool is_refused(Engine *engine, const Edits *edits)
 static void learn(Change *self)
 {
     self->now = engine_look(self->engine);
+    self->known.has_store = store_of(self->engine, &self->fault);
     self->known.has_user = engine_has_user(self->engine);
     g_autofree DconfdbNewEdit *known = known_of(&self->edits, self->known.has_user, self->now);
     self->known.is_there = edits_are_there(known, self->edits.edits->len);
     self->told = effective(&self->edits, known, self->changes);
-    if (self->known.has_user)
-        leave_out(&self->edits, known);
+    leave_out(&self->edits, known);
     self->known.is_left = self->edits.edits->len > 0;
 }
 

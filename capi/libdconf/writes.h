@@ -19,7 +19,7 @@ static inline const DconfdbEdit *edit_at(const Edits *self, guint at)
     return &g_array_index(self->edits, DconfdbEdit, at);
 }
 
-/* Seals the set. */
+/* Seals the set, unless it is empty, as dconf has it. */
 Edits edits_of(DConfChangeset *changes);
 void edits_clear(Edits *self);
 
@@ -32,7 +32,7 @@ DconfdbNewEdit *known_of(const Edits *self, bool has_user, const DconfdbSnapshot
 /* The changes of which the user has something else. */
 DConfChangeset *effective(const Edits *self, const DconfdbNewEdit *known, DConfChangeset *changes);
 
-/* Keeps those that may be made, and what sets a key that may not: that is refused. */
+/* Takes out the resets of what may not be written. */
 void leave_out(Edits *self, const DconfdbNewEdit *known);
 
 /* ---- how they are written (writes.c) */
@@ -45,7 +45,7 @@ void set_writing(Engine *self, DConfChangeset *changes);
 
 /* Waits for the turn to write, before anybody who reads is kept from the files. False: that fault. */
 bool turn_begin(Engine *self, DconfdbStore *store, FolderLock *lock, Turn *turn);
-void turn_end(Engine *self, const Turn *turn, FolderLock *lock);
+void turn_end(Engine *self, FolderLock *lock);
 
 /* The store; or the fault that it can't be opened. */
 DconfdbStore *store_of(Engine *self, DconfdbError *fault);

@@ -3,7 +3,6 @@
 #define _POSIX_C_SOURCE 200809L
 #define _FILE_OFFSET_BITS 64
 #include "changing.h"
-#include "edits.h"
 #include "errors.h"
 #include "held.h"
 #include "texts.h"
@@ -38,50 +37,6 @@ bool refuse_lock(const DconfdbStore *store, int fault, DconfdbError *error)
     return refuse(error, DCONFDB_ERROR_BUSY, 0, nowhere, "%s: others have been changing it for %d ms", name, wait);
 }
 
-/* No file is to be made: only why a change is at fault has to be said, and which edit. */
-static bool change_nothing(DconfdbStore *store, Asking *asking, DconfdbError *error)
-{
-    pthread_mutex_lock(&store->refreshing);
-    bool done = (!store->user_file || store_refresh(store, NO_FOLDER, error)) && change_is_well(store, asking, error);
-    pthread_mutex_unlock(&store->refreshing);
-    return done && store_settle_own(store, NULL, error);
-}
-
-bool locked_change(DconfdbStore *store, const FolderLock *lock, const DconfdbEdit *edits, const Made *made, size_t count,
-                   DconfdbError *error)
-{
-    Asking asking;
-    if (count == 0)
-        return true;
-    int cancels = hold_cancellation();
-    bool done = asking_begin(&asking, edits, made, count) || refuse_memory(error);
-    if (done) {
-        done = store->user_file ? change_in_turn(store, lock, &asking, error) : change_nothing(store, &asking, error);
-        asking_free(&asking);
-    }
-    cancel_as_before(cancels);
-    return done;
-}
-
-/* What stands at the name of the user's file. */
-static uint32_t users_file(const DconfdbStore *store)
-{
-    FileState state;
-    if (file_look(store->user_file, &state) != 0)
-        return DCONFDB_USERS_UNREADABLE;
-    return state.is_there ? DCONFDB_USERS_THERE : DCONFDB_USERS_MISSING;
-}
-
-/* Where none is made, neither is a folder, nor a lock's file. */
-static bool needs_file(const DconfdbStore *store, const Asking *asking)
-{
-    uint32_t users = store->user_file ? DCONFDB_USERS_UNKNOWN : DCONFDB_USERS_NOWHERE;
-    uint32_t need = dconfdb_file_need(users, asking->changes, asking->count);
-    if (need == DCONFDB_NEED_LOOK)
-        need = dconfdb_file_need(users_file(store), asking->changes, asking->count);
-    return need == DCONFDB_NEED_FILE;
-}
-
 static bool lock_and_change(DconfdbStore *store, Asking *asking, DconfdbError *error)
 {
     FolderLock lock;
@@ -94,24 +49,93 @@ static bool lock_and_change(DconfdbStore *store, Asking *asking, DconfdbError *e
     return done;
 }
 
-static bool change(DconfdbStore *store, const DconfdbSnapshot *expected, const DconfdbEdit *edits, size_t count, DconfdbError *error)
+/* What stands at the name of the user's file. */
+static uint32_t users_file(const DconfdbStore *store)
+{
+    FileState state;
+    if (file_look(store->user_file, &state) != 0)
+        return DCONFDB_USERS_UNREADABLE;
+    return state.is_there ? DCONFDB_USERS_THERE : DCONFDB_USERS_MISSING;
+}
+
+/* Where no file is made, neither is a folder, nor a lock's file: only why a change is at fault is said, and which edit. */
+static bool look(DconfdbStore *store, DconfdbError *error)
+{
+    pthread_mutex_lock(&store->refreshing);
+    bool is = store_refresh(store, NO_FOLDER, error);
+    pthread_mutex_unlock(&store->refreshing);
+    return is;
+}
+
+static bool is_well(DconfdbStore *store, Asking *asking, DconfdbError *error)
+{
+    pthread_mutex_lock(&store->refreshing);
+    bool is = change_is_well(store, asking, error);
+    pthread_mutex_unlock(&store->refreshing);
+    return is;
+}
+
+/* A change, and what stands at the name of the user's file. */
+typedef struct {
+    DconfdbStore *store;
+    const FolderLock *lock; /* NULL: it isn't had */
+    Asking *asking;
+    uint32_t users;
+    DconfdbError *error;
+} Course;
+
+/* Carries out a task, and gives its answer. */
+static bool carry_out(Course *it, uint32_t task)
+{
+    switch (task) {
+    case DCONFDB_COURSE_LOOK:
+        it->users = users_file(it->store);
+        return true;
+    case DCONFDB_COURSE_CHANGE: return lock_and_change(it->store, it->asking, it->error);
+    case DCONFDB_COURSE_TURN: return change_in_turn(it->store, it->lock, it->asking, it->error);
+    case DCONFDB_COURSE_REFRESH: return look(it->store, it->error);
+    case DCONFDB_COURSE_WELL: return is_well(it->store, it->asking, it->error);
+    default: return store_settle_name(it->store, NULL, it->error);
+    }
+}
+
+static bool go_through(Course *it, const DconfdbCourse *known)
+{
+    const Asking *asking = it->asking;
+    uint32_t task = dconfdb_course_after(DCONFDB_COURSE_BEGINS, true, it->users, asking->changes, asking->count, known);
+    while (task < DCONFDB_COURSE_DONE) {
+        bool yes = carry_out(it, task);
+        task = dconfdb_course_after(task, yes, it->users, asking->changes, asking->count, known);
+    }
+    return task == DCONFDB_COURSE_DONE;
+}
+
+static bool change(DconfdbStore *store, const FolderLock *lock, const DconfdbSnapshot *expected, const DconfdbEdit *edits, const Made *made,
+                   size_t count, DconfdbError *error)
 {
     Asking asking;
-    if (count == 0)
-        return true;
-    if (!asking_begin(&asking, edits, NULL, count))
-        return refuse_memory(error);
-    asking.expected = expected;
-    bool done = needs_file(store, &asking) ? lock_and_change(store, &asking, error) : change_nothing(store, &asking, error);
-    asking_free(&asking);
+    bool has_user = store->user_file != NULL;
+    const DconfdbCourse known = {.has_edits = count > 0, .has_user = has_user, .is_locked = lock != NULL, .is_unsynced = store->options.is_unsynced};
+    Course it = {store, lock, &asking, has_user ? DCONFDB_USERS_UNKNOWN : DCONFDB_USERS_NOWHERE, error};
+    int cancels = hold_cancellation();
+    bool done = asking_begin(&asking, edits, made, count) || refuse_memory(error);
+    if (done) {
+        asking.expected = expected;
+        done = go_through(&it, &known);
+        asking_free(&asking);
+    }
+    cancel_as_before(cancels);
     return done;
+}
+
+bool locked_change(DconfdbStore *store, const FolderLock *lock, const DconfdbEdit *edits, const Made *made, size_t count,
+                   DconfdbError *error)
+{
+    return change(store, lock, NULL, edits, made, count, error);
 }
 
 bool dconfdb_store_change(DconfdbStore *store, const DconfdbSnapshot *expected, const DconfdbEdit *edits, size_t count,
                           DconfdbError *error)
 {
-    int cancels = hold_cancellation();
-    bool done = change(store, expected, edits, count, error);
-    cancel_as_before(cancels);
-    return done;
+    return change(store, NULL, expected, edits, NULL, count, error);
 }

@@ -9,7 +9,6 @@
 #include "memory.h"
 #include "steps.h"
 
-#include <errno.h>
 #include <stddef.h>
 
 /* What is changed, and what the store has after it. */
@@ -147,7 +146,7 @@ static bool is_synced(const Changing *it, const Part *own)
 {
     const DconfdbSettling known = {.has_file = true, .is_known = own->is_settled, .is_in_turn = true, .asks_only = true};
     uint32_t task = dconfdb_settling_after(DCONFDB_SETTLING_BEGINS, true, &known);
-    if (task == DCONFDB_SETTLING_NOTES)
+    while (task < DCONFDB_SETTLING_KNOWN) /* the notes alone are asked */
         task = dconfdb_settling_after(task, order_is_synced(it->order, it->edited->store->own_name, &own->state), &known);
     return task == DCONFDB_SETTLING_KNOWN;
 }
@@ -157,8 +156,8 @@ int changing_note(Changing *it)
 {
     DconfdbStore *store = it->edited->store;
     Asking *asking = it->edited->asking;
-    DconfdbEnding ending;
-    dconfdb_ending(it->turn.outcome, it->turn.fault, store->is_unsettled, &ending);
+    DconfdbEnding ending = {.is_there = false};
+    dconfdb_ending(it->turn.outcome, it->turn.fault, store->is_unsettled, it->replacing.is_aside, &ending);
     const DconfdbSnapshot *now = ending.newest == DCONFDB_NEWEST_NEWER ? it->edited->newer : store->now;
     const Part *own = now->parts[0];
     if (ending.is_there && !asking_note(asking, now, it->order))
@@ -170,50 +169,33 @@ int changing_note(Changing *it)
     return 0;
 }
 
-/* What was wrong with the old file is kept if that has another name. */
-static void keep_fault(Changing *it)
-{
-    if (it->new->fault && it->replacing.is_aside) {
-        it->new->fault->aside = it->replacing.aside;
-        it->replacing.aside = NULL;
-    } else {
-        part_forgive(it->new);
-    }
-}
-
 /* The newest settings. */
-static void renew(Changing *it, uint32_t newest)
+static void renew(Changing *it, const DconfdbEnding *ending)
 {
     DconfdbStore *store = it->edited->store;
     DconfdbSnapshot *newer = it->edited->newer;
-    if (newest == DCONFDB_NEWEST_NEWER) {
-        keep_fault(it);
+    switch (ending->newest) {
+    case DCONFDB_NEWEST_NEWER:
+        part_was_set_aside(it->new, ending->keeps_fault ? &it->replacing.aside : NULL);
         store_renew(store, newer);
-    } else if (newest == DCONFDB_NEWEST_TRIED) {
+        break;
+    case DCONFDB_NEWEST_TRIED:
         dconfdb_snapshot_unref(store->tried);
         store->tried = newer;
-    } else {
+        break;
+    default:
         dconfdb_snapshot_unref(newer);
     }
-}
-
-static bool tell(const Changing *it, uint32_t told)
-{
-    if (told == DCONFDB_TOLD_BAD_WRITE)
-        refuse_file(it->error, EIO, it->file, nowhere);
-    else if (told == DCONFDB_TOLD_OUTCOME)
-        refuse_outcome(it->error, (uint32_t)it->step.number, it->file);
-    return told == DCONFDB_TOLD_NOTHING;
 }
 
 static bool end(Changing *it)
 {
     DconfdbStore *store = it->edited->store;
-    DconfdbEnding ending;
-    dconfdb_ending((uint32_t)it->step.number, it->step.fault, store->is_unsettled, &ending);
-    renew(it, ending.newest);
+    DconfdbEnding ending = {.is_there = false};
+    dconfdb_ending((uint32_t)it->step.number, it->step.fault, store->is_unsettled, it->replacing.is_aside, &ending);
+    renew(it, &ending);
     store->is_unsettled = ending.is_unsettled;
-    return tell(it, ending.told);
+    return tell_ending(it->error, &ending, (int)it->step.fault, store->user_file);
 }
 
 /* With memory for all that the proved calls make of a file of a few keys. */
@@ -229,12 +211,14 @@ static void run(Changing *it)
 bool change_in_turn(DconfdbStore *store, const FolderLock *lock, Asking *asking, DconfdbError *error)
 {
     Edited edited = {.store = store, .lock = lock, .asking = asking};
-    Changing it;
+    Changing it; /* its buffers are written before they are read */
     HeldSignal held;
+    it.turn = (DconfdbTurn){0};
+    it.step = (DconfdbStep){0};
     it.new = it.old = NULL;
     it.order = NULL;
     it.error = error;
-    it.file = store->user_file;
+    it.flag = store->flag;
     it.edited = &edited;
     int fault = replacing_begin(&it.replacing, lock->folder, store->own_name);
     if (fault != 0)

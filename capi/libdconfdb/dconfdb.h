@@ -24,7 +24,8 @@
  *
  * Compile it with `cc x.c $(pkg-config --cflags --libs dconfdb)`.
  *
- * WHERE A STORE IS. A store is a folder: the one given, else $DCONFDB_STORE, else
+ * WHERE A STORE IS. A store is a folder: the one given, else $DCONFDB_STORE, else, on a machine whose file
+ * /etc/dconfdb/store says `dconf`, that of dconf (see below), else
  * $XDG_CONFIG_HOME/dconfdb, else $HOME/.config/dconfdb, else .config/dconfdb in the home that the
  * system knows of the user (passwd(5)). An empty variable counts as unset, and so does one of the
  * last two that doesn't start with `/`. The profile is the file `profile` in the folder, else
@@ -40,6 +41,16 @@
  * PATH; blanks at either end of a line are dropped. A database whose file doesn't exist (ENOENT) is empty. The program
  * dconfdb, run in the folder, sees the same store if the folder has a file `profile` and the
  * environment names none.
+ *
+ * WHERE DCONF'S IS. Where no folder is given and $DCONFDB_STORE is unset, the file /etc/dconfdb/store says which kind of
+ * store the machine has: one word, `dconf` or `dconfdb`; the latter where there is no such file. Any
+ * other text, and a file that can't be read, is refused (BAD_LINE, FILE). dconf's is in dconf's places, by dconf(7):
+ * the folder is $XDG_CONFIG_HOME/dconf, else $HOME/.config/dconf, else .config/dconf in the home that
+ * the system knows; `user-db:NAME` is its file NAME, `system-db:NAME` is /etc/dconf/db/NAME, and a relative `file-db:PATH`
+ * is in the folder. The profile is /run/dconf/user/UID; else that of $DCONF_PROFILE, a path if it begins with `/`, else a
+ * name; else the file dconf/profile in $XDG_RUNTIME_DIR; else the one of the name `user`. A name is a file in
+ * /etc/dconf/profile, else in dconf/profile in one of $XDG_DATA_DIRS, the first first. Where there is none it is the text
+ * `user-db:user`, but if $DCONF_PROFILE names it, no other takes its place. $DCONFDB_PROFILE isn't asked.
  *
  * SNAPSHOTS. A snapshot is what the files held when they were looked at. It never changes. Each
  * file that is replaced by a rename is the old one or the new one, complete; of one that is overwritten
@@ -92,13 +103,15 @@
  * WHAT IS PROVED. The library asks proved calls what a database's bytes mean, what can be read of a bad
  * one, what a key's effective value is, what is locked, listed or different, what is in a value, what its
  * text is, and which value a text has; whether an edit may be made, whether something else is seen than was
- * expected, whether a value is stored already, and which file the edits make. By proved calls, too, go the
- * lines of a profile, which file is read next by a refresh, and the steps of a change: which one is next,
- * and what is said of the file in the end. The effective value is that of the
- * databases in their order, each of them sound, or what `repair` keeps of it. Everything else that this
- * header says is C, which is tested and not proved: where a store is; how files are read, mapped, locked
- * and replaced; references, threads and stack; the fields and text of an error; what a call does when
- * memory or the system fails. */
+ * expected, whether a value is stored already, and which file the edits make. By proved calls, too, go
+ * where a store is, which profile counts and what its lines name; which file is read next by a refresh,
+ * whether a file is the one that was read, and whether anything is news; a change from its beginning to its
+ * end: whether a file is made, which step is next, what an errno is to it, who set a key last, and what is
+ * said of the file, and known of it, in the end; how long a lock is waited for; and what is watched and
+ * heard of a store's files. The effective value is that of the databases in their order, each of them
+ * sound, or what `repair` keeps of it. What the proved calls say is carried out by C, which is tested and
+ * not proved: how files are read, mapped, locked and replaced; references, threads and stack; the text of
+ * an error; what a call does when memory is lacking. */
 #ifndef DCONFDB_H
 #define DCONFDB_H
 
@@ -240,9 +253,10 @@ DCONFDB_API void dconfdb_store_close(DconfdbStore *store) DCONFDB_NOEXCEPT;
 DCONFDB_API bool dconfdb_store_profile_fault(const DconfdbStore *store, DconfdbError *error)
     DCONFDB_NOEXCEPT DCONFDB_NONNULL((1));
 
-/* The files that opening the store of that folder, or of the environment, may look at: the folder's
- * profile, or the one that $DCONFDB_PROFILE names; that of all users, which is read only if the folder has
- * none and none is named; and the databases that the good lines of the profile that counts name. If
+/* The files that opening the store of that folder, or of the environment, may look at: the one that
+ * $DCONFDB_PROFILE names, or the folder's profile and that of all users, which is read only if the folder has
+ * none; of dconf's kind of store each that may be the profile, in the order in which they are looked for; and
+ * the databases that the good lines of the profile that counts name. If
  * opening a store fails, these are the files to check. The form is that of dconfdb_snapshot_list, and
  * getenv() is called as by dconfdb_store_open. NULL: it failed. */
 DCONFDB_NODISCARD DCONFDB_API char *dconfdb_store_files(const char *folder, size_t *size, DconfdbError *error)

@@ -5,9 +5,6 @@
 #include "snapshot.h"
 #include "locked.h"
 
-#include <stdlib.h>
-#include <string.h>
-
 bool have_same_others(const DconfdbSnapshot *one, const DconfdbSnapshot *other)
 {
     bool have = one->count > 0 && one->count == other->count;

@@ -62,7 +62,8 @@ bool edits_make_file(const DconfdbStore *store, const DconfdbChange *changes, co
 bool edit_is_made(const DconfdbSnapshot *now, const DconfdbChange *change)
 {
     bool is = false;
-    return dconfdb_is_made(now->layers, now->count, now->is_writable, change, &is) == DCONFDB_OK && is;
+    (void)dconfdb_is_made(now->layers, now->count, now->is_writable, change, &is);
+    return is;
 }
 
 bool dconfdb_snapshot_has_edit(const DconfdbSnapshot *snapshot, const DconfdbEdit *edit)

@@ -78,18 +78,25 @@ bool refuse_file(DconfdbError *error, int fault, const char *name, Place place)
     return refuse(error, code, fault, place, "%s: %s", name, words_of(fault).text);
 }
 
-bool refuse_outcome(DconfdbError *error, uint32_t outcome, const char *name)
+/* What is said of a file that is perhaps changed, or not on the disk. */
+static const char *const endings[] = {
+    [DCONFDB_TOLD_EITHER] = "it is perhaps replaced",
+    [DCONFDB_TOLD_UNSETTLED] = "it is replaced, but perhaps not on the disk yet",
+    [DCONFDB_TOLD_UNSYNCED] = "it is as it was to be, but perhaps not on the disk yet",
+};
+
+bool tell_ending(DconfdbError *error, const DconfdbEnding *ending, int fault, const char *name)
 {
-    if (!error || outcome == DCONFDB_TURN_KEPT)
-        return false;
-    int fault = error->code == DCONFDB_ERROR_FILE ? error->errnum : error->code == DCONFDB_ERROR_FILE_TOO_LARGE ? EOVERFLOW : ENOMEM;
-    if (outcome == DCONFDB_TURN_EITHER)
-        refuse(error, DCONFDB_ERROR_FILE, fault, nowhere, "%s: it is perhaps replaced: %s", name, words_of(fault).text);
-    else if (outcome == DCONFDB_TURN_UNSYNCED)
-        refuse(error, DCONFDB_ERROR_FILE, fault, nowhere, "%s: it is as it was to be, but perhaps not on the disk yet: %s", name, words_of(fault).text);
-    else
-        refuse(error, DCONFDB_ERROR_FILE, fault, nowhere, "%s: it is replaced, but perhaps not on the disk yet: %s", name, words_of(fault).text);
-    error->outcome = outcome == DCONFDB_TURN_UNSYNCED ? DCONFDB_OUTCOME_UNSETTLED : (DconfdbOutcome)outcome;
+    switch (ending->told) {
+    case DCONFDB_TOLD_NOTHING: return true;
+    case DCONFDB_TOLD_ALREADY: return false;
+    case DCONFDB_TOLD_FIRST: return refuse_file(error, fault, name, nowhere);
+    case DCONFDB_TOLD_BAD_WRITE: return refuse_file(error, EIO, name, nowhere);
+    default: break;
+    }
+    refuse(error, DCONFDB_ERROR_FILE, fault, nowhere, "%s: %s: %s", name, endings[ending->told], words_of(fault).text);
+    if (error)
+        error->outcome = (DconfdbOutcome)ending->outcome;
     return false;
 }
 

@@ -20,9 +20,9 @@ bool refuse_memory(DconfdbError *error);
 /* What a call of files.h answered. */
 bool refuse_file(DconfdbError *error, int fault, const char *name, Place place);
 
-/* How a change ended that was not made. After its file was replaced, or may be, the code is never one of those that leave the
- * old file. */
-bool refuse_outcome(DconfdbError *error, uint32_t outcome, const char *name);
+/* What is told of a change that ended so, by its first fault. True: it is made. After its file was replaced, or may be, the code is never one
+ * of those that leave the old file. */
+bool tell_ending(DconfdbError *error, const DconfdbEnding *ending, int fault, const char *name);
 
 /* What a proved call answered of a file, a line of it, or a key. */
 bool refuse_call(DconfdbError *error, uint32_t number, const char *name, Place place);

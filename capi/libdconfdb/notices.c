@@ -112,27 +112,13 @@ int dconfdb_store_fd(DconfdbStore *store, DconfdbError *error)
 
 /* ---- what is told */
 
-/* Of a snapshot from itself. */
-static char *no_differences(size_t *size, DconfdbError *error)
-{
-    char *none = malloc(1);
-    if (!none) {
-        refuse_memory(error);
-        return NULL;
-    }
-    *none = 0;
-    if (size)
-        *size = 0;
-    return none;
-}
-
 /* What differs from what was told last. Amid a change of another thread nobody looks. */
 static char *differences(Notices *it, DconfdbStore *store, bool *has_looked, size_t *size, DconfdbError *error)
 {
     DconfdbSnapshot *now = newest_unless_amid(store, has_looked, error);
     if (!now)
         return NULL;
-    char *paths = now == it->told ? no_differences(size, error) : dconfdb_snapshot_differences(now, it->told, size, error);
+    char *paths = dconfdb_snapshot_differences(now, it->told, size, error);
     dconfdb_snapshot_unref(paths ? it->told : now);
     if (paths)
         it->told = now;

@@ -46,6 +46,18 @@ void part_forgive(Part *part)
     part->fault = NULL;
 }
 
+void part_was_set_aside(Part *part, char **name)
+{
+    if (!part->fault)
+        return;
+    if (!name) {
+        part_forgive(part);
+        return;
+    }
+    part->fault->aside = *name;
+    *name = NULL;
+}
+
 /* Keeps a fault. */
 bool part_blame(Part *part, const DconfdbError *fault, DconfdbError *error)
 {

@@ -26,7 +26,6 @@ typedef struct {
     DconfdbLayer layer;
     Fault *fault;    /* NULL: there is none */
     bool is_settled; /* this store knows that it is on the disk; under its `refreshing` */
-    bool is_known;   /* a file with the same numbers is this one; under `refreshing` */
     char name[];
 } Part;
 
@@ -56,6 +55,9 @@ static inline Part *part_ref(Part *part)
 bool part_blame(Part *part, const DconfdbError *fault, DconfdbError *error);
 void part_forgive(Part *part);
 
+/* What is wrong with a file has that name now, which is the part's from then on; NULL: it is gone. */
+void part_was_set_aside(Part *part, char **name);
+
 bool part_has_bytes(const Part *part, const FileBytes *bytes);
 
 /* What is wrong with a file that has its name still; NULL: nothing is. */
@@ -63,6 +65,24 @@ const DconfdbError *part_fault(const Part *part);
 
 /* Whether it could be opened, sound or not. */
 bool part_is_readable(const Part *part);
+
+/* What is known of the part's file; of what was read now nothing. */
+static inline DconfdbPartSeen part_seen(const Part *part)
+{
+    const DconfdbError *fault = part_fault(part);
+    return (DconfdbPartSeen){.opened = atomic_load_explicit(&part->opened, memory_order_relaxed),
+                             .code = fault ? (uint32_t)fault->code : 0,
+                             .errnum = fault ? (uint32_t)fault->errnum : 0,
+                             .is_held = part->bytes.is_mapped};
+}
+
+/* What the file of that state is, that can't be looked at by that fault, or 0. */
+static inline uint32_t part_beside(const Part *part, uint32_t purpose, const FileState *state, int fault)
+{
+    DconfdbPartSeen seen = part_seen(part);
+    seen.fault = (uint32_t)fault;
+    return dconfdb_beside(purpose, &part->state, state, &seen);
+}
 
 /* Whether a file is the part's. */
 static inline uint32_t part_sameness(const Part *part, const FileState *state)

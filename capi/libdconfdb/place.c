@@ -5,10 +5,12 @@
 #include "place.h"
 #include "environment.h"
 #include "errors.h"
+#include "files.h"
+#include "home.h"
 #include "texts.h"
 
 #include <errno.h>
-#include <pwd.h>
+#include <stdio.h>
 #include <stdlib.h>
 #include <string.h>
 #include <unistd.h>
@@ -18,29 +20,31 @@ typedef struct {
     DconfdbEnvironment environment;
     uint32_t giver;
     DconfdbBytes folder;
+    FileBytes machine; /* which the environment lends */
+    int fault;         /* of that; or 0 */
 } Asked;
+
+/* The file that says which kind of store this machine has: a word takes no more. */
+static const char machine_file[] = "/etc/dconfdb/store";
+
+enum { LARGEST_WORD = 4096 };
 
 /* A program that gives a folder has its environment not asked. */
 static Asked asked_of(const char *folder, uint32_t giver)
 {
-    static const DconfdbEnvironment silent = {false, DCONFDB_NOTHING, DCONFDB_NOTHING, DCONFDB_NOTHING, DCONFDB_NOTHING};
-    DconfdbEnvironment environment = giver == DCONFDB_GIVEN_BY_PROGRAM ? silent : environment_now();
-    return (Asked){environment, giver, text_bytes(folder)};
+    static const DconfdbEnvironment silent = {.store = DCONFDB_NOTHING, .config = DCONFDB_NOTHING, .home = DCONFDB_NOTHING, .profile = DCONFDB_NOTHING,
+                                              .runtime = DCONFDB_NOTHING, .cache = DCONFDB_NOTHING, .machine = DCONFDB_NOTHING};
+    FileState state;
+    Asked asked = {giver == DCONFDB_GIVEN_BY_PROGRAM ? silent : environment_now(), giver, text_bytes(folder), {NULL, 0, false}, 0};
+    if (giver != DCONFDB_GIVEN_BY_NOBODY)
+        return asked;
+    asked.fault = file_read(NO_FOLDER, machine_file, false, NULL, LARGEST_WORD, &asked.machine, &state);
+    asked.environment.machine = (DconfdbBytes){bytes_of(asked.machine.at), asked.machine.len};
+    asked.environment.is_unreadable = asked.fault != 0;
+    return asked;
 }
 
 /* ---- what the system is asked */
-
-/* The home that it has for the user, "" if it has none; or NULL, and then errno. */
-static char *home_of_user(void)
-{
-    struct passwd entry, *found = NULL;
-    char *room = malloc(ROOM_OF_PASSWD);
-    int fault = room ? getpwuid_r(getuid(), &entry, room, ROOM_OF_PASSWD, &found) : ENOMEM;
-    char *home = fault == 0 ? strdup(found && found->pw_dir ? found->pw_dir : "") : NULL;
-    free(room);
-    errno = fault != 0 ? fault : ENOMEM;
-    return home;
-}
 
 /* Gives the answer, or NULL if nothing is to be asked; and 0, or errno. */
 static int ask(uint32_t what, char **answer)
@@ -49,25 +53,23 @@ static int ask(uint32_t what, char **answer)
     switch (what) {
     case DCONFDB_ASK_CURRENT:
         *answer = getcwd(NULL, 0);
-        break;
+        return *answer ? 0 : errno;
     case DCONFDB_ASK_HOME:
-        *answer = home_of_user();
-        break;
+        return home_of_user(answer);
     default:
         return 0;
     }
-    return *answer ? 0 : errno;
 }
 
 /* ---- the paths */
 
-static uint32_t base_of(const Asked *asked, bool is_profile)
+static uint32_t base_of(const Asked *asked, uint32_t wanted)
 {
-    return dconfdb_place_base(&asked->environment, asked->giver, asked->folder.at, asked->folder.len, is_profile);
+    return dconfdb_place_base(&asked->environment, asked->giver, asked->folder.at, asked->folder.len, wanted);
 }
 
-/* Gives the path of the folder, or of the profile, or NULL if there is none; and 0, or errno. */
-static int find_path(const Asked *asked, uint32_t what, bool is_profile, char **text)
+/* Gives the path of what is wanted, or NULL if there is none; and 0, or errno. */
+static int find_path(const Asked *asked, uint32_t what, uint32_t wanted, char **text)
 {
     DconfdbPath path = DCONFDB_NO_PATH;
     char *answer;
@@ -75,7 +77,7 @@ static int find_path(const Asked *asked, uint32_t what, bool is_profile, char **
     if (fault != 0)
         return fault;
     DconfdbBytes base = text_bytes(answer ? answer : "");
-    bool is = dconfdb_place(&asked->environment, asked->giver, asked->folder.at, asked->folder.len, is_profile, base.at, base.len, &path);
+    bool is = dconfdb_place(&asked->environment, asked->giver, asked->folder.at, asked->folder.len, wanted, base.at, base.len, &path);
     *text = is ? path_text(&path) : NULL;
     free(answer);
     return is && !*text ? ENOMEM : 0;
@@ -89,35 +91,115 @@ static bool refuse_folder(DconfdbError *error, int fault, const char *of)
     return refuse(error, DCONFDB_ERROR_NO_FOLDER, 0, nowhere, "the environment names no folder of a store, and the system no home");
 }
 
+/* Says why nobody knows which kind of store there is. It returns false. */
+static bool refuse_kind(DconfdbError *error, int fault)
+{
+    if (fault != 0)
+        return refuse_file(error, fault, machine_file, nowhere);
+    return refuse(error, DCONFDB_ERROR_BAD_LINE, 0, (Place){.line = 1}, "%s: it says neither dconf nor dconfdb", machine_file);
+}
+
+static bool find_kind(const Asked *asked, StorePlace *place, DconfdbError *error)
+{
+    uint32_t kind = dconfdb_place_kind(&asked->environment, asked->giver);
+    place->is_dconfs = kind == DCONFDB_KIND_DCONFS;
+    return kind != DCONFDB_KIND_UNKNOWN || refuse_kind(error, asked->fault);
+}
+
 static bool find_folder(const Asked *asked, StorePlace *place, DconfdbError *error)
 {
-    uint32_t what = base_of(asked, false);
+    uint32_t what = base_of(asked, DCONFDB_WANT_FOLDER);
     const char *of = what == DCONFDB_ASK_HOME ? "the user's home" : "the folder of $DCONFDB_STORE";
-    int fault = find_path(asked, what, false, &place->folder);
+    int fault = find_path(asked, what, DCONFDB_WANT_FOLDER, &place->folder);
     return place->folder || refuse_folder(error, fault, place->is_given ? (const char *)asked->folder.at : of);
 }
 
 static bool find_profile(const Asked *asked, StorePlace *place, DconfdbError *error)
 {
-    int fault = find_path(asked, base_of(asked, true), true, &place->profile);
+    int fault = find_path(asked, base_of(asked, DCONFDB_WANT_PROFILE), DCONFDB_WANT_PROFILE, &place->profile);
     return fault == 0 || refuse_file(error, fault, "the profile of $DCONFDB_PROFILE", nowhere);
+}
+
+static char *variable_copy(int variable)
+{
+    const char *value = getenv(variables[variable]);
+    return joined(value ? value : "", "", "");
+}
+
+/* What dconf's kind asks beside that. */
+static bool find_dconfs(const Asked *asked, StorePlace *place, DconfdbError *error)
+{
+    if (!place->is_dconfs)
+        return true;
+    int fault = find_path(asked, base_of(asked, DCONFDB_WANT_RUNTIME), DCONFDB_WANT_RUNTIME, &place->runtime);
+    if (fault != 0)
+        return refuse_file(error, fault, "the user's runtime folder", nowhere);
+    place->name = variable_copy(DCONFS_VARIABLE);
+    place->data_dirs = variable_copy(DATA_VARIABLE);
+    snprintf(place->user, sizeof place->user, "%lu", (unsigned long)getuid());
+    return (place->name && place->data_dirs) || refuse_memory(error);
 }
 
 static bool find(const char *folder, uint32_t giver, StorePlace *place, DconfdbError *error)
 {
-    const Asked asked = asked_of(folder ? folder : "", folder ? giver : (uint32_t)DCONFDB_GIVEN_BY_NOBODY);
-    *place = (StorePlace){NULL, NULL, folder != NULL};
-    if (find_folder(&asked, place, error) && find_profile(&asked, place, error))
-        return true;
-    place_release(place);
-    return false;
+    Asked asked = asked_of(folder ? folder : "", folder ? giver : (uint32_t)DCONFDB_GIVEN_BY_NOBODY);
+    *place = (StorePlace){.is_given = folder != NULL};
+    bool is_found = find_kind(&asked, place, error) && find_folder(&asked, place, error) && find_profile(&asked, place, error) &&
+                    find_dconfs(&asked, place, error);
+    file_release(&asked.machine);
+    if (!is_found)
+        place_release(place);
+    return is_found;
 }
 
 void place_release(StorePlace *place)
 {
     free(place->folder);
     free(place->profile);
-    *place = (StorePlace){NULL, NULL, false};
+    free(place->name);
+    free(place->runtime);
+    free(place->data_dirs);
+    *place = (StorePlace){.folder = NULL};
+}
+
+/* False: no memory is left. */
+static bool copy_text(const char *text, char **copy)
+{
+    *copy = text ? joined(text, "", "") : NULL;
+    return *copy || !text;
+}
+
+bool place_copy(const StorePlace *place, StorePlace *copy)
+{
+    *copy = *place;
+    copy->folder = copy->profile = copy->name = copy->runtime = copy->data_dirs = NULL;
+    bool is_copied = copy_text(place->folder, &copy->folder) && copy_text(place->profile, &copy->profile) && copy_text(place->name, &copy->name) &&
+                     copy_text(place->runtime, &copy->runtime) && copy_text(place->data_dirs, &copy->data_dirs);
+    if (!is_copied)
+        place_release(copy);
+    return is_copied;
+}
+
+static DconfdbBytes lent(const char *text)
+{
+    return text_bytes(text ? text : "");
+}
+
+DconfdbPlace place_lent(const StorePlace *place)
+{
+    return (DconfdbPlace){.folder = lent(place->folder),
+                          .named = lent(place->profile),
+                          .profile = lent(place->name),
+                          .runtime = lent(place->runtime),
+                          .data_dirs = lent(place->data_dirs),
+                          .user = lent(place->user),
+                          .is_given = place->is_given,
+                          .is_dconfs = place->is_dconfs};
+}
+
+const char *place_profile_name(const StorePlace *place)
+{
+    return place->profile ? place->profile : place->name;
 }
 
 bool place_find(const char *folder, StorePlace *place, DconfdbError *error)

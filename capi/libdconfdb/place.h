@@ -3,13 +3,21 @@
 #define PLACE_H
 
 #include "dconfdb.h"
+#include "dconfdb_calls.h"
 
-/* Both are absolute. Without a profile it is the folder's, or that of all users. `is_given`: the caller names the folder, and not the
- * environment. */
+/* What DconfdbPlace lends; NULL: there is none. The folder, the profile that is named and the runtime folder are absolute. `is_given`: the
+ * caller names the folder, and not the environment. */
 typedef struct {
     char *folder, *profile;
-    bool is_given;
+    char *name, *runtime, *data_dirs; /* of dconf's kind: $DCONF_PROFILE, the runtime folder, and $XDG_DATA_DIRS */
+    char user[24];                    /* the user's number */
+    bool is_given, is_dconfs;
 } StorePlace;
+
+DconfdbPlace place_lent(const StorePlace *place);
+
+/* False: no memory is left, and there is nothing to release. */
+bool place_copy(const StorePlace *place, StorePlace *copy);
 
 /* The folder, or that of the environment if NULL is given; and the profile that $DCONFDB_PROFILE names. False: it
  * failed, and there is nothing to release. */
@@ -21,12 +29,16 @@ bool place_of_caller(const char *folder, StorePlace *place, DconfdbError *error)
 void place_release(StorePlace *place);
 
 /* dconfdb_store_open_lenient and dconfdb_store_files, of a place. Where the profile is named, and can't be had, there
- * is no database. `are_all` is false where the profile can't be read now, and may name others. */
+ * is no database. `profiles` is how many of the files, from the first on, may be the profile, and `are_all` is false where it can't be read
+ * now, and may name others. */
 DconfdbStore *place_open(const StorePlace *place, DconfdbError *error);
-char *place_files(const StorePlace *place, bool *are_all, DconfdbError *error);
+char *place_files(const StorePlace *place, int *profiles, bool *are_all, DconfdbError *error);
 
 /* False: the profile that is named couldn't be had. */
 bool place_has_profile(const DconfdbStore *store);
+
+/* What names the profile, by a path or a name; or NULL. */
+const char *place_profile_name(const StorePlace *place);
 
 /* Where an open store is. It isn't to be released. */
 const StorePlace *place_of(const DconfdbStore *store);

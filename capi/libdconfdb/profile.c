@@ -24,13 +24,13 @@ static DconfdbError *profile_fault_of(DconfdbStore *store)
 
 /* ---- the databases of a profile */
 
-/* The file of a line of a profile; or NULL. */
-static char *file_of(const StorePlace *place, const char *profile, const DconfdbName *database)
+/* A user's database, by its file and the flag of its readers; this takes the flag. False: no memory is left. */
+static bool has_users(DconfdbStore *store, char *file, char *flag)
 {
-    DconfdbPath path = DCONFDB_NO_PATH;
-    const DconfdbBytes folder = text_bytes(place->folder), of = text_bytes(profile);
-    dconfdb_database_path(folder.at, folder.len, of.at, of.len, place->is_given, database->kind, database->name.at, database->name.len, &path);
-    return path_text(&path);
+    store->user_file = file;
+    store->own_name = strrchr(file, '/') + 1;
+    store->flag = flag;
+    return flag != NULL;
 }
 
 /* The databases that a profile names, where every line has to be good. Of a text that isn't UTF-8 the first bad line is told, as where bad
@@ -58,6 +58,20 @@ static uint32_t read_names(DconfdbStore *store, const char *profile, const uint8
     return number;
 }
 
+/* The file of one more database. */
+static bool name_file(DconfdbStore *store, const char *profile, const DconfdbName *database, DconfdbError *error)
+{
+    DconfdbPath path = DCONFDB_NO_PATH, flag = DCONFDB_NO_PATH;
+    const DconfdbPlace place = place_lent(&store->place);
+    const DconfdbBytes of = text_bytes(profile), name = database->name;
+    bool is_users = dconfdb_database_path(&place, of.at, of.len, database->kind, name.at, name.len, &path, &flag);
+    char *file = path_text(&path);
+    if (!file)
+        return refuse_memory(error);
+    store->files[store->count++] = file;
+    return !is_users || has_users(store, file, path_text(&flag)) || refuse_memory(error);
+}
+
 static bool name_files(DconfdbStore *store, const char *profile, const uint8_t *text, size_t len, DconfdbError *error)
 {
     DconfdbName names[MOST_DATABASES];
@@ -67,35 +81,36 @@ static bool name_files(DconfdbStore *store, const char *profile, const uint8_t *
     uint32_t number = read_names(store, profile, text, len, names, &count, &line);
     if (number != DCONFDB_OK)
         return refuse_call(error, number, profile, (Place){.line = line});
-    for (; store->count < count; store->count++) {
-        store->files[store->count] = file_of(&store->place, profile, &names[store->count]);
-        if (!store->files[store->count])
-            return refuse_memory(error);
-    }
-    if (dconfdb_has_users(names, count)) {
-        store->user_file = store->files[0];
-        store->own_name = strrchr(store->user_file, '/') + 1;
-    }
-    return true;
+    bool are_named = true;
+    while (are_named && store->count < count)
+        are_named = name_file(store, profile, &names[store->count], error);
+    return are_named;
 }
 
 /* ---- which profile counts */
 
-/* The path of a profile; or NULL. */
-static char *path_of(const StorePlace *place, uint32_t which)
-{
-    DconfdbPath path = DCONFDB_NO_PATH;
-    const DconfdbBytes folder = text_bytes(place->folder), named = text_bytes(place->profile ? place->profile : "");
-    dconfdb_profile_path(which, folder.at, folder.len, named.at, named.len, &path);
-    return path_text(&path);
-}
-
-/* A look at a profile, and what comes after it. */
+/* One that may be the profile, and what a look at it found. */
 typedef struct {
     uint32_t step;
-    char *path;
+    size_t dir;
+    char *path; /* NULL: there is no such place */
     FileBytes text;
 } Look;
+
+static bool is_look(uint32_t step)
+{
+    return step <= DCONFDB_PROFILE_EVERYONES || step >= DCONFDB_PROFILE_MANDATORY;
+}
+
+/* Its path. False: no memory is left. */
+static bool find_path(const StorePlace *place, Look *look)
+{
+    DconfdbPath path = DCONFDB_NO_PATH;
+    const DconfdbPlace lent = place_lent(place);
+    bool is = dconfdb_profile_path(&lent, look->step, look->dir, &path);
+    look->path = is ? path_text(&path) : NULL;
+    return look->path || !is;
+}
 
 static void look_release(Look *look)
 {
@@ -104,40 +119,49 @@ static void look_release(Look *look)
     look->path = NULL;
 }
 
-/* The one that is looked at first. */
-static uint32_t first_of(const StorePlace *place)
+/* Goes on to what comes after a look, which is to be told as the call says. */
+static uint32_t step_after(const StorePlace *place, const DconfdbProfileLook *known, Look *look)
 {
-    const DconfdbProfileLook none = {.which = DCONFDB_PROFILE_BEGINS, .is_named = place->profile != NULL};
-    uint32_t telling;
-    return dconfdb_profile_step(&none, &telling);
+    uint32_t telling = DCONFDB_TELLING_NOTHING;
+    const DconfdbPlace lent = place_lent(place);
+    look->step = dconfdb_profile_step(&lent, known, &look->dir, &telling);
+    return telling;
 }
 
-/* What comes after a look at one, which is told as the call says. */
-static uint32_t step_after(DconfdbStore *store, const Look *look, int fault, const FileState *state, DconfdbError *error)
+/* The one that is looked at first. */
+static Look first_of(const StorePlace *place)
+{
+    const DconfdbProfileLook none = {.which = DCONFDB_PROFILE_BEGINS};
+    Look look = {.path = NULL};
+    step_after(place, &none, &look);
+    return look;
+}
+
+/* What comes after a look at one, and is told. */
+static void go_on(DconfdbStore *store, Look *look, int fault, const FileState *state, DconfdbError *error)
 {
     const DconfdbProfileLook known = {.which = look->step,
-                                      .is_named = store->place.profile != NULL,
+                                      .dir = look->dir,
                                       .fails = fault != 0,
                                       .is_own = fault != 0 && is_files_own(fault),
                                       .is_there = fault == 0 && state->is_there,
                                       .is_lenient = store->options.is_lenient,
                                       .has_kept = store->profile_fault.code != DCONFDB_ERROR_NONE};
-    uint32_t telling = DCONFDB_TELLING_NOTHING, step = dconfdb_profile_step(&known, &telling);
+    uint32_t telling = step_after(&store->place, &known, look);
+    const char *name = fault != 0 ? look->path : place_profile_name(&store->place);
     if (telling != DCONFDB_TELLING_NOTHING)
-        refuse_file(telling == DCONFDB_TELLING_REFUSES ? error : &store->profile_fault, fault != 0 ? fault : ENOENT, look->path, nowhere);
-    return step;
+        refuse_file(telling == DCONFDB_TELLING_REFUSES ? error : &store->profile_fault, fault != 0 ? fault : ENOENT, name, nowhere);
 }
 
 /* Looks at the one that comes next. False: no memory is left. */
 static bool look_at_next(DconfdbStore *store, Look *look, DconfdbError *error)
 {
-    FileState state;
+    FileState state = {.is_there = false};
     look_release(look);
-    look->path = path_of(&store->place, look->step);
-    if (!look->path)
+    if (!find_path(&store->place, look))
         return refuse_memory(error);
-    int fault = file_read(NO_FOLDER, look->path, false, NULL, LARGEST_PROFILE, &look->text, &state);
-    look->step = step_after(store, look, fault, &state, error);
+    int fault = look->path ? file_read(NO_FOLDER, look->path, false, NULL, LARGEST_PROFILE, &look->text, &state) : 0;
+    go_on(store, look, fault, &state, error);
     return true;
 }
 
@@ -160,9 +184,9 @@ static bool take_profile(DconfdbStore *store, const Look *look, DconfdbError *er
 
 bool store_find_files(DconfdbStore *store, DconfdbError *error)
 {
-    Look look = {first_of(&store->place), NULL, {NULL, 0, false}};
+    Look look = first_of(&store->place);
     bool done = true;
-    while (done && look.step <= DCONFDB_PROFILE_EVERYONES)
+    while (done && is_look(look.step))
         done = look_at_next(store, &look, error);
     done = done && take_profile(store, &look, error);
     look_release(&look);
@@ -174,36 +198,74 @@ bool place_has_profile(const DconfdbStore *store)
     return !store->lacks_profile;
 }
 
-/* Texts before those of the databases' files, a zero byte after each; or NULL. */
-static char *with_files(const DconfdbStore *store, const char *first, const char *second, size_t *size)
+/* ---- the names of its files */
+
+/* Names, a zero byte after each, and one more at the end. */
+typedef struct {
+    char *at; /* NULL: there is no memory, or none was added */
+    size_t len;
+    bool is_full; /* no memory is left */
+} Names;
+
+static void name_add(Names *names, const char *name)
 {
-    size_t len = first ? strlen(first) + 1 + strlen(second) + 1 : 0;
-    for (size_t i = 0; i < store->count; i++)
-        len += strlen(store->files[i]) + 1;
-    char *names = malloc(len + 1);
-    if (!names)
-        return NULL;
-    char *at = first ? stpcpy(stpcpy(names, first) + 1, second) + 1 : names;
-    for (size_t i = 0; i < store->count; i++)
-        at = stpcpy(at, store->files[i]) + 1;
-    *at = 0;
-    if (size)
-        *size = len;
-    return names;
+    size_t len = strlen(name) + 1;
+    char *more = names->is_full ? NULL : realloc(names->at, names->len + len + 1);
+    names->is_full = !more;
+    if (!more)
+        return;
+    memcpy(more + names->len, name, len);
+    more[names->len + len] = 0;
+    *names = (Names){more, names->len + len, false};
 }
 
-/* The profile that is looked at first, that of all users, and the databases; or NULL. */
-char *store_file_names(const DconfdbStore *store, size_t *size)
+/* Of who has them all, or NULL. */
+static char *names_end(Names *names, size_t *size)
 {
-    char *first = path_of(&store->place, first_of(&store->place));
-    char *everyones = path_of(&store->place, DCONFDB_PROFILE_EVERYONES);
-    char *names = first && everyones ? with_files(store, first, everyones, size) : NULL;
-    free(first);
-    free(everyones);
-    return names;
+    if (names->is_full) {
+        free(names->at);
+        return NULL;
+    }
+    if (size)
+        *size = names->len;
+    return names->at ? names->at : calloc(1, 1);
+}
+
+/* Each that may be the profile, as if none before it were there. It gives how many. */
+static int add_profiles(const StorePlace *place, Names *names)
+{
+    Look look = first_of(place);
+    int count = 0;
+    while (!names->is_full && is_look(look.step)) {
+        const DconfdbProfileLook missing = {.which = look.step, .dir = look.dir, .is_lenient = true};
+        names->is_full = !find_path(place, &look);
+        if (look.path) {
+            name_add(names, look.path);
+            count++;
+        }
+        look_release(&look);
+        step_after(place, &missing, &look);
+    }
+    return count;
+}
+
+static void add_files(const DconfdbStore *store, Names *names)
+{
+    for (size_t i = 0; i < store->count; i++)
+        name_add(names, store->files[i]);
+}
+
+char *store_file_names(const DconfdbStore *store, int *profiles, size_t *size)
+{
+    Names names = {NULL, 0, false};
+    *profiles = add_profiles(&store->place, &names);
+    add_files(store, &names);
+    return names_end(&names, size);
 }
 
 char *files_of(const DconfdbStore *store)
 {
-    return with_files(store, NULL, NULL, NULL);
+    Names names = {NULL, 0, false};
+    add_files(store, &names);
+    return names_end(&names, NULL);
 }

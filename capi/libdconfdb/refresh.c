@@ -6,9 +6,7 @@
 #include "errors.h"
 #include "held.h"
 #include "locked.h"
-#include "texts.h"
 
-#include <string.h>
 #include <time.h>
 
 /* A file has at most so many bytes. */
@@ -35,7 +33,7 @@ static Asked asked_of(const Look *look, size_t at)
     return (Asked){store->files[at], at, !is_users, store->options.is_lenient, is_users ? look->turn : NO_FOLDER};
 }
 
-/* Whether a mapped file whose permissions or names have changed may still be read. If it may, that is known until they change again. */
+/* A mapped file may change owners, permissions and names: as it is now it is known until they change again. */
 static bool __attribute__((noinline)) may_still_be_read(Part *old, const FileState *state)
 {
     bool may = file_may_be_read(old->name);
@@ -44,24 +42,16 @@ static bool __attribute__((noinline)) may_still_be_read(Part *old, const FileSta
     return may;
 }
 
-static bool are_alike(const FileState *one, const FileState *other)
-{
-    return one->touched.nanoseconds == other->touched.nanoseconds && one->touched.seconds == other->touched.seconds
-        && one->written.nanoseconds == other->written.nanoseconds && one->written.seconds == other->written.seconds
-        && one->inode == other->inode && one->size == other->size && one->device == other->device && one->is_there == other->is_there;
-}
-
-/* What the proved call has said of the same numbers it isn't asked again. */
+/* Whether the old part is of what has the file's name, as far as stat() says. */
 static bool is_as_said(const Look *look, Part *old, size_t at)
 {
     FileState state;
-    if (file_look(look->store->files[at], &state) != 0)
-        return false;
-    bool is_alike = are_alike(&old->state, &state);
-    if (is_alike && old->is_known)
-        return true;
-    old->is_known = part_sameness(old, &state) == DCONFDB_FILE_SAME;
-    return old->is_known && (is_alike || may_still_be_read(old, &state));
+    int fault = file_look(look->store->files[at], &state);
+    switch (part_beside(old, DCONFDB_PART_KEEP, &state, fault)) {
+    case DCONFDB_BESIDE_SAME: return true;
+    case DCONFDB_BESIDE_IF_READABLE: return may_still_be_read(old, &state);
+    default: return false;
+    }
 }
 
 /* Gives the fault of the system. Cancellation is held back here, since a look that reads nothing is no cancellation point; and who opens
@@ -78,15 +68,14 @@ static int read_at(Look *look, const Asked *asked)
     return fault;
 }
 
-/* Whether what was read is what the old part is of. A file may be replaced by one that is alike in all that stat() says. */
+/* Whether what was read is what the old part is of. */
 static bool is_as_read(const Look *look, Part *old)
 {
-    const DconfdbError *bad = part_fault(old);
-    bool is = part_sameness(old, &look->state) != DCONFDB_FILE_OTHER;
-    if (look->fault.code == DCONFDB_ERROR_NONE)
-        is = is && !bad && part_has_bytes(old, &look->bytes);
-    else
-        is = is && bad && bad->code == look->fault.code && bad->errnum == look->fault.errnum;
+    DconfdbPartSeen seen = part_seen(old);
+    seen.read_code = (uint32_t)look->fault.code;
+    seen.read_errnum = (uint32_t)look->fault.errnum;
+    seen.has_bytes = part_has_bytes(old, &look->bytes);
+    bool is = dconfdb_beside(DCONFDB_PART_TAKE, &old->state, &look->state, &seen) == DCONFDB_BESIDE_SAME;
     if (is)
         part_was_read(old, look->opened);
     return is;
@@ -153,7 +142,7 @@ static void read_step(Look *look, DconfdbRefresh *refresh, DconfdbNext *step, Dc
     Asked asked = asked_of(look, at);
     int fault = read_at(look, &asked);
     look->fault.code = DCONFDB_ERROR_NONE;
-    dconfdb_refresh_answered(refresh, fault == 0 || dconfdb_refresh_is_had(refresh, (uint32_t)fault), step);
+    dconfdb_refresh_answered(refresh, fault == 0, (uint32_t)fault, step);
     if (fault != 0)
         refuse_file(step->kind == DCONFDB_LOOK_FAILED ? error : &look->fault, fault, asked.name, (Place){.database = at});
 }
@@ -166,7 +155,7 @@ static void take_step(Look *look, DconfdbRefresh *refresh, DconfdbNext *step, Dc
         return;
     }
     bool yes = look_at(look, step, error);
-    dconfdb_refresh_answered(refresh, yes, step);
+    dconfdb_refresh_answered(refresh, yes, 0, step);
 }
 
 /* What the files hold now, by the proved steps. Gives how it ended; where that is NEWER `newer` is the snapshot. */
@@ -199,8 +188,11 @@ uint32_t files_look(const DconfdbStore *store, int turn, DconfdbSnapshot **newer
 /* Whether the file is that of a change of this store's, of which it couldn't say whether it is made. */
 static bool is_tried(const DconfdbStore *store, const DconfdbSnapshot *newer)
 {
-    const Part *tried = store->tried ? store->tried->parts[0] : NULL;
-    return tried && file_is_one(&tried->state, &newer->parts[0]->state) && part_has_bytes(tried, &newer->parts[0]->bytes);
+    if (!store->tried)
+        return false;
+    const Part *tried = store->tried->parts[0], *now = newer->parts[0];
+    const DconfdbPartSeen seen = {.has_bytes = part_has_bytes(tried, &now->bytes)};
+    return dconfdb_beside(DCONFDB_PART_TRY, &tried->state, &now->state, &seen) == DCONFDB_BESIDE_SAME;
 }
 
 /* `refreshing` is held. What this store itself changed is no news. It stands apart, since most refreshes find nothing newer. */

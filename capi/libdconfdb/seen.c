@@ -119,10 +119,12 @@ bool paths_meet(const char *one, const char *other)
     return dconfdb_meets(bytes_of(one), strlen(one), bytes_of(other), strlen(other));
 }
 
-bool seen_is_left(const DconfdbSnapshot *snapshot, const char *path)
+bool seen_is_writable(const DconfdbSnapshot *snapshot, const char *path)
 {
+    const DconfdbSnapshot *of = or_nothing(snapshot);
     bool may = false;
-    return dconfdb_may_write(snapshot->layers, snapshot->count, snapshot->is_writable, bytes_of(path), strlen(path), &may) == DCONFDB_OK && may;
+    (void)dconfdb_may_write(of->layers, of->count, of->is_writable, bytes_of(path), strlen(path), &may);
+    return may;
 }
 
 DconfdbSnapshot *snapshot_of_user(const DconfdbSnapshot *snapshot)

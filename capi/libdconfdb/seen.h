@@ -30,15 +30,9 @@ bool seen_relocked(Told *told, const DconfdbSnapshot *before, const DconfdbSnaps
 
 void seen_free(Told *told);
 
-/* Whether a path may be written, by all locks. Without memory it may not. */
-bool seen_is_left(const DconfdbSnapshot *snapshot, const char *path);
-
-/* Whether a path may be written, a key's or all that is below a directory: there is a user's database, and no lock covers it. A key that may
- * costs no list of the locks. */
-static inline bool seen_is_writable(const DconfdbSnapshot *snapshot, const char *path)
-{
-    return snapshot && (dconfdb_snapshot_is_writable(snapshot, path) || seen_is_left(snapshot, path));
-}
+/* Whether a path may be written, a key's or all that is below a directory: there is a user's database, and no lock covers it. `snapshot` may be
+ * NULL: then nothing may. Without memory it may not, but a key that may takes none. */
+bool seen_is_writable(const DconfdbSnapshot *snapshot, const char *path);
 
 /* What the user's own database holds of it, as if it were the store's only one. NULL: no memory is left. */
 DconfdbSnapshot *snapshot_of_user(const DconfdbSnapshot *snapshot);

@@ -12,13 +12,14 @@
 #include <stdlib.h>
 #include <unistd.h>
 
-bool store_settle_own(const DconfdbStore *store, const char *name, DconfdbError *error)
+bool store_settle_name(const DconfdbStore *store, const char *name, DconfdbError *error)
 {
-    int fault = store->user_file && !store->options.is_unsynced ? folder_settle(store->place.folder, name) : 0;
+    DconfdbEnding ending = {.is_there = false};
+    int fault = folder_settle(store->place.folder, name);
     if (fault == 0)
         return true;
-    refuse_file(error, fault, user_file_or_folder(store), nowhere);
-    return refuse_outcome(error, DCONFDB_TURN_UNSYNCED, user_file_or_folder(store));
+    dconfdb_ending(DCONFDB_TURN_UNSYNCED, (uint32_t)fault, store->is_unsettled, false, &ending);
+    return tell_ending(error, &ending, fault, user_file_or_folder(store));
 }
 
 /* Whether who left the file noted that it is on the disk. Nobody waits for the lock: notes that others write meanwhile are not whole. */
@@ -42,7 +43,9 @@ static bool carry_out(DconfdbStore *store, Part *own, uint32_t task, DconfdbErro
     case DCONFDB_SETTLING_NOTES:
         return is_noted_settled(store, own);
     case DCONFDB_SETTLING_SETTLE:
-        return store_settle_own(store, part_is_readable(own) ? store->own_name : NULL, error);
+        return store_settle_name(store, store->own_name, error);
+    case DCONFDB_SETTLING_NAMES:
+        return store_settle_name(store, NULL, error);
     default:
         return file_look(store->user_file, &state) == 0 && part_sameness(own, &state) == DCONFDB_FILE_SAME;
     }
@@ -52,7 +55,10 @@ bool settle_store(DconfdbStore *store, DconfdbError *error)
 {
     pthread_mutex_lock(&store->refreshing);
     Part *own = store->user_file ? store->now->parts[0] : NULL;
-    const DconfdbSettling known = {.has_file = own != NULL, .is_known = own && own->is_settled, .is_unsynced = store->options.is_unsynced};
+    const DconfdbSettling known = {.has_file = own != NULL,
+                                   .is_known = own && own->is_settled,
+                                   .is_unsynced = store->options.is_unsynced,
+                                   .is_readable = own && part_is_readable(own)};
     uint32_t task = dconfdb_settling_after(DCONFDB_SETTLING_BEGINS, true, &known);
     while (task < DCONFDB_SETTLING_KNOWN)
         task = dconfdb_settling_after(task, carry_out(store, own, task, error), &known);

@@ -108,12 +108,13 @@ bool dconfdb_snapshot_fault(const DconfdbSnapshot *snapshot, size_t database, Dc
     return true;
 }
 
-/* The same file, or none both times: what a lenient store read of it, too. */
 bool dconfdb_snapshot_is_newest(const DconfdbSnapshot *snapshot)
 {
     FileState state;
-    return !snapshot->is_writable
-        || (file_look(snapshot->parts[0]->name, &state) == 0 && part_sameness(snapshot->parts[0], &state) != DCONFDB_FILE_OTHER);
+    if (!snapshot->is_writable) /* no file is asked of */
+        return true;
+    int fault = file_look(snapshot->parts[0]->name, &state);
+    return part_beside(snapshot->parts[0], DCONFDB_PART_TELL, &state, fault) == DCONFDB_BESIDE_SAME;
 }
 
 _Static_assert(offsetof(DconfdbValue, data) == offsetof(DconfdbFound, value.at)

@@ -3,7 +3,7 @@
 #define _POSIX_C_SOURCE 200809L
 #define _FILE_OFFSET_BITS 64
 #include "steps.h"
-#include "errors.h"
+#include "flag.h"
 
 /* The lock is the caller's. */
 static int has_lock(Changing *it)
@@ -34,21 +34,27 @@ static int set_aside(Changing *it)
     return replacing_set_aside(&it->replacing, &it->answer);
 }
 
+/* The name is the new file's, or perhaps: dconf's readers look again. */
 static int exchange(Changing *it)
 {
-    return replacing_exchange(&it->replacing, &it->new->state);
+    int fault = replacing_exchange(&it->replacing, &it->new->state);
+    flag_set(it->flag);
+    return fault;
 }
 
 static int rename_new(Changing *it)
 {
-    return replacing_rename(&it->replacing, &it->new->state);
+    int fault = replacing_rename(&it->replacing, &it->new->state);
+    flag_set(it->flag);
+    return fault;
 }
 
-/* And then the new file is on the disk. */
+/* And then the new file may be on the disk. */
 static int sync_folder(Changing *it)
 {
     int fault = replacing_sync_folder(&it->replacing);
-    it->new->is_settled = fault == 0 && !it->replacing.is_unsynced;
+    const DconfdbSettling known = {.has_file = true, .is_unsynced = it->replacing.is_unsynced, .is_in_turn = true};
+    it->new->is_settled = dconfdb_settling_after(DCONFDB_SETTLING_SETTLE, fault == 0, &known) == DCONFDB_SETTLING_KNOWN;
     return fault;
 }
 
@@ -57,60 +63,54 @@ static int remove_new(Changing *it)
     return replacing_remove(&it->replacing);
 }
 
-/* It may be there already, as this store knows, or as who left it noted. */
+/* A task of bringing what the file is to the disk, and its answer. */
+static bool settles(Changing *it, uint32_t task, int *fault)
+{
+    if (task == DCONFDB_SETTLING_NOTES)
+        return order_is_synced(it->order, it->replacing.name, &it->old->state);
+    *fault = replacing_settle(&it->replacing, task == DCONFDB_SETTLING_SETTLE);
+    return *fault == 0;
+}
+
 static int settle(Changing *it)
 {
     Part *old = it->old;
-    const DconfdbSettling known = {.has_file = true, .is_known = old->is_settled, .is_unsynced = it->replacing.is_unsynced, .is_in_turn = true};
-    uint32_t task = dconfdb_settling_after(DCONFDB_SETTLING_BEGINS, true, &known);
+    const DconfdbSettling known = {.has_file = true,
+                                   .is_known = old->is_settled,
+                                   .is_unsynced = it->replacing.is_unsynced,
+                                   .is_in_turn = true,
+                                   .is_readable = part_is_readable(old)};
     int fault = 0;
-    if (task == DCONFDB_SETTLING_NOTES)
-        task = dconfdb_settling_after(task, order_is_synced(it->order, it->replacing.name, &old->state), &known);
-    if (task == DCONFDB_SETTLING_SETTLE) {
-        fault = replacing_settle(&it->replacing, part_is_readable(old));
-        task = dconfdb_settling_after(task, fault == 0, &known);
-    }
+    uint32_t task = dconfdb_settling_after(DCONFDB_SETTLING_BEGINS, true, &known);
+    while (task < DCONFDB_SETTLING_KNOWN)
+        task = dconfdb_settling_after(task, settles(it, task, &fault), &known);
     old->is_settled = task == DCONFDB_SETTLING_KNOWN;
     return fault;
 }
 
-/* Who carries out a step, and whether a fault of it is told. */
-static const struct {
-    int (*carries_out)(Changing *it);
-    bool tells;
-} steps[DCONFDB_TURN_DONE] = {
-    [DCONFDB_TURN_LOCK] = {has_lock, false},
-    [DCONFDB_TURN_READ] = {changing_read, true},
-    [DCONFDB_TURN_MAKE] = {changing_make, true},
-    [DCONFDB_TURN_CREATE] = {create, true},
-    [DCONFDB_TURN_APPEND] = {append, true},
-    [DCONFDB_TURN_SYNC] = {sync_new, true},
-    [DCONFDB_TURN_SET_ASIDE] = {set_aside, true},
-    [DCONFDB_TURN_EXCHANGE] = {exchange, true},
-    [DCONFDB_TURN_RENAME] = {rename_new, true},
-    [DCONFDB_TURN_SYNC_FOLDER] = {sync_folder, true},
-    [DCONFDB_TURN_REMOVE] = {remove_new, false},
-    [DCONFDB_TURN_SETTLE] = {settle, true},
-    [DCONFDB_TURN_NOTE] = {changing_note, false},
-    [DCONFDB_TURN_UNLOCK] = {has_lock, false},
+static int (*const steps[DCONFDB_TURN_DONE])(Changing *it) = {
+    [DCONFDB_TURN_LOCK] = has_lock,
+    [DCONFDB_TURN_READ] = changing_read,
+    [DCONFDB_TURN_MAKE] = changing_make,
+    [DCONFDB_TURN_CREATE] = create,
+    [DCONFDB_TURN_APPEND] = append,
+    [DCONFDB_TURN_SYNC] = sync_new,
+    [DCONFDB_TURN_SET_ASIDE] = set_aside,
+    [DCONFDB_TURN_EXCHANGE] = exchange,
+    [DCONFDB_TURN_RENAME] = rename_new,
+    [DCONFDB_TURN_SYNC_FOLDER] = sync_folder,
+    [DCONFDB_TURN_REMOVE] = remove_new,
+    [DCONFDB_TURN_SETTLE] = settle,
+    [DCONFDB_TURN_NOTE] = changing_note,
+    [DCONFDB_TURN_UNLOCK] = has_lock,
 };
-
-/* One step, and its answer. */
-static uint32_t carry_out(Changing *it)
-{
-    uint32_t kind = it->step.kind;
-    it->answer = 0;
-    int fault = steps[kind].carries_out(it);
-    if (fault > 0 && steps[kind].tells)
-        refuse_file(it->error, fault, it->file, nowhere);
-    return fault == IS_NOTHING ? DCONFDB_TURN_NOTHING : fault != 0;
-}
 
 void changing_run(Changing *it)
 {
     dconfdb_turn_begin(&it->turn, &it->step);
     while (it->step.kind != DCONFDB_TURN_DONE) {
-        uint32_t fault = carry_out(it);
-        dconfdb_turn_answered(&it->turn, fault, it->answer, &it->step);
+        it->answer = 0;
+        int fault = steps[it->step.kind](it);
+        dconfdb_turn_answered(&it->turn, (uint32_t)fault, it->answer, &it->step);
     }
 }

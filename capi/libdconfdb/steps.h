@@ -14,14 +14,15 @@ typedef struct {
     size_t answer;         /* the number that the step asks for */
     Part *old, *new;       /* what NAME is, once it is read; what it is to be, once that is made */
     Order *order;          /* what others have set, once NAME is read */
-    DconfdbError *error;   /* of the first fault */
-    const char *file;      /* what a fault is said of */
+    DconfdbError *error;   /* of what is told when it is met */
+    const char *flag;      /* of dconf's readers of it; "": there are none */
     struct Edited *edited; /* of the three that are no calls of the system */
     Replacing replacing;
 } Changing;
 
-/* What these answer beside 0 and an errno. */
+/* What these answer beside 0 and an errno: the machine's own numbers. */
 enum { IS_NOTHING = -1, IS_TOLD = -2 };
+_Static_assert((uint32_t)IS_NOTHING == DCONFDB_TURN_NOTHING && (uint32_t)IS_TOLD == DCONFDB_TURN_TOLD, "the numbers of a fault");
 
 /* What NAME is, what it is to be, and what others are to know of it: by who knows the store (changing.c). */
 int changing_read(Changing *it);

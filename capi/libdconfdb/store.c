@@ -16,11 +16,8 @@ static const DconfdbOptions strict = DCONFDB_OPTIONS_INIT, lenient = {sizeof len
 static DconfdbStore *store_at(const StorePlace *place, const DconfdbOptions *options, DconfdbError *error)
 {
     DconfdbStore *store = calloc(1, sizeof *store);
-    char *folder = joined(place->folder, "", ""), *profile = place->profile ? joined(place->profile, "", "") : NULL;
-    if (!store || !folder || (place->profile && !profile)) {
+    if (!store || !place_copy(place, &store->place)) {
         free(store);
-        free(folder);
-        free(profile);
         refuse_memory(error);
         return NULL;
     }
@@ -28,7 +25,6 @@ static DconfdbStore *store_at(const StorePlace *place, const DconfdbOptions *opt
     pthread_mutex_init(&store->handing, NULL);
     notices_begin(&store->notices);
     store->options = *options;
-    store->place = (StorePlace){folder, profile, place->is_given};
     return store;
 }
 
@@ -56,7 +52,10 @@ DconfdbStore *dconfdb_store_open_with(const char *folder, const DconfdbOptions *
 
 DconfdbStore *place_open(const StorePlace *place, DconfdbError *error)
 {
-    return open_at(place, &lenient, error);
+    int cancels = hold_cancellation();
+    DconfdbStore *store = open_at(place, &lenient, error);
+    cancel_as_before(cancels);
+    return store;
 }
 
 DconfdbStore *dconfdb_store_open(const char *folder, DconfdbError *error)
@@ -77,23 +76,23 @@ bool dconfdb_store_profile_fault(const DconfdbStore *store, DconfdbError *error)
     return is;
 }
 
-static char *files_at(const StorePlace *place, size_t *size, bool *are_all, DconfdbError *error)
+static char *files_at(const StorePlace *place, int *profiles, size_t *size, bool *are_all, DconfdbError *error)
 {
     DconfdbError fault = DCONFDB_ERROR_INIT;
     DconfdbStore *store = store_at(place, &lenient, error);
     if (!store)
         return NULL;
     *are_all = store_find_files(store, &fault);
-    char *names = fault.code == DCONFDB_ERROR_MEMORY ? NULL : store_file_names(store, size);
+    char *names = fault.code == DCONFDB_ERROR_MEMORY ? NULL : store_file_names(store, profiles, size);
     if (!names)
         refuse_memory(error);
     dconfdb_store_close(store);
     return names;
 }
 
-char *place_files(const StorePlace *place, bool *are_all, DconfdbError *error)
+char *place_files(const StorePlace *place, int *profiles, bool *are_all, DconfdbError *error)
 {
-    return files_at(place, NULL, are_all, error);
+    return files_at(place, profiles, NULL, are_all, error);
 }
 
 char *dconfdb_store_files(const char *folder, size_t *size, DconfdbError *error)
@@ -101,9 +100,9 @@ char *dconfdb_store_files(const char *folder, size_t *size, DconfdbError *error)
     StorePlace place;
     char *files = NULL;
     bool are_all = true;
-    int cancels = hold_cancellation();
+    int profiles, cancels = hold_cancellation();
     if (place_of_caller(folder, &place, error)) {
-        files = files_at(&place, size, &are_all, error);
+        files = files_at(&place, &profiles, size, &are_all, error);
         place_release(&place);
     }
     cancel_as_before(cancels);
@@ -122,6 +121,7 @@ void dconfdb_store_close(DconfdbStore *store)
     dconfdb_snapshot_unref(store->now);
     for (size_t i = 0; i < store->count; i++)
         free(store->files[i]);
+    free(store->flag);
     place_release(&store->place);
     pthread_mutex_destroy(&store->refreshing);
     pthread_mutex_destroy(&store->handing);

@@ -10,7 +10,6 @@
 #include <pthread.h>
 #include <stdatomic.h>
 #include <stdbool.h>
-#include <string.h>
 
 struct DconfdbStore {
     DconfdbOptions options;     /* `is_lenient`: a bad file is empty, or what is saved of it */
@@ -30,6 +29,7 @@ struct DconfdbStore {
     bool lacks_profile; /* the one that is named can't be had, so there is no database */
     char *user_file; /* absolute; NULL: no user's database */
     const char *own_name; /* of that in its folder */
+    char *flag;           /* of dconf's readers of it; "": there are none */
     size_t count;
     char *files[MOST_DATABASES];
 };
@@ -44,8 +44,8 @@ static inline const char *user_file_or_folder(const DconfdbStore *store)
 
 bool store_find_files(DconfdbStore *store, DconfdbError *error);
 
-/* The profile that is named or the folder's, that of all users, and the databases, a zero byte after each; or NULL. */
-char *store_file_names(const DconfdbStore *store, size_t *size);
+/* The files that may be the profile, and how many, and the databases, a zero byte after each; or NULL. */
+char *store_file_names(const DconfdbStore *store, int *profiles, size_t *size);
 
 /* ---- its newest snapshot (refresh.c, store.c); for all `refreshing` is held */
 
@@ -57,7 +57,7 @@ bool store_refresh(DconfdbStore *store, int turn, DconfdbError *error);
 
 void store_renew(DconfdbStore *store, DconfdbSnapshot *newer);
 
-/* What the user's file is, or that there is none, gets to the disk, whoever wrote it. */
-bool store_settle_own(const DconfdbStore *store, const char *name, DconfdbError *error);
+/* That file of the store's folder gets to the disk, if it is there, and the folder's names; or, of NULL, these alone. */
+bool store_settle_name(const DconfdbStore *store, const char *name, DconfdbError *error);
 
 #endif

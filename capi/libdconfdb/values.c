@@ -21,7 +21,7 @@ static bool number_in(const DconfdbValue *value, char letter, uint64_t *bits)
 
 bool dconfdb_value_get_boolean(const DconfdbValue *value, bool *out)
 {
-    uint64_t bits;
+    uint64_t bits = 0;
     if (!number_in(value, 'b', &bits))
         return false;
     *out = bits != 0;
@@ -32,7 +32,7 @@ bool dconfdb_value_get_boolean(const DconfdbValue *value, bool *out)
 #define GETTER(name, type, unsigned_type, letter)                          \
     bool dconfdb_value_get_##name(const DconfdbValue *value, type *out)    \
     {                                                                      \
-        uint64_t bits;                                                     \
+        uint64_t bits = 0;                                                 \
         if (!number_in(value, letter, &bits))                              \
             return false;                                                  \
         unsigned_type number = (unsigned_type)bits;                        \
@@ -51,7 +51,7 @@ GETTER(double, double, uint64_t, 'd')
 
 const char *dconfdb_value_get_string(const DconfdbValue *value, size_t *length)
 {
-    DconfdbBytes found;
+    DconfdbBytes found = DCONFDB_NOTHING;
     if (!dconfdb_text_in((const uint8_t *)value->type, value->type_size, value->data, value->size, &found))
         return NULL;
     if (length)
@@ -77,13 +77,18 @@ size_t dconfdb_value_n_children(const DconfdbValue *value)
     return dconfdb_count_children((const uint8_t *)value->type, value->type_size, value->data, value->size);
 }
 
-bool dconfdb_value_child(DconfdbValue *value, size_t index, DconfdbValue *child)
+static bool child_at(DconfdbValue *value, bool of_variant, size_t index, DconfdbValue *child)
 {
-    DconfdbPart part;
+    DconfdbPart part; /* the call writes all of it, or it isn't looked at */
     size_t passed = value->passed;
-    bool is_found = dconfdb_child_at((const uint8_t *)value->type, value->type_size, value->data, value->size, index, &passed, &part);
+    bool is_found = dconfdb_child_at((const uint8_t *)value->type, value->type_size, value->data, value->size, of_variant, index, &passed, &part);
     value->passed = passed;
     return part_of(value, is_found, &part, child);
+}
+
+bool dconfdb_value_child(DconfdbValue *value, size_t index, DconfdbValue *child)
+{
+    return child_at(value, false, index, child);
 }
 
 _Static_assert(offsetof(DconfdbValue, data) == offsetof(DconfdbChild, value.at)
@@ -104,12 +109,12 @@ size_t dconfdb_value_children(const DconfdbValue *value, DconfdbValue *children,
 bool dconfdb_value_get_variant(const DconfdbValue *value, DconfdbValue *child)
 {
     DconfdbValue whole = *value;
-    return value->type_size == 1 && value->type[0] == 'v' && dconfdb_value_child(&whole, 0, child);
+    return child_at(&whole, true, 0, child);
 }
 
 bool dconfdb_value_lookup(const DconfdbValue *value, const char *key, DconfdbValue *child)
 {
-    DconfdbPart part;
+    DconfdbPart part = {DCONFDB_NOTHING, DCONFDB_NOTHING};
     bool is_found = dconfdb_look_up((const uint8_t *)value->type, value->type_size, value->data, value->size, (const uint8_t *)key, strlen(key),
                                     &part);
     return part_of(value, is_found, &part, child);

@@ -139,22 +139,28 @@ static uint32_t heard(const Watch *watch)
     return has_events(watch) ? read_events(watch) : DCONFDB_NOTICE_NOTHING;
 }
 
+/* What happened, and what the time is. Gives the step. */
+static uint32_t tell(Watch *watch, uint32_t what, uint32_t event, bool listens)
+{
+    return dconfdb_notice_told(&watch->notice, what, event, listens, time_now());
+}
+
 void watch_hear(Watch *watch)
 {
-    dconfdb_notice_heard(&watch->notice, heard(watch), time_now());
+    (void)tell(watch, DCONFDB_NOTICE_HEARD, heard(watch), false);
 }
 
 WatchStep watch_ask(Watch *watch)
 {
-    return step_of(dconfdb_notice_asked(&watch->notice, heard(watch), time_now()));
+    return step_of(tell(watch, DCONFDB_NOTICE_ASKED, heard(watch), false));
 }
 
 void watch_pass_time(Watch *watch, bool listens)
 {
-    dconfdb_notice_passed(&watch->notice, listens, time_now());
+    (void)tell(watch, DCONFDB_NOTICE_TIME, DCONFDB_NOTICE_NOTHING, listens);
 }
 
 void watch_opened_anew(Watch *watch)
 {
-    dconfdb_notice_opened_anew(&watch->notice, time_now());
+    (void)tell(watch, DCONFDB_NOTICE_ANEW, DCONFDB_NOTICE_NOTHING, false);
 }

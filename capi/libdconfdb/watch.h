@@ -36,9 +36,6 @@ int64_t watch_due(const Watch *watch, bool listens);
 /* Other files are the store's, which was opened anew. */
 void watch_opened_anew(Watch *watch);
 
-/* Those that a store may have: its own, and that of all users. */
-enum { PROFILES = 2 };
-
 /* Watches these files, and nothing else; a zero byte is after each, and one more. The first ones are so many profiles. False: not
  * all can be watched; NULL, none. What happened before is to be looked for. */
 bool watch_files(Watch *watch, const char *files, int profiles);

@@ -1,7 +1,6 @@
 /* The names of a store's files are watched by inotify, and the folders and links on the way to them. */
 #define _GNU_SOURCE
 #include "watched.h"
-#include "folders.h"
 
 #include <limits.h>
 #include <stdio.h>
@@ -10,6 +9,8 @@
 #include <sys/inotify.h>
 #include <sys/stat.h>
 #include <unistd.h>
+
+enum { MOST_ROUNDS = 64, MOST_LINKS = 40 /* as the system has it */ };
 
 void forget_watched(Watch *watch)
 {
@@ -34,7 +35,7 @@ static bool grow(Watch *watch)
     return true;
 }
 
-/* Whether the name is watched so already: all are gone through twice. */
+/* Whether the name is watched so already: all are gone through more than once. */
 static bool is_watched(const Watch *watch, const Watched *wanted)
 {
     for (size_t i = 0; i < watch->count; i++) {
@@ -73,18 +74,20 @@ typedef struct {
     char rest[2 * PATH_MAX]; /* behind that */
     uint32_t role;           /* what is heard if the file changes */
     int links;
+    bool is_too_long; /* it goes on, but there is no room for the rest */
 } Way;
 
-/* Goes on where a link leads, and then to what is behind it. False: it leads nowhere. */
+/* Goes on where a link leads, and then to what is behind it. False: it leads nowhere, as the system has it, too; or there is no room. */
 static bool follow(Way *way, const char *link, const char *behind)
 {
     char target[PATH_MAX], rest[sizeof way->rest];
     ssize_t len = readlink(link, target, sizeof target - 1);
-    if (len <= 0 || way->links++ >= MOST_LINKS)
+    if (len <= 0 || way->links++ >= DCONFDB_MOST_LINKS)
         return false;
     target[len] = 0;
     int size = snprintf(rest, sizeof rest, "%s/%s", target, behind);
-    if (size < 0 || (size_t)size >= sizeof rest)
+    way->is_too_long = size < 0 || (size_t)size >= sizeof rest;
+    if (way->is_too_long)
         return false;
     if (target[0] == '/')
         way->folder[0] = 0;
@@ -124,13 +127,12 @@ static bool go_on(Way *way, uint32_t where, const char *path, const char *behind
 /* One name of a path, and those behind it. True: the path goes on. */
 static bool watch_name(Watch *watch, Way *way, const char *name, size_t len, const char *behind)
 {
-    DconfdbWatchedName watched;
+    DconfdbWatchedName watched = {.is_needed = false};
     char path[PATH_MAX];
     int size = snprintf(path, sizeof path, "%s/%.*s", way->folder, (int)len, name);
-    if (size < 0 || (size_t)size >= sizeof path) {
-        watch->is_whole = false;
+    way->is_too_long = size < 0 || (size_t)size >= sizeof path;
+    if (way->is_too_long)
         return false;
-    }
     Stands stands = stands_at(path);
     dconfdb_watched_name(watch->minds_etc, (const uint8_t *)way->folder, strlen(way->folder), (const uint8_t *)name, len, *behind == 0, stands.mode,
                          stands.links, way->role, &watched);
@@ -146,28 +148,37 @@ static void watch_path(Watch *watch, const char *path, uint32_t role)
 {
     Way way = {.folder = "", .role = role};
     int size = snprintf(way.rest, sizeof way.rest, "%s", path);
-    bool goes_on = size >= 0 && (size_t)size < sizeof way.rest;
-    if (!goes_on)
-        watch->is_whole = false;
+    way.is_too_long = size < 0 || (size_t)size >= sizeof way.rest;
+    bool goes_on = !way.is_too_long;
     while (goes_on) {
         const char *name = way.rest + strspn(way.rest, "/");
         size_t len = strcspn(name, "/");
         const char *behind = name + len + strspn(name + len, "/");
-        if (len == 0)
-            return;
-        goes_on = watch_name(watch, &way, name, len, behind);
+        goes_on = len > 0 && watch_name(watch, &way, name, len, behind);
     }
+    watch->is_whole = watch->is_whole && !way.is_too_long;
 }
 
-/* Twice, since a folder may come between the look at it and its watch. */
+/* All names once. */
+static void go_through(Watch *watch, const char *files, int profiles)
+{
+    int count = 0;
+    watch->is_whole = true;
+    for (const char *at = files; *at; at += strlen(at) + 1)
+        watch_path(watch, at, count++ < profiles ? DCONFDB_NOTICE_FOLDER : DCONFDB_NOTICE_FILE);
+}
+
+/* A folder may come between the look at its name and the watch there: so they are gone through until there is nothing more to watch. Where
+ * that never ends, not all is watched. */
 static void watch_all(Watch *watch, const char *files, int profiles)
 {
-    for (int round = 0; round < 2; round++) {
-        int count = 0;
-        watch->is_whole = true;
-        for (const char *at = files; *at; at += strlen(at) + 1)
-            watch_path(watch, at, count++ < profiles ? DCONFDB_NOTICE_FOLDER : DCONFDB_NOTICE_FILE);
+    bool is_more = true;
+    for (int round = 0; is_more && round < MOST_ROUNDS; round++) {
+        size_t before = watch->count;
+        go_through(watch, files, profiles);
+        is_more = watch->count != before;
     }
+    watch->is_whole = watch->is_whole && !is_more;
 }
 
 static bool has_inotify(Watch *watch)
@@ -190,8 +201,9 @@ bool watch_files(Watch *watch, const char *files, int profiles)
 bool watch_begin(Watch *watch, const StorePlace *place)
 {
     bool are_all = false;
-    char *files = has_inotify(watch) ? place_files(place, &are_all, NULL) : NULL;
-    watch->is_whole = watch_files(watch, files, PROFILES) && are_all;
+    int profiles = 0;
+    char *files = has_inotify(watch) ? place_files(place, &profiles, &are_all, NULL) : NULL;
+    watch->is_whole = watch_files(watch, files, profiles) && are_all;
     free(files);
     return watch->is_whole;
 }

@@ -42,9 +42,6 @@ void schemas_close(Schemas *schemas);
 /* A relocatable schema has this path, too: `ID:PATH`. What is wrong with these words, or NULL. */
 const char *schemas_place(Schemas *schemas, const char *words);
 
-/* What there is at a path. */
-typedef enum { A_KEY, PASSED_OVER, MISSING } Kind;
-
 /* A key, of a schema that has a path, or was given one. */
 typedef struct {
     GSettingsSchema *schema;
@@ -52,11 +49,12 @@ typedef struct {
     char *takes; /* what it takes, in words, once they were wanted */
 } Known;
 
-/* A key's path, and the keys that it is: schemas may share a path. */
-Kind schemas_key(const Schemas *schemas, const char *path, const GPtrArray **known);
+/* What there is of a key that is set, or locked, by its path, and the keys that it is, or NULL: schemas may share a path. Of its value nothing
+ * is known yet. */
+DconfdbFinding schemas_key(const Schemas *schemas, const char *path, uint32_t what, const GPtrArray **keys);
 
-/* The path of a directory, whether a key is below it. */
-Kind schemas_directory(const Schemas *schemas, const char *path);
+/* The same of a directory that is locked. */
+DconfdbFinding schemas_directory(const Schemas *schemas, const char *path);
 
 /* The key, or the directory, that is nearest to what is missing: to be freed; or NULL. */
 char *schemas_nearest(const Schemas *schemas, const char *path);
@@ -66,8 +64,12 @@ char *schemas_nearest(const Schemas *schemas, const char *path);
 /* The value of these bytes, in normal form, or NULL if GLib has none of the type that this text spells. */
 GVariant *value_of_bytes(const DconfdbBytes *bytes, const DconfdbBytes *type_text);
 
-/* Finds what is wrong with the value of a key, unless one of those that it is takes it. */
-void check_value(Place at, const char *path, const GPtrArray *known, GVariant *value);
+/* What is known of the value of a key, beside the keys that it is. */
+void judge_value(const char *path, const GPtrArray *keys, GVariant *value, DconfdbFinding *known);
+
+/* Finds that it is of another type than the first key, or that this doesn't take it. */
+void find_other_type(Place at, const char *path, const GPtrArray *keys, GVariant *value);
+void find_not_taken(Place at, const char *path, const GPtrArray *keys, GVariant *value);
 
 /* Frees what was kept. */
 void values_end(void);

@@ -20,9 +20,10 @@ static void check_system(const Asked *asked, const char *text, const DconfdbName
 {
     FileState state;
     Place at = {asked->file, line_of(text, database->name.at)};
-    DconfdbPath path = DCONFDB_NO_PATH;
-    dconfdb_database_path((const uint8_t *)asked->folder, strlen(asked->folder), (const uint8_t *)asked->file, strlen(asked->file), true,
-                          database->kind, database->name.at, database->name.len, &path);
+    DconfdbPath path = DCONFDB_NO_PATH, flag = DCONFDB_NO_PATH;
+    const DconfdbBytes nothing = DCONFDB_NOTHING, folder = {(const uint8_t *)asked->folder, strlen(asked->folder)};
+    const DconfdbPlace place = {folder, nothing, nothing, nothing, nothing, nothing, true, false};
+    dconfdb_database_path(&place, (const uint8_t *)asked->file, strlen(asked->file), database->kind, database->name.at, database->name.len, &path, &flag);
     char *file = path_of(&path);
     if (file_look(file, &state) == 0 && !state.is_there)
         find(at, "it names system-db:%.*s, and there is no %s", (int)database->name.len, (const char *)database->name.at, file);

@@ -25,24 +25,32 @@ static void check_first(const Lint *lint, Place at, const char *path)
     g_hash_table_insert(lint->set, g_strdup(path), kept);
 }
 
+static void find_it(const Lint *lint, Place at, const char *path, const DconfdbFinding *known, const GPtrArray *keys, GVariant *value)
+{
+    switch (dconfdb_finding(known)) {
+    case DCONFDB_FINDING_NO_KEY: find_missing(lint, at, "no schema has the key", path); break;
+    case DCONFDB_FINDING_NO_LOCKED_KEY: find_missing(lint, at, "no schema has the locked key", path); break;
+    case DCONFDB_FINDING_NO_LOCKED_DIRECTORY: find_missing(lint, at, "no schema has a key below the locked directory", path); break;
+    case DCONFDB_FINDING_OTHER_TYPE: find_other_type(at, path, keys, value); break;
+    case DCONFDB_FINDING_NOT_TAKEN: find_not_taken(at, path, keys, value); break;
+    default: break;
+    }
+}
+
 void check_row(const Lint *lint, Place at, const char *path, GVariant *value)
 {
-    const GPtrArray *known = NULL;
-    Kind kind = schemas_key(lint->schemas, path, &known);
-    if (kind == MISSING)
-        find_missing(lint, at, "no schema has the key", path);
-    else if (kind == A_KEY && value)
-        check_value(at, path, known, value);
+    const GPtrArray *keys = NULL;
+    DconfdbFinding known = schemas_key(lint->schemas, path, DCONFDB_OF_KEY, &keys);
+    if (keys && value)
+        judge_value(path, keys, value, &known);
+    find_it(lint, at, path, &known, keys, value);
     check_first(lint, at, path);
 }
 
 void check_lock(const Lint *lint, Place at, const char *path)
 {
-    const GPtrArray *known = NULL;
-    if (g_str_has_suffix(path, "/")) {
-        if (schemas_directory(lint->schemas, path) == MISSING)
-            find_missing(lint, at, "no schema has a key below the locked directory", path);
-    } else if (schemas_key(lint->schemas, path, &known) == MISSING) {
-        find_missing(lint, at, "no schema has the locked key", path);
-    }
+    const GPtrArray *keys = NULL;
+    bool is_directory = g_str_has_suffix(path, "/");
+    DconfdbFinding known = is_directory ? schemas_directory(lint->schemas, path) : schemas_key(lint->schemas, path, DCONFDB_OF_LOCKED_KEY, &keys);
+    find_it(lint, at, path, &known, NULL, NULL);
 }

@@ -187,37 +187,38 @@ static GPtrArray *find_known(const Schemas *schemas, const char *directory, cons
     return found;
 }
 
-/* Whether only a relocatable schema may have the key. */
-static bool may_be_relocatable(const Schemas *schemas, const char *directory, const char *name)
-{
-    return !g_hash_table_contains(schemas->at, directory) && g_hash_table_contains(schemas->relocatable, name)
-        && !has_slip(g_hash_table_lookup(schemas->with, name), directory);
-}
-
-Kind schemas_key(const Schemas *schemas, const char *path, const GPtrArray **known)
+/* The same, once they were asked for: what is found is kept. */
+static const GPtrArray *known_at(const Schemas *schemas, const char *path, const char *directory, const char *name)
 {
     GPtrArray *found = g_hash_table_lookup(schemas->known, path);
-    Kind kind = A_KEY;
-    if (!found) {
-        char *directory = directory_of(path);
-        const char *name = path + strlen(directory);
-        found = find_known(schemas, directory, name);
-        if (found)
-            g_hash_table_insert(schemas->known, g_strdup(path), found);
-        else
-            kind = may_be_relocatable(schemas, directory, name) ? PASSED_OVER : MISSING;
-        g_free(directory);
-    }
-    *known = found;
-    return kind;
+    if (found)
+        return found;
+    found = find_known(schemas, directory, name);
+    if (found)
+        g_hash_table_insert(schemas->known, g_strdup(path), found);
+    return found;
 }
 
-Kind schemas_directory(const Schemas *schemas, const char *path)
+DconfdbFinding schemas_key(const Schemas *schemas, const char *path, uint32_t what, const GPtrArray **keys)
 {
-    if (g_hash_table_contains(schemas->is_directory, path))
-        return A_KEY;
-    bool may_be_there = g_hash_table_size(schemas->relocatable) > 0;
-    return may_be_there && !has_slip(schemas->directories, path) ? PASSED_OVER : MISSING;
+    char *directory = directory_of(path);
+    const char *name = path + strlen(directory);
+    *keys = known_at(schemas, path, directory, name);
+    DconfdbFinding known = {.what = what,
+                            .is_known = *keys != NULL,
+                            .has_schemas = g_hash_table_contains(schemas->at, directory),
+                            .may_be_elsewhere = g_hash_table_contains(schemas->relocatable, name),
+                            .is_slip = has_slip(g_hash_table_lookup(schemas->with, name), directory)};
+    g_free(directory);
+    return known;
+}
+
+DconfdbFinding schemas_directory(const Schemas *schemas, const char *path)
+{
+    return (DconfdbFinding){.what = DCONFDB_OF_LOCKED_DIRECTORY,
+                            .is_known = g_hash_table_contains(schemas->is_directory, path),
+                            .may_be_elsewhere = g_hash_table_size(schemas->relocatable) > 0,
+                            .is_slip = has_slip(schemas->directories, path)};
 }
 
 /* ---- what is nearest */

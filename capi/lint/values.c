@@ -137,34 +137,40 @@ static char *words_of_range(GSettingsSchemaKey *key)
     return words;
 }
 
-static void find_range(Place at, Known *known, const char *path, GVariant *value)
+void find_not_taken(Place at, const char *path, const GPtrArray *keys, GVariant *value)
 {
-    if (!known->takes)
-        known->takes = words_of_range(known->key);
+    Known *first = g_ptr_array_index(keys, 0);
+    if (!first->takes)
+        first->takes = words_of_range(first->key);
     char *text = shown(value);
-    find(at, "%s: %s is not %s", path, text, known->takes);
+    find(at, "%s: %s is not %s", path, text, first->takes);
     g_free(text);
+}
+
+void find_other_type(Place at, const char *path, const GPtrArray *keys, GVariant *value)
+{
+    const Known *first = g_ptr_array_index(keys, 0);
+    char *text = g_variant_type_dup_string(g_settings_schema_key_get_value_type(first->key));
+    find(at, "%s: the value is of type %s, and the key of type %s", path, g_variant_get_type_string(value), text);
+    g_free(text);
+}
+
+/* ---- what GLib says of it */
+
+static bool is_of_type(const Known *known, GVariant *value)
+{
+    return g_variant_is_of_type(value, g_settings_schema_key_get_value_type(known->key));
 }
 
 static bool is_taken(const Known *known, const char *path, GVariant *value)
 {
-    return g_variant_is_of_type(value, g_settings_schema_key_get_value_type(known->key))
-        && (g_settings_schema_key_range_check(known->key, value) || is_other_name(known->schema, path, value));
+    return is_of_type(known, value) && (g_settings_schema_key_range_check(known->key, value) || is_other_name(known->schema, path, value));
 }
 
-void check_value(Place at, const char *path, const GPtrArray *known, GVariant *value)
+void judge_value(const char *path, const GPtrArray *keys, GVariant *value, DconfdbFinding *known)
 {
-    for (guint i = 0; i < known->len; i++) {
-        if (is_taken(g_ptr_array_index(known, i), path, value))
-            return;
-    }
-    Known *first = g_ptr_array_index(known, 0);
-    const GVariantType *type = g_settings_schema_key_get_value_type(first->key);
-    if (g_variant_is_of_type(value, type)) {
-        find_range(at, first, path, value);
-        return;
-    }
-    char *text = g_variant_type_dup_string(type);
-    find(at, "%s: the value is of type %s, and the key of type %s", path, g_variant_get_type_string(value), text);
-    g_free(text);
+    known->has_value = true;
+    known->is_of_type = is_of_type(g_ptr_array_index(keys, 0), value);
+    for (guint i = 0; i < keys->len && !known->is_taken; i++)
+        known->is_taken = is_taken(g_ptr_array_index(keys, i), path, value);
 }

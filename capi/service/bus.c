@@ -3,9 +3,6 @@
 
 #include <string.h>
 
-/* A change has so many bytes at most. */
-enum { LARGEST_CHANGE = 64 << 20 };
-
 static const char interfaces[] =
     "<node>"
     "<interface name='ca.desrt.dconf.Writer'>"
@@ -24,19 +21,36 @@ static void refuse(GDBusMethodInvocation *call, GDBusError code, const char *why
     g_dbus_method_invocation_return_error_literal(call, G_DBUS_ERROR, (gint)code, text);
 }
 
+void call_refuse(GDBusMethodInvocation *call, uint32_t served, const char *why)
+{
+    static const struct {
+        GDBusError code;
+        const char *text;
+    } said[] = {[DCONFDB_SERVED_FAILED] = {G_DBUS_ERROR_FAILED, NULL},
+                [DCONFDB_SERVED_CLOSED] = {G_DBUS_ERROR_FAILED, NULL},
+                [DCONFDB_SERVED_ODD] = {G_DBUS_ERROR_INVALID_ARGS, "the changes are not in normal form"},
+                [DCONFDB_SERVED_TOO_LARGE] = {G_DBUS_ERROR_LIMITS_EXCEEDED, "a change has at most 64 MiB"},
+                [DCONFDB_SERVED_TOO_MUCH] = {G_DBUS_ERROR_LIMITS_EXCEEDED, "10,000 changes, or 256 MiB of them, wait to be written already"},
+                [DCONFDB_SERVED_TOO_MANY_NAMES] = {G_DBUS_ERROR_LIMITS_EXCEEDED, "64 databases are in use already"}};
+    refuse(call, said[served].code, said[served].text ? said[served].text : why);
+}
+
 static void change(Service *service, const char *name, GDBusMethodInvocation *call)
 {
     DconfdbError error = DCONFDB_ERROR_INIT;
     g_autoptr(GVariant) bytes = g_variant_get_child_value(g_dbus_method_invocation_get_parameters(call), 0);
-    if (g_variant_get_size(bytes) > LARGEST_CHANGE) {
-        refuse(call, G_DBUS_ERROR_LIMITS_EXCEEDED, "a change has at most 64 MiB");
+    DconfdbServed known = service_knows(service, g_variant_get_size(bytes));
+    known.is_used = g_hash_table_contains(service->writers, name);
+    uint32_t served = dconfdb_served_after(DCONFDB_SERVED_CAME, &known);
+    if (served != DCONFDB_SERVED_GOES_ON) {
+        call_refuse(call, served, NULL);
         return;
     }
     Writer *writer = writer_named(service, name, &error);
     if (writer)
         service_add(service, change_new(writer, call, writer->count++));
     else
-        refuse(call, error.code == DCONFDB_ERROR_TOO_MANY ? G_DBUS_ERROR_LIMITS_EXCEEDED : G_DBUS_ERROR_FAILED, error.text);
+        call_refuse(call, DCONFDB_SERVED_FAILED, error.text);
 }
 
 /* GDBus has looked at the method and at its words. There is nothing to be made ready. */

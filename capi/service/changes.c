@@ -5,9 +5,6 @@
 
 static const size_t FEW_TEXTS = 256;
 
-/* To bring bytes into normal form takes GLib a time with the square of their number. Who sends more than that uses no GVariant library. */
-static const size_t MOST_ODD = 32768;
-
 Change *change_new(Writer *writer, GDBusMethodInvocation *call, guint64 number)
 {
     Change *change = g_new0(Change, 1);
@@ -15,8 +12,9 @@ Change *change_new(Writer *writer, GDBusMethodInvocation *call, guint64 number)
     change->writer = writer;
     change->call = call;
     change->number = number;
-    change->moment = order_clock();
     change->asked = g_variant_get_child_value(g_dbus_method_invocation_get_parameters(call), 0);
+    change->size = g_variant_get_size(change->asked);
+    change->order = g_dbus_message_get_byte_order(g_dbus_method_invocation_get_message(call));
     change->edits = g_array_new(FALSE, FALSE, sizeof(DconfdbEdit));
     change->unfit = g_ptr_array_new();
     change->types = g_string_chunk_new(FEW_TEXTS);
@@ -35,15 +33,22 @@ void change_free(Change *change)
 
 /* ---- what stands in the bytes */
 
-/* The bytes in normal form, in the order that the library takes, and in one block, which all that is in it lends. NULL: they are odd. */
-static GVariant *normal_form(GVariant *blob, GDBusMessageByteOrder order)
+static bool is_odd(const Change *change)
 {
-    g_autoptr(GBytes) bytes = g_variant_get_data_as_bytes(blob);
+    DconfdbServed known = {.size = change->size, .is_normal = change->is_normal};
+    return dconfdb_served_after(DCONFDB_SERVED_READ, &known) != DCONFDB_SERVED_GOES_ON;
+}
+
+/* The bytes in normal form, in the order that the library takes, and in one block, which all that is in it lends. NULL: they are odd. */
+static GVariant *normal_form(Change *change)
+{
+    g_autoptr(GBytes) bytes = g_variant_get_data_as_bytes(change->asked);
     g_autoptr(GVariant) sent = g_variant_ref_sink(g_variant_new_from_bytes(G_VARIANT_TYPE("a{smv}"), bytes, FALSE));
-    if (g_bytes_get_size(bytes) > MOST_ODD && !g_variant_is_normal_form(sent))
+    change->is_normal = g_variant_is_normal_form(sent);
+    if (is_odd(change))
         return NULL;
     g_autoptr(GVariant) normal = g_variant_get_normal_form(sent);
-    g_autoptr(GVariant) ours = order == G_DBUS_MESSAGE_BYTE_ORDER_BIG_ENDIAN ? g_variant_byteswap(normal) : g_variant_ref(normal);
+    g_autoptr(GVariant) ours = change->order == G_DBUS_MESSAGE_BYTE_ORDER_BIG_ENDIAN ? g_variant_byteswap(normal) : g_variant_ref(normal);
     g_autoptr(GBytes) block = g_variant_get_data_as_bytes(ours);
     /* It is trusted: else GLib looks at all entries before one that is taken out. */
     return g_variant_ref_sink(g_variant_new_from_bytes(G_VARIANT_TYPE("a{smv}"), block, TRUE));
@@ -72,8 +77,9 @@ static void read_entry(Change *change, GVariant *entry)
     bool is_short = false;
     g_variant_get_child(entry, 0, "&s", &path);
     g_autoptr(GVariant) value = value_of(entry);
-    uint32_t kind = dconfdb_path_kind((const uint8_t *)path, strlen(path), DCONFDB_PATH_WANTED, false, &is_short);
-    if (kind != DCONFDB_PATH_KEY && (kind != DCONFDB_PATH_DIRECTORY || value))
+    uint32_t wanted = value ? DCONFDB_KEY_WANTED : DCONFDB_PATH_WANTED;
+    uint32_t kind = dconfdb_path_kind((const uint8_t *)path, strlen(path), wanted, false, &is_short);
+    if (kind != DCONFDB_PATH_KEY && kind != DCONFDB_PATH_DIRECTORY)
         return;
     if (!is_short) {
         g_ptr_array_add(change->unfit, (gpointer)path);
@@ -90,10 +96,16 @@ static int by_path(const void *one, const void *other)
     return strcmp(((const DconfdbEdit *)one)->path, ((const DconfdbEdit *)other)->path);
 }
 
+/* What becomes of an edit beside one that counts after it. */
+static uint32_t effect_of(const DconfdbEdit *later, const DconfdbEdit *edit)
+{
+    return dconfdb_row_effect((const uint8_t *)later->path, strlen(later->path), later->type != NULL, false, (const uint8_t *)edit->path, strlen(edit->path));
+}
+
 /* Whether it is the reset of what a directory above resets already. */
 static bool is_in(const DconfdbEdit *above, const DconfdbEdit *edit)
 {
-    return above && !edit->type && g_str_has_prefix(edit->path, above->path);
+    return above && !edit->type && effect_of(above, edit) == DCONFDB_ROW_GOES;
 }
 
 /* One edit of each path, the last that was sent, since those of one path stay in their order; and no resets in a directory that is reset,
@@ -105,16 +117,13 @@ static void sort(GArray *edits)
     guint count = 0;
     g_array_sort(edits, by_path);
     for (guint at = 0; at < edits->len; at++) {
-        if (count > 0 && by_path(&all[count - 1], &all[at]) == 0) {
-            all[count - 1] = all[at];
+        bool is_again = count > 0 && effect_of(&all[at], &all[count - 1]) == DCONFDB_ROW_TAKES;
+        if (!is_again && is_in(above, &all[at]))
             continue;
-        }
-        if (is_in(above, &all[at]))
-            continue;
-        all[count] = all[at];
-        if (g_str_has_suffix(all[count].path, "/"))
-            above = &all[count];
-        count++;
+        count += !is_again;
+        all[count - 1] = all[at];
+        if (g_str_has_suffix(all[at].path, "/"))
+            above = &all[count - 1];
     }
     g_array_set_size(edits, count);
 }
@@ -123,10 +132,11 @@ void change_read(Change *change)
 {
     GVariantIter iter;
     GVariant *entry;
-    GDBusMessage *message = g_dbus_method_invocation_get_message(change->call);
-    GVariant *normal = normal_form(change->asked, g_dbus_message_get_byte_order(message));
-    change->is_odd = !normal;
-    if (change->is_odd)
+    if (change->is_read)
+        return;
+    change->is_read = true;
+    GVariant *normal = normal_form(change);
+    if (!normal)
         return;
     g_variant_unref(change->asked);
     change->asked = normal;

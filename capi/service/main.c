@@ -1,9 +1,10 @@
 /* dconfdb-service: the D-Bus service ca.desrt.dconf, by which programs with dconf's own library write, in a sandbox, say. */
-#include "files.h"
+#include "looked.h"
 #include "service.h"
 
 #include <glib-unix.h>
 #include <stdlib.h>
+#include <unistd.h>
 
 /* In microseconds: how long its end waits for a write, and as long again after each turn of another program; and in milliseconds, how often
  * it asks. */
@@ -20,22 +21,12 @@ static void say(const char *text)
 typedef struct {
     Service *service;
     DconfdbPatience time;
-    DconfdbFileTime changed; /* the folder, then: a turn makes a file in it, and renames it */
 } Ending;
-
-static DconfdbFileTime changed_at(const char *folder)
-{
-    FileState state;
-    return file_look(folder, &state) == 0 ? state.written : (DconfdbFileTime){0, 0};
-}
 
 static void renew(Ending *ending)
 {
-    DconfdbFileTime changed = changed_at(ending->service->place.folder);
-    if (changed.seconds == ending->changed.seconds && changed.nanoseconds == ending->changed.nanoseconds)
-        return;
-    ending->changed = changed;
-    dconfdb_patience_renew(&ending->time, (uint64_t)g_get_monotonic_time());
+    DconfdbFileTime changed = folder_written(ending->service->place.folder);
+    dconfdb_patience_renew(&ending->time, &changed, (uint64_t)g_get_monotonic_time());
 }
 
 static bool goes_on(Ending *ending)
@@ -45,7 +36,6 @@ static bool goes_on(Ending *ending)
     g_mutex_lock(&service->lock);
     DconfdbProgress progress = {service->settled, service->added, 0, 0, UINT64_MAX};
     bool is = dconfdb_patience_goes_on(&ending->time, &progress, (uint64_t)g_get_monotonic_time());
-    service->has_failed = service->has_failed || (!is && service->settled < service->added);
     g_mutex_unlock(&service->lock);
     return is;
 }
@@ -67,8 +57,8 @@ static void begin_end(Service *service)
     service->is_ending = true;
     g_clear_handle_id(&service->owner, g_bus_unown_name);
     Ending *ending = g_new(Ending, 1);
-    *ending = (Ending){.service = service, .time = {.each = LONGEST_END}, .changed = changed_at(service->place.folder)};
-    dconfdb_patience_renew(&ending->time, (uint64_t)g_get_monotonic_time());
+    *ending = (Ending){.service = service, .time = {.each = LONGEST_END}};
+    renew(ending);
     g_timeout_add_full(G_PRIORITY_LOW, TICK, end_when_settled, ending, g_free);
 }
 
@@ -136,9 +126,14 @@ static void run(Service *service)
     /* Who has it started by a call finds all in its place. */
     service->owner = g_bus_own_name_on_connection(service->bus, "ca.desrt.dconf", G_BUS_NAME_OWNER_FLAGS_DO_NOT_QUEUE, on_name, on_no_name, service, NULL);
     g_main_loop_run(service->loop);
-    service_stop_writing(service);
+    bool is_over = service_stop_writing(service);
     /* It fails where the bus is gone. */
     g_dbus_connection_flush_sync(service->bus, NULL, NULL);
+    if (is_over)
+        return;
+    say("what was asked for last isn't on the disk");
+    /* The thread ends with the process, whatever it is amid: nothing is lost by that which was acknowledged. */
+    _exit(1);
 }
 
 static void clear(Service *service)
@@ -170,12 +165,9 @@ static int serve(const char *folder)
         run(&service);
     else if (is_ready)
         say("no thread can be had");
-    bool is_left = service.has_thread, has_failed = !is_running || service.has_failed;
-    if (is_left)
-        say("what was asked for last isn't on the disk");
-    else
-        clear(&service);
-    return has_failed || is_left;
+    bool has_failed = !is_running || service.has_failed;
+    clear(&service);
+    return has_failed;
 }
 
 int main(int count, char **words)

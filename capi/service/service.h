@@ -8,6 +8,7 @@
 #include "order.h"
 #include "place.h"
 #include "seen.h"
+#include "warned.h"
 #include "watch.h"
 
 #include <gio/gio.h>
@@ -35,7 +36,11 @@ typedef struct {
     GMutex lock; /* held for moments. It guards: */
     GCond comes; /* more waits, or the end has come */
     GQueue waiting; /* of changes, the oldest first */
+    GQueue taken; /* those that are written together, of one database; also until they are tried again */
     guint64 added, settled; /* how many changes ever came, and how many were answered */
+    guint64 waiting_size; /* how many bytes those have that aren't */
+    gint64 again; /* when a write that failed is tried again; 0: none is */
+    bool is_writing; /* the thread is amid a try: it alone answers what is taken */
     bool ends;
 } Service;
 
@@ -48,8 +53,10 @@ typedef struct {
     GDBusMethodInvocation *call;
     guint64 number;    /* of the writer's changes */
     uint64_t moment;   /* in which it came, by order_clock() */
+    size_t size;       /* of what was sent, in that order of bytes */
+    GDBusMessageByteOrder order;
     GVariant *asked;   /* as it was sent; once it is read, in normal form, and in one block, which the edits lend */
-    bool is_odd;       /* it is not in normal form, and too large to be brought into it */
+    bool is_read, is_normal;
     GArray *edits;     /* in the order of their paths' bytes, one of each: a directory's comes before those of what is in it */
     GPtrArray *unfit;  /* paths that are too long to be a key's */
     GStringChunk *types;
@@ -57,6 +64,8 @@ typedef struct {
 } Change;
 
 Change *change_new(Writer *writer, GDBusMethodInvocation *call, guint64 number);
+
+/* Once: its edits, unless its bytes are odd. */
 void change_read(Change *change);
 void change_free(Change *change);
 
@@ -79,19 +88,16 @@ struct Writer {
     Watch *watch;
     guint hears, waits; /* sources, of what happens and of time; 0: none */
     bool is_old;        /* another profile may name other databases: the store is to be opened anew */
-    char *warned;
+    Warned warned;      /* the faults that were said, and are there still */
     gint is_to_look; /* the main thread looks when `turn` is free; atomic */
 };
 
 /* The store in which the database of that name is the user's. NULL: it can't be opened. */
 DconfdbStore *store_named(const Service *service, const char *name, DconfdbError *error);
 
-/* So many names at most, since each takes files and memory. NULL: it can't be opened, or there are too many. */
+/* NULL: it can't be opened. */
 Writer *writer_named(Service *service, const char *name, DconfdbError *error);
 void writer_free(Writer *writer);
-
-/* Says on stderr what is wrong, once as long as it is the same. */
-void writer_warn(Writer *writer, const char *text);
 
 /* In the main thread: sees what others change. */
 void writer_watch(Writer *writer);
@@ -123,16 +129,23 @@ bool service_begin_writing(Service *service);
 /* Of the main thread: it waits to be written. */
 void service_add(Service *service, Change *change);
 
+/* What is known of a change of so many bytes that comes now; of its database, nothing. */
+DconfdbServed service_knows(Service *service, size_t size);
+
 /* Whether a change isn't answered yet. */
 bool service_has_waiting(Service *service);
 
-/* It writes what waits, and ends. */
-void service_stop_writing(Service *service);
+/* Ends the thread. What still waits isn't written any more, and is answered so. False: the thread is left, amid a write, or in line for its
+ * turn, in which it doesn't write any more. */
+bool service_stop_writing(Service *service);
 
 /* ---- the bus (bus.c, blame.c) */
 
 /* False: it failed, which is told. */
 bool bus_register(Service *service);
+
+/* Answers a call by what became of its change; `why` is said where that has no words of its own. */
+void call_refuse(GDBusMethodInvocation *call, uint32_t served, const char *why);
 
 /* For `dconf blame`: who called, and what ran then. NULL: the environment doesn't ask for it. */
 Blame *blame_new(void);

@@ -3,9 +3,6 @@
 
 #include <string.h>
 
-/* Each takes a few files of the process. */
-enum { MOST_WRITERS = 64 };
-
 /* ---- where it is */
 
 static bool has_line(const char *path, const char *line)
@@ -32,7 +29,8 @@ static char *profile_of_name(const char *name, DconfdbError *error)
 static DconfdbStore *open_alone(const Service *service, const char *name, DconfdbError *error)
 {
     g_autofree char *profile = profile_of_name(name, error);
-    StorePlace place = {service->place.folder, profile, service->place.is_given};
+    StorePlace place = service->place;
+    place.profile = profile;
     return profile ? place_open(&place, error) : NULL;
 }
 
@@ -75,11 +73,6 @@ Writer *writer_named(Service *service, const char *name, DconfdbError *error)
     Writer *writer = g_hash_table_lookup(service->writers, name);
     if (writer)
         return writer;
-    if (g_hash_table_size(service->writers) >= MOST_WRITERS) {
-        error->code = DCONFDB_ERROR_TOO_MANY;
-        g_snprintf(error->text, sizeof error->text, "%d databases are in use already", MOST_WRITERS);
-        return NULL;
-    }
     DconfdbStore *store = store_named(service, name, error);
     if (!store)
         return NULL;
@@ -97,17 +90,8 @@ void writer_free(Writer *writer)
     dconfdb_snapshot_unref(writer->told);
     dconfdb_store_close(writer->store);
     g_mutex_clear(&writer->turn);
-    g_free(writer->warned);
+    warned_end(&writer->warned);
     g_free(writer->name);
     g_free(writer->object);
     g_free(writer);
-}
-
-void writer_warn(Writer *writer, const char *text)
-{
-    if (g_strcmp0(writer->warned, text) == 0)
-        return;
-    g_free(writer->warned);
-    writer->warned = g_strdup(text);
-    g_printerr("dconfdb-service: %s\n", text);
 }

@@ -1,7 +1,7 @@
 /* Who is told of what: by the proved call that says which keys are seen otherwise, of the user's own database alone, since programs in a
  * sandbox see no site's. */
-#include "service.h"
 #include "paths.h"
+#include "service.h"
 
 #include <stdlib.h>
 #include <string.h>
@@ -22,28 +22,15 @@ static size_t sendable(const char *path)
     return (size_t)(end - path);
 }
 
-/* The directory that one path and such a beginning of another have in common, or that path. */
-static size_t common(const char *one, size_t len, const char *other, size_t other_len)
-{
-    size_t same = 0;
-    while (same < len && same < other_len && one[same] == other[same])
-        same++;
-    if (same == len && same == other_len)
-        return same;
-    while (same > 0 && one[same - 1] != '/')
-        same--;
-    return same;
-}
-
-/* What all paths begin with, of the first one, and how many bytes they are. */
+/* What all paths begin with, of the first one: all of it if that is the only one, and else a directory. And how many bytes they are. */
 static size_t prefix_of(const GPtrArray *paths, size_t *size)
 {
     const char *first = g_ptr_array_index(paths, 0);
-    size_t len = sendable(first);
-    *size = 0;
-    for (guint at = 0; at < paths->len; at++) {
+    size_t first_len = strlen(first), len = sendable(first);
+    *size = first_len;
+    for (guint at = 1; at < paths->len; at++) {
         const char *path = g_ptr_array_index(paths, at);
-        len = common(first, len, path, sendable(path));
+        len = dconfdb_shared_within((const uint8_t *)first, first_len, len, (const uint8_t *)path, sendable(path));
         *size += strlen(path);
     }
     return len;
@@ -64,10 +51,7 @@ static GVariant *rests_of(const GPtrArray *paths, size_t prefix, bool are_named)
 
 static void notify(const Writer *writer, const GPtrArray *paths, const char *tag)
 {
-    size_t size = 0;
-    if (paths->len == 0)
-        return;
-    size_t len = prefix_of(paths, &size);
+    size_t size = 0, len = prefix_of(paths, &size);
     g_autofree char *prefix = g_strndup(g_ptr_array_index(paths, 0), len);
     GVariant *words = g_variant_new("(s@ass)", prefix, rests_of(paths, len, size <= MOST_NAMED), tag);
     /* It fails where the bus is gone. */
@@ -115,7 +99,7 @@ static void put_resets(GTree *edits, Newest *newest, const DconfdbSnapshot *befo
     for (const char *at = paths; at && *at; at += strlen(at) + 1)
         put_reset(edits, newest, at);
     for (GTreeNode *node = g_tree_lower_bound(newest->edits, directory); node; node = g_tree_node_next(node)) {
-        if (!g_str_has_prefix(g_tree_node_key(node), directory))
+        if (!paths_meet(directory, g_tree_node_key(node)))
             break;
         put_reset(edits, newest, g_tree_node_key(node));
     }
@@ -153,19 +137,42 @@ static void add_all(GPtrArray *paths, const char *list)
         g_ptr_array_add(paths, (gpointer)at);
 }
 
-/* Tells what is otherwise, and these paths. Without memory all may be. */
+/* Two changes that are written together may leave out the same path. Dconf's library takes no notice in which a key alone is named twice. */
+static void keep_each_once(GPtrArray *paths)
+{
+    g_autoptr(GHashTable) named = g_hash_table_new(g_str_hash, g_str_equal);
+    guint count = 0;
+    for (guint at = 0; at < paths->len; at++) {
+        if (g_hash_table_add(named, g_ptr_array_index(paths, at)))
+            g_ptr_array_index(paths, count++) = g_ptr_array_index(paths, at);
+    }
+    g_ptr_array_set_size(paths, (gint)count);
+}
+
+/* Tells what is otherwise, and these paths, if there are any: nobody knows who listens. Without memory all may be otherwise. */
 static void tell(const Writer *writer, const DconfdbSnapshot *before, const DconfdbSnapshot *now, const GArray *keys, GPtrArray *paths, const char *tag)
 {
     Told told;
-    if (!seen_otherwise(&told, before, now, (const SeenKey *)(gpointer)keys->data, keys->len, NULL)) {
+    DconfdbTelling telling = {.is_other = true, .is_listened = true};
+    telling.is_found = seen_otherwise(&told, before, now, (const SeenKey *)(gpointer)keys->data, keys->len, NULL);
+    if (telling.is_found)
+        add_all(paths, told.paths);
+    keep_each_once(paths);
+    telling.taken = paths->len;
+    switch (dconfdb_tell_next(&telling)) {
+    case DCONFDB_TELL_ALL:
         g_ptr_array_set_size(paths, 0);
         g_ptr_array_add(paths, "/");
         notify(writer, paths, tag);
-        return;
+        break;
+    case DCONFDB_TELL_WHAT_IS_TAKEN:
+        notify(writer, paths, tag);
+        break;
+    default:
+        break;
     }
-    add_all(paths, told.paths);
-    notify(writer, paths, tag);
-    seen_free(&told);
+    if (telling.is_found)
+        seen_free(&told);
 }
 
 typedef struct {

@@ -21,41 +21,66 @@ static bool open_anew(Writer *writer, DconfdbError *error)
     return true;
 }
 
-/* The first file that is bad, of which what can be read counts. */
-static void warn_of_fault(Writer *writer)
+static void warn(void *it, const char *text)
 {
-    DconfdbError fault = DCONFDB_ERROR_INIT;
-    DconfdbSnapshot *now = dconfdb_store_snapshot(writer->store);
-    bool is = dconfdb_store_profile_fault(writer->store, &fault);
-    for (size_t i = 0; !is && i < dconfdb_snapshot_databases(now); i++)
-        is = dconfdb_snapshot_fault(now, i, &fault);
-    if (is)
-        writer_warn(writer, fault.text);
-    dconfdb_snapshot_unref(now);
+    (void)it;
+    g_printerr("dconfdb-service: %s\n", text);
 }
 
-/* A change that waits is to be overtaken by what others changed since it came. */
-static void heed(Writer *writer)
+/* A look, and what is known of it. */
+typedef struct {
+    DconfdbGlance known;
+    DconfdbSnapshot *before; /* what listeners knew of; NULL: nothing was handed out */
+    DconfdbError error;
+} Looking;
+
+/* Which files those of a store that is opened anew are is known to who watches them: they were watched before. */
+static Looking looking_of(const Writer *writer)
 {
-    if (!service_has_waiting(writer->service))
+    uint32_t profile = writer->is_old ? DCONFDB_FILE_UNSURE : DCONFDB_FILE_SAME;
+    return (Looking){.known = {.first = profile, .second = profile, .is_open = true, .has_same_files = true}, .error = DCONFDB_ERROR_INIT};
+}
+
+static void read_files(Writer *writer, uint32_t task, Looking *it)
+{
+    it->known.is_done = task == DCONFDB_GLANCE_REFRESH ? dconfdb_store_refresh(writer->store, NULL, &it->error) : open_anew(writer, &it->error);
+}
+
+/* Tells what is new. */
+static void hand_out(Writer *writer, Looking *it)
+{
+    if (!it->known.is_done)
         return;
-    DconfdbSnapshot *now = dconfdb_store_snapshot(writer->store);
-    heed_others(writer->store, writer->told, now);
-    dconfdb_snapshot_unref(now);
+    it->before = dconfdb_snapshot_ref(writer->told);
+    tell_others(writer, NULL, NULL);
+    it->known.is_other = it->before != writer->told;
+    it->known.waits = service_has_waiting(writer->service);
+}
+
+static void carry_out(Writer *writer, uint32_t task, Looking *it)
+{
+    switch (task) {
+    case DCONFDB_GLANCE_HAND:
+        hand_out(writer, it);
+        break;
+    case DCONFDB_GLANCE_HEED: /* a change that waits is to be overtaken by what others changed since it came */
+        heed_others(writer->store, it->before, writer->told);
+        break;
+    default:
+        read_files(writer, task, it);
+    }
 }
 
 /* `turn` is held. False: it failed. */
 static bool look(Writer *writer)
 {
-    DconfdbError error = DCONFDB_ERROR_INIT;
-    if (writer->is_old ? !open_anew(writer, &error) : !dconfdb_store_refresh(writer->store, NULL, &error)) {
-        writer_warn(writer, error.text);
-        return false;
-    }
-    warn_of_fault(writer);
-    heed(writer);
-    tell_others(writer, NULL, NULL);
-    return true;
+    Looking it = looking_of(writer);
+    uint32_t task = DCONFDB_GLANCE_BEGINS;
+    while ((task = dconfdb_glance_after(task, &it.known)) < DCONFDB_GLANCE_SEEN)
+        carry_out(writer, task, &it);
+    dconfdb_snapshot_unref(it.before);
+    warned_renew(&writer->warned, writer->store, it.known.is_done ? NULL : &it.error, warn, NULL);
+    return task == DCONFDB_GLANCE_SEEN;
 }
 
 /* False: something is being written, and the other thread says when it was. */
@@ -146,5 +171,5 @@ void writer_watch(Writer *writer)
     if (writer->watch)
         go_on(writer);
     else
-        writer_warn(writer, "no memory is left to watch the files: what others change isn't told");
+        warn(NULL, "no memory is left to watch the files: what others change isn't told");
 }

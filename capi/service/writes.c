@@ -1,4 +1,5 @@
-/* The thread that writes: what waits is written together, and each change is answered and told in the order in which they came. */
+/* The thread that writes: what waits is written together, and each change is answered and told in the order in which they came. What is due
+ * next, and what becomes of each change, is said by proved calls. */
 #define _GNU_SOURCE
 #include "faults.h"
 #include "service.h"
@@ -6,13 +7,16 @@
 
 #include <string.h>
 
+enum { MILLISECOND = 1000 }; /* in microseconds */
+
 /* Changes that are written together. */
 typedef struct {
     Writer *writer;
-    GQueue changes;
-    size_t count; /* of their edits */
+    const GList *first; /* of the changes */
+    size_t count;       /* of their edits */
     Batch batch;
     bool is_done;
+    uint32_t said; /* of the fault by which nothing could be written */
     DconfdbError refusal, fault;
 } Run;
 
@@ -20,7 +24,7 @@ typedef struct {
 
 static void read_all(Run *run)
 {
-    for (const GList *at = run->changes.head; at; at = at->next) {
+    for (const GList *at = run->first; at; at = at->next) {
         Change *change = at->data;
         change_read(change);
         change->first = run->count;
@@ -28,25 +32,48 @@ static void read_all(Run *run)
     }
 }
 
-/* The moment in which it counts as made: what stands in it beside a directory's reset isn't lost to what others set before its turn. */
-static uint64_t moment_of(const Change *change)
+static DconfdbTime asked_at(const Change *change, const char *path)
 {
-    guint count = change->edits->len;
-    g_autofree DconfdbTime *asked = g_new(DconfdbTime, count);
-    for (guint i = 0; i < count; i++) {
-        const char *path = edit_of(change, i)->path;
-        asked[i] = (DconfdbTime){{(const uint8_t *)path, strlen(path)}, change->moment, 0};
+    return (DconfdbTime){{(const uint8_t *)path, strlen(path)}, change->moment, 0};
+}
+
+/* The edits of all that is written together by which directories are reset. */
+static GArray *resets_of(const Run *run)
+{
+    GArray *resets = g_array_new(FALSE, FALSE, sizeof(DconfdbTime));
+    for (const GList *at = run->first; at; at = at->next) {
+        const Change *change = at->data;
+        for (size_t i = 0; i < change->edits->len; i++) {
+            DconfdbTime asked = asked_at(change, edit_of(change, i)->path);
+            if (asked.path.at[asked.path.len - 1] == '/')
+                g_array_append_val(resets, asked);
+        }
     }
-    return count > 0 ? dconfdb_moment_beside(asked, count, change->moment) : change->moment;
+    return resets;
+}
+
+/* The moment in which it counts as made: what stands in it in a directory that is reset, by it or by another, isn't lost to what others set
+ * before its turn. Other edits than those by which directories are reset don't matter beside it. */
+static uint64_t moment_of(const Change *change, const GArray *resets)
+{
+    if (resets->len == 0)
+        return change->moment;
+    size_t own = change->edits->len;
+    g_autofree DconfdbTime *asked = g_new(DconfdbTime, own + resets->len);
+    for (size_t i = 0; i < own; i++)
+        asked[i] = asked_at(change, edit_of(change, i)->path);
+    memcpy(asked + own, resets->data, resets->len * sizeof *asked);
+    return dconfdb_moment_beside(asked, own + resets->len, change->moment);
 }
 
 /* What can't be made of a change is left out by itself: for the queue each edit is a change of its own. */
 static Batch batch_of(const Run *run)
 {
     Batch batch = batch_new(run->count);
-    for (const GList *at = run->changes.head; at; at = at->next) {
+    g_autoptr(GArray) resets = resets_of(run);
+    for (const GList *at = run->first; at; at = at->next) {
         const Change *change = at->data;
-        uint64_t moment = moment_of(change);
+        uint64_t moment = moment_of(change, resets);
         for (size_t i = 0; i < change->edits->len; i++)
             batch_add(&batch, edit_of(change, i), moment, batch.count, false);
     }
@@ -57,17 +84,19 @@ static Batch batch_of(const Run *run)
 
 static bool is_made(const Run *run, size_t number)
 {
-    return !batch_is_refused(&run->batch, number) && !batch_is_left_out(&run->batch, number);
+    return run->is_done && !batch_is_refused(&run->batch, number) && !batch_is_left_out(&run->batch, number);
 }
 
-/* Whether nothing of it could be made, by a fault that isn't its own: why, or NULL. An empty one has nothing to make. */
-static const DconfdbError *fault_of(const Run *run, const Change *change)
+/* What becomes of a change that was tried. */
+static uint32_t served_of(const Run *run, const Change *change)
 {
-    if (change->edits->len == 0)
-        return NULL;
-    if (!run->is_done)
-        return &run->fault;
-    return run->batch.is_closed ? &run->refusal : NULL;
+    DconfdbServed known = {.size = change->size,
+                           .said = run->said,
+                           .is_normal = change->is_normal,
+                           .has_edits = change->edits->len > 0,
+                           .is_written = run->is_done,
+                           .is_closed = run->batch.is_closed};
+    return dconfdb_served_after(DCONFDB_SERVED_TRIED, &known);
 }
 
 static char *tag_of(const Change *change)
@@ -77,22 +106,14 @@ static char *tag_of(const Change *change)
     return g_strdup_printf("%s:%s:%" G_GUINT64_FORMAT, own, writer->name, change->number);
 }
 
-static void refuse(GDBusMethodInvocation *call, GDBusError code, const char *why)
-{
-    g_autofree char *text = g_utf8_make_valid(why, -1);
-    g_dbus_method_invocation_return_error_literal(call, G_DBUS_ERROR, (gint)code, text);
-}
-
 static void answer(const Run *run, Change *change, const char *tag)
 {
     GDBusMethodInvocation *call = g_steal_pointer(&change->call);
-    const DconfdbError *why = fault_of(run, change);
-    if (change->is_odd)
-        refuse(call, G_DBUS_ERROR_INVALID_ARGS, "the changes are not in normal form");
-    else if (why)
-        refuse(call, G_DBUS_ERROR_FAILED, why->text);
-    else
+    uint32_t served = served_of(run, change);
+    if (served == DCONFDB_SERVED_ACKNOWLEDGED)
         g_dbus_method_invocation_return_value(call, g_variant_new("(s)", tag));
+    else
+        call_refuse(call, served, served == DCONFDB_SERVED_CLOSED ? run->refusal.text : run->fault.text);
 }
 
 /* Sorts the edits of a change by whether they are made. */
@@ -117,7 +138,7 @@ static void answer_all(Run *run)
     newest_begin(&newest);
     if (run->is_done && run->count > 0)
         flag_readers(run->writer->name);
-    for (const GList *at = run->changes.head; at; at = at->next) {
+    for (const GList *at = run->first; at; at = at->next) {
         Change *change = at->data;
         g_autofree char *tag = tag_of(change);
         g_autoptr(GPtrArray) made = made_of(run, change, left_out);
@@ -130,43 +151,91 @@ static void answer_all(Run *run)
 
 /* ---- a try */
 
-static bool is_ending(Service *service)
+static void move_all(GQueue *from, GQueue *to)
+{
+    while (from->length > 0)
+        g_queue_push_tail_link(to, g_queue_pop_head_link(from));
+}
+
+/* Takes the oldest change that waits, and those behind it that are of the same database; what was tried before is taken already. `lock` is
+ * held. */
+static void take(Service *service, Run *run)
+{
+    const GList *next = service->waiting.head;
+    const Change *oldest = service->taken.length > 0 ? service->taken.head->data : next->data;
+    while (next && ((const Change *)next->data)->writer == oldest->writer) {
+        g_queue_push_tail_link(&service->taken, g_queue_pop_head_link(&service->waiting));
+        next = service->waiting.head;
+    }
+    *run = (Run){.writer = oldest->writer, .first = service->taken.head};
+}
+
+/* `lock` is held. */
+static DconfdbRound known_of(const Service *service, bool has_turn)
+{
+    return (DconfdbRound){.again = (uint64_t)service->again,
+                          .moment = (uint64_t)g_get_monotonic_time(),
+                          .ends = service->ends,
+                          .waits = service->taken.length + service->waiting.length > 0,
+                          .has_turn = has_turn,
+                          .is_watched = true};
+}
+
+/* With the turn: whether it is to write. At the end who waited may be answered already. */
+static bool begin_try(Service *service, Run *run)
 {
     g_mutex_lock(&service->lock);
-    bool ends = service->ends;
+    DconfdbRound known = known_of(service, true);
+    service->is_writing = dconfdb_round_after(DCONFDB_ROUND_TAKE, &known) == DCONFDB_ROUND_WRITE;
+    if (service->is_writing)
+        take(service, run);
     g_mutex_unlock(&service->lock);
-    return ends;
+    return service->is_writing;
 }
 
-/* Whether a fault, by which nothing could be written, is to be told. */
-static bool lasts(Service *service, const DconfdbError *fault)
+/* What is answered goes. What isn't is tried again after a pause. */
+static void end_try(Service *service, bool is_over)
 {
-    uint64_t now = (uint64_t)g_get_monotonic_time();
-    uint32_t said = dconfdb_failing_met(&service->failing, true, is_momentary(fault), !is_ending(service), now);
-    return said == DCONFDB_FAULT_SAY || said == DCONFDB_FAULT_SAID;
+    GQueue over = G_QUEUE_INIT;
+    g_mutex_lock(&service->lock);
+    service->is_writing = false;
+    service->again = is_over ? 0 : g_get_monotonic_time() + (gint64)service->failing.pause;
+    if (is_over)
+        move_all(&service->taken, &over);
+    for (const GList *at = over.head; at; at = at->next)
+        service->waiting_size -= ((const Change *)at->data)->size;
+    service->settled += over.length;
+    g_mutex_unlock(&service->lock);
+    while (over.length > 0)
+        change_free(g_queue_pop_head_link(&over)->data);
 }
 
-/* With the turn between programs, or a fault of that. False: nothing is written, and it is to be tried again. */
-static bool write_in(Run *run, const Turn *turn)
+/* `turn` of the writer is held, and that between programs, or a fault of it. */
+static void write_in(Run *run, const Turn *turn)
 {
     Service *service = run->writer->service;
     DconfdbError none = DCONFDB_ERROR_INIT;
     run->refusal = run->fault = none;
     run->batch = batch_of(run);
     run->is_done = batch_write(&run->batch, run->writer->store, turn, &run->refusal, &run->fault);
-    return run->is_done || lasts(service, &run->fault);
+    run->said = dconfdb_failing_met(&service->failing, !run->is_done, is_momentary(&run->fault), true, (uint64_t)g_get_monotonic_time());
 }
 
-/* Others may have their turn before it is known who is told of what. */
-static bool try(Run *run)
+static void give(FolderLock *lock, const Turn *turn)
 {
-    FolderLock lock;
+    if (turn->fault == 0)
+        folder_unlock(lock);
+}
+
+/* Whether they are answered: all are, or none. Others may have their turn before it is known who is told of what. */
+static bool write_run(Run *run, FolderLock *lock, const Turn *turn)
+{
     Writer *writer = run->writer;
-    Turn turn = {&lock, folder_lock(writer->service->place.folder, WITHOUT_END, &lock)};
+    read_all(run);
     g_mutex_lock(&writer->turn);
-    bool is_over = write_in(run, &turn);
-    if (turn.fault == 0)
-        folder_unlock(&lock);
+    write_in(run, turn);
+    give(lock, turn);
+    bool is_over = served_of(run, run->first->data) != DCONFDB_SERVED_GOES_ON;
     if (is_over)
         answer_all(run);
     g_mutex_unlock(&writer->turn);
@@ -175,82 +244,68 @@ static bool try(Run *run)
     return is_over;
 }
 
-/* Before the next try. */
-static void pause_for(Service *service)
+/* Reads what waits already, which may take a while: as long as others may have their turns. */
+static void read_ahead(Service *service)
 {
-    gint64 end = g_get_monotonic_time() + (gint64)service->failing.pause;
+    g_autoptr(GPtrArray) changes = g_ptr_array_new();
     g_mutex_lock(&service->lock);
-    while (!service->ends && g_cond_wait_until(&service->comes, &service->lock, end))
-        ;
+    for (const GList *at = service->waiting.head; at; at = at->next)
+        g_ptr_array_add(changes, at->data);
     g_mutex_unlock(&service->lock);
+    for (guint at = 0; at < changes->len; at++)
+        change_read(g_ptr_array_index(changes, at));
 }
 
-static void answer_empty(Run *run)
+/* Nothing is answered before it is on the disk, or can't get there. What came until it has the turn is written, too. */
+static void try(Service *service)
 {
-    run->is_done = true;
-    g_mutex_lock(&run->writer->turn);
-    answer_all(run);
-    g_mutex_unlock(&run->writer->turn);
-    writer_has_written(run->writer);
+    FolderLock lock;
+    Run run;
+    read_ahead(service);
+    Turn turn = {&lock, folder_lock(service->place.folder, WITHOUT_END, &lock)};
+    if (begin_try(service, &run))
+        end_try(service, write_run(&run, &lock, &turn));
+    else
+        give(&lock, &turn);
 }
 
-/* Nothing is answered before it is on the disk, or can't get there. */
-static void write_run(Service *service, Run *run)
-{
-    if (run->count == 0) {
-        answer_empty(run);
-        return;
-    }
-    while (!try(run))
-        pause_for(service);
-    service->failing = (DconfdbFailing){0};
-}
+/* ---- the thread */
 
-/* ---- what waits */
-
-/* Takes the oldest change, and those behind it that are of the same database. `lock` is held. */
-static void take(Service *service, Run *run)
+/* `lock` is held, and let go of meanwhile: until something comes, or is to be tried again. */
+static void rest(Service *service)
 {
-    const GList *next = service->waiting.head;
-    run->writer = ((const Change *)next->data)->writer;
-    while (next && ((const Change *)next->data)->writer == run->writer) {
-        g_queue_push_tail_link(&run->changes, g_queue_pop_head_link(&service->waiting));
-        next = service->waiting.head;
-    }
-}
-
-/* Waits for changes. False: none comes any more. */
-static bool take_next(Service *service, Run *run)
-{
-    g_mutex_lock(&service->lock);
-    while (service->waiting.length == 0 && !service->ends)
+    uint64_t now = (uint64_t)g_get_monotonic_time(), wait = 0;
+    if (dconfdb_sleep_until((uint64_t)service->again, 0, now, &wait))
+        g_cond_wait_until(&service->comes, &service->lock, (gint64)(now + wait * MILLISECOND));
+    else
         g_cond_wait(&service->comes, &service->lock);
-    bool has = service->waiting.length > 0;
-    if (has)
-        take(service, run);
-    g_mutex_unlock(&service->lock);
-    return has;
 }
 
-static void free_run(Service *service, Run *run)
+/* What is due next, once something is. */
+static uint32_t await_task(Service *service)
 {
+    uint32_t task;
     g_mutex_lock(&service->lock);
-    service->settled += run->changes.length;
+    for (;;) {
+        DconfdbRound known = known_of(service, false);
+        task = dconfdb_round_after(DCONFDB_ROUND_BEGINS, &known);
+        if (task != DCONFDB_ROUND_RESTS)
+            break;
+        rest(service);
+    }
+    if (task == DCONFDB_ROUND_LEAVE)
+        service->again = 0;
     g_mutex_unlock(&service->lock);
-    while (run->changes.length > 0)
-        change_free(g_queue_pop_head_link(&run->changes)->data);
+    return task;
 }
 
 static void *work(void *data)
 {
-    Service *service = data;
-    Run run = {.changes = G_QUEUE_INIT};
+    uint32_t task;
     pthread_setname_np(pthread_self(), "dconfdb-writes");
-    while (take_next(service, &run)) {
-        read_all(&run);
-        write_run(service, &run);
-        free_run(service, &run);
-        run = (Run){.changes = G_QUEUE_INIT};
+    while ((task = await_task(data)) < DCONFDB_ROUND_RESTS) {
+        if (task == DCONFDB_ROUND_TAKE)
+            try(data);
     }
     return NULL;
 }
@@ -258,10 +313,21 @@ static void *work(void *data)
 void service_add(Service *service, Change *change)
 {
     g_mutex_lock(&service->lock);
+    change->moment = order_clock();
     g_queue_push_tail_link(&service->waiting, &change->link);
     service->added++;
+    service->waiting_size += change->size;
     g_cond_signal(&service->comes);
     g_mutex_unlock(&service->lock);
+}
+
+DconfdbServed service_knows(Service *service, size_t size)
+{
+    g_mutex_lock(&service->lock);
+    DconfdbServed known = {.size = size, .waiting = service->added - service->settled, .waiting_size = service->waiting_size};
+    g_mutex_unlock(&service->lock);
+    known.names = g_hash_table_size(service->writers);
+    return known;
 }
 
 bool service_has_waiting(Service *service)
@@ -278,13 +344,23 @@ bool service_begin_writing(Service *service)
     return service->has_thread;
 }
 
-void service_stop_writing(Service *service)
+/* ---- the end */
+
+/* What waits stays in memory, since the thread may be reading it. */
+bool service_stop_writing(Service *service)
 {
+    GQueue left = G_QUEUE_INIT;
     g_mutex_lock(&service->lock);
     service->ends = true;
-    bool is_settled = service->settled == service->added;
+    bool is_writing = service->is_writing;
+    if (!is_writing)
+        move_all(&service->taken, &left);
+    move_all(&service->waiting, &left);
     g_cond_broadcast(&service->comes);
     g_mutex_unlock(&service->lock);
-    if (service->has_thread && is_settled)
+    for (const GList *at = left.head; at; at = at->next)
+        call_refuse(g_steal_pointer(&((Change *)at->data)->call), DCONFDB_SERVED_FAILED, "the service ends, and could not write it in time");
+    if (service->has_thread && !is_writing && left.length == 0)
         service->has_thread = pthread_join(service->thread, NULL) != 0;
+    return !service->has_thread;
 }

@@ -111,7 +111,7 @@ void tries_named_profiles(void)
     makes_profile("named/bad", "oops\nuser-db:kiosk\n");
     opens_named("named/kiosk");
     DconfdbStore *store = dconfdb_store_open(NULL, &error);
-    TRY(store && ends_in(dconfdb_store_user_file(store), "/kiosk.user") && ARE_FILES(NULL, "/named/kiosk", "/etc/dconfdb/profile", "/kiosk.user", "/site.db"));
+    TRY(store && ends_in(dconfdb_store_user_file(store), "/kiosk.user") && ARE_FILES(NULL, "/named/kiosk", "/kiosk.user", "/site.db"));
     DconfdbSnapshot *now = dconfdb_store_snapshot(store);
     TRY(dconfdb_snapshot_databases(now) == 2 && has(now, "/org/desk/name", "desk") && has(now, "/far/key", NULL));
     dconfdb_snapshot_unref(now);
@@ -121,10 +121,10 @@ void tries_named_profiles(void)
     TRY(ARE_FILES(NULL, "/profile", "/etc/dconfdb/profile", "/me.user", "/site.db", "/far.db"));
     opens_named("named/bad");
     TRY(!dconfdb_store_open(NULL, &error) && is_fault(DCONFDB_ERROR_BAD_LINE, "/named/bad:1:", ""));
-    TRY(ARE_FILES(NULL, "/named/bad", "/etc/dconfdb/profile", "/kiosk.user"));
+    TRY(ARE_FILES(NULL, "/named/bad", "/kiosk.user"));
     opens_named("no-such");
     TRY(!dconfdb_store_open(NULL, &error) && is_fault(DCONFDB_ERROR_FILE, "/etc/dconfdb/profiles/no-such", "") && error.errnum == ENOENT);
-    TRY(is_without_any("/etc/dconfdb/profiles/no-such", ENOENT) && ARE_FILES(NULL, "/etc/dconfdb/profiles/no-such", "/etc/dconfdb/profile"));
+    TRY(is_without_any("/etc/dconfdb/profiles/no-such", ENOENT) && ARE_FILES(NULL, "/etc/dconfdb/profiles/no-such"));
     opens_named("./named");
     TRY(!dconfdb_store_open(NULL, &error) && error.errnum == EISDIR && is_without_any("/./named", EISDIR));
     TRY(unsetenv("DCONFDB_PROFILE") == 0 && unsetenv("DCONFDB_STORE") == 0);

@@ -3,6 +3,7 @@
 #include "try.h"
 
 #include <errno.h>
+#include <limits.h>
 #include <poll.h>
 #include <pthread.h>
 #include <stdatomic.h>
@@ -219,6 +220,26 @@ static void tries_links(void)
     dconfdb_store_close(store);
 }
 
+/* Links whose texts are longer together than there is room for: what they lead to isn't watched, so it is looked at again and again. */
+static void tries_long_links(void)
+{
+    enum { DOTS = 1850 };
+    static char dots[2 * DOTS + 1], text[PATH_MAX], folder[PATH_MAX / 2], profile[2 * PATH_MAX];
+    for (size_t i = 0; i < DOTS; i++)
+        memcpy(dots + 2 * i, "./", 2);
+    TRY(getcwd(folder, sizeof folder) && mkdir("ways/long", 0700) == 0);
+    snprintf(text, sizeof text, "b/%s", dots);
+    TRY(symlink(text, "ways/long/a") == 0);
+    snprintf(text, sizeof text, "%s../v1", dots);
+    TRY(symlink(text, "ways/long/b") == 0);
+    snprintf(profile, sizeof profile, "user-db:me\nfile-db:%s/ways/long/a/%ssite.db\n", folder, dots);
+    makes("ways/long/profile", profile);
+    DconfdbStore *store = dconfdb_store_open("ways/long", &error);
+    TRY(store && dconfdb_store_fd(store, &error) >= 0 && is_quiet(store));
+    TRY(link("site.db", "ways/new") == 0 && rename("ways/new", "ways/v1/site.db") == 0 && IS_TOLD(store, "/org/desk/name\0/org/desk/size\0"));
+    dconfdb_store_close(store);
+}
+
 /* The permission bits of a file may be all that changes: it may be one that could not be read. */
 static void tries_bits(void)
 {
@@ -358,6 +379,7 @@ int main(int argc, char **argv)
     tries_without_file();
     tries_ways();
     tries_links();
+    tries_long_links();
     tries_bits();
     tries_bad_files();
     tries_faults();

@@ -1,6 +1,7 @@
 #include "machines.h"
 #include "world.h"
 
+#include "machines/given.h"
 #include "machines/tables.h"
 
 void (*at_step)(const DconfdbStep *step);
@@ -65,11 +66,12 @@ uint32_t dconfdb_making_after(bool makes_file, bool is_unsettled, uint32_t ask, 
     return making[makes_file][is_unsettled][ask][found];
 }
 
-void dconfdb_ending(uint32_t outcome, uint32_t fault, bool is_unsettled, DconfdbEnding *ending)
+void dconfdb_ending(uint32_t outcome, uint32_t fault, bool is_unsettled, bool is_aside, DconfdbEnding *ending)
 {
     uint32_t seen = turn_seen(outcome, fault);
     CHECK(outcome <= DCONFDB_TURN_UNSYNCED, "answer: an outcome");
     *ending = endings[2 * seen + is_unsettled];
+    ending->keeps_fault = is_aside && ending->newest == DCONFDB_NEWEST_NEWER;
 }
 
 /* ---- what a fault is, and permission bits */
@@ -82,7 +84,7 @@ uint32_t dconfdb_fault_answer(uint32_t call, uint32_t fault)
 
 uint32_t dconfdb_standing(uint32_t purpose, const DconfdbStood *stood, uint32_t *fault)
 {
-    CHECK(purpose <= DCONFDB_TO_REPLACE && __CPROVER_r_ok(stood, sizeof *stood), "answer: a purpose");
+    CHECK(purpose <= DCONFDB_TO_OPEN_FOLDER && __CPROVER_r_ok(stood, sizeof *stood), "answer: a purpose");
     return standing_given(purpose, stood, fault);
 }
 
@@ -96,9 +98,16 @@ uint32_t dconfdb_settling_after(uint32_t task, bool yes, const DconfdbSettling *
     return settling_given(task, yes, known);
 }
 
-uint32_t dconfdb_file_bits(bool of_lock, uint32_t bits, bool has_group)
+uint32_t dconfdb_handing_after(uint32_t what, uint32_t done, uint32_t fault, const DconfdbMadeFile *file, uint32_t *number)
 {
-    return of_lock ? lock_bits_given(bits, has_group) : bits_given(bits, has_group);
+    CHECK(what <= DCONFDB_MADE_FOLDER && done <= DCONFDB_HANDING_BITS && __CPROVER_r_ok(file, sizeof *file), "answer: something that was made, and a step");
+    return handing_given(what, done, fault, file, number);
+}
+
+void dconfdb_taking_answered(DconfdbTaking *taking, const DconfdbStood *stood)
+{
+    CHECK(__CPROVER_r_ok(stood, sizeof *stood), "answer: what the system says");
+    taking_given(taking, stood);
 }
 
 /* ---- a look */
@@ -115,17 +124,13 @@ void dconfdb_refresh_begin(DconfdbRefresh *refresh, size_t count, bool has_old, 
     refresh_tells(refresh, step);
 }
 
-void dconfdb_refresh_answered(DconfdbRefresh *refresh, bool yes, DconfdbNext *step)
+/* States that nobody can tell apart are one, so a fault is had if what comes then comes of a yes. */
+void dconfdb_refresh_answered(DconfdbRefresh *refresh, bool yes, uint32_t fault, DconfdbNext *step)
 {
-    refresh->stage = within(refresh_states[refresh->stage].after[yes]);
-    refresh_tells(refresh, step);
-}
-
-/* States that nobody can tell apart are one, so it is had if what comes then comes of a yes. */
-bool dconfdb_refresh_is_had(const DconfdbRefresh *refresh, uint32_t fault)
-{
-    bool is_own = fault_answers[DCONFDB_CALL_OPEN][fault] == DCONFDB_ANSWER_OWN;
-    CHECK(refresh_states[refresh->stage].step.kind == DCONFDB_LOOK_READ, "order: a fault is one of the reading");
+    const uint16_t *after = refresh_states[refresh->stage].after;
+    CHECK(fault == 0 || (!yes && refresh_states[refresh->stage].step.kind == DCONFDB_LOOK_READ), "order: a fault is one of the reading");
     CHECK(fault < FAULTS, "answer: an errno");
-    return refresh_states[refresh->stage].after[is_own ? REFRESH_OWN_FAULT : REFRESH_OTHER_FAULT] == refresh_states[refresh->stage].after[true];
+    bool is_own = fault_answers[DCONFDB_CALL_OPEN][fault] == DCONFDB_ANSWER_OWN;
+    refresh->stage = within(fault == 0 ? after[yes] : after[is_own ? REFRESH_OWN_FAULT : REFRESH_OTHER_FAULT]);
+    refresh_tells(refresh, step);
 }

@@ -69,7 +69,12 @@ uid_t geteuid(void)
 
 gid_t getegid(void)
 {
-    return any_u32();
+    static bool is_known;
+    static gid_t group;
+    if (!is_known)
+        group = any_u32();
+    is_known = true;
+    return group;
 }
 
 pid_t getpid(void)

@@ -144,7 +144,7 @@ int openat(int folder, const char *name, int flags, ...)
     unsigned mode = 0;
     CHECK(is_folder(folder), "descriptor: openat() in a folder that is open");
     CHECK(__CPROVER_r_ok(name, 1), "memory: openat() has a name");
-    if ((flags & O_CREAT) != 0) {
+    if ((flags & O_CREAT) != 0 || (flags & O_TMPFILE) == O_TMPFILE) {
         va_list more;
         va_start(more, flags);
         mode = va_arg(more, mode_t);

@@ -2,11 +2,12 @@
 #define _GNU_SOURCE
 #include "dconfdb.h"
 #include "dconfdb_calls.h"
-#include "files.h"
 #include "lists.h"
+#include "looked.h"
 #include "notices.h"
 #include "place.h"
 #include "printed.h"
+#include "profiles.h"
 #include "seen.h"
 #include "warned.h"
 #include "watch.h"
@@ -27,16 +28,11 @@ static const char help[] =
 #include "help_watch.h"
 ;
 
-/* The two files that may be the profile, as they were at a moment. */
-typedef struct {
-    uint64_t asked;
-    FileState files[PROFILES];
-} Profiles;
-
 /* What is watched. */
 typedef struct {
     StorePlace place;
-    char *profiles; /* their names */
+    char *names_read; /* those of the files that may be the profile come first */
+    int profiles;     /* how many these are */
     const char *path;
     Watch *names;
     DconfdbStore *store;
@@ -84,49 +80,10 @@ static bool tell(const Watching *watch, const DconfdbSnapshot *now, DconfdbError
 
 /* ---- looking */
 
-/* Watches the files that the profile names. False: not all are, or it names others now: it may be written after it was read, and
- * before it was watched. */
-static bool begin_once(Watching *watch)
-{
-    DconfdbError error = DCONFDB_ERROR_INIT;
-    bool are_all = false, are_all_now = false;
-    char *files = place_files(&watch->place, &are_all, &error);
-    char *now = files && watch_files(watch->names, files, PROFILES) ? place_files(&watch->place, &are_all_now, &error) : NULL;
-    bool is_done = now && are_same_texts(files, now) && are_all && are_all_now;
-    free(files);
-    free(now);
-    return is_done;
-}
-
-/* The files that are the store's now, watched. */
+/* The files that are the store's now, watched. What a profile names that is written meanwhile is seen by the look that comes then. */
 static void begin(Watching *watch)
 {
-    watch_answer(watch->names, begin_once(watch) || begin_once(watch));
-}
-
-/* One that can't be looked at isn't there. */
-static Profiles look_at_profiles(const Watching *watch)
-{
-    Profiles now = {.asked = file_clock()};
-    const char *name = watch->profiles;
-    for (int i = 0; i < PROFILES; i++, name += strlen(name) + 1)
-        file_look(name, &now.files[i]);
-    return now;
-}
-
-static uint32_t profile_sameness(const Watching *watch, const Profiles *now, int which)
-{
-    return dconfdb_same_file(&watch->seen.files[which], &now->files[which], watch->seen.asked, false);
-}
-
-/* Whether they have the same databases, by their names. */
-static bool have_same_files(const DconfdbStore *one, const DconfdbStore *other)
-{
-    char *ours = files_of(one), *others = files_of(other);
-    bool have = ours && others && are_same_texts(ours, others);
-    free(ours);
-    free(others);
-    return have;
+    watch_answer(watch->names, watch_begin(watch->names, &watch->place));
 }
 
 /* A look, and what is known of it. */
@@ -187,10 +144,9 @@ static void carry_out(Watching *watch, uint32_t task, Looking *it)
 /* Looks at the files, and tells. False: it failed. */
 static bool look(Watching *watch)
 {
-    Looking it = {.profiles = look_at_profiles(watch), .known = {.is_open = true}, .error = DCONFDB_ERROR_INIT};
+    Looking it = {.profiles = profiles_now(watch->names_read, watch->profiles), .known = {.is_open = true}, .error = DCONFDB_ERROR_INIT};
     uint32_t task = DCONFDB_GLANCE_BEGINS;
-    it.known.first = profile_sameness(watch, &it.profiles, 0);
-    it.known.second = profile_sameness(watch, &it.profiles, 1);
+    profiles_compare(&watch->seen, &it.profiles, &it.known);
     while ((task = dconfdb_glance_after(task, &it.known)) < DCONFDB_GLANCE_SEEN)
         carry_out(watch, task, &it);
     bool is_done = task == DCONFDB_GLANCE_SEEN && it.is_told;
@@ -243,7 +199,7 @@ static bool has_named_profile(const Watching *watch)
     if (place_has_profile(watch->store))
         return true;
     dconfdb_store_profile_fault(watch->store, &fault);
-    fprintf(stderr, "error: %s %s\n", fault.errnum == ENOENT ? "NoFile" : "Device", watch->place.profile);
+    fprintf(stderr, "error: %s %s\n", fault.errnum == ENOENT ? "NoFile" : "Device", place_profile_name(&watch->place));
     return false;
 }
 
@@ -251,12 +207,12 @@ static bool has_named_profile(const Watching *watch)
 static bool prepare(Watching *watch, DconfdbError *error)
 {
     bool are_all = false;
-    watch->profiles = place_files(&watch->place, &are_all, error);
+    watch->names_read = place_files(&watch->place, &watch->profiles, &are_all, error);
     watch->names = watch_new(true);
-    if (!watch->profiles || !watch->names)
+    if (!watch->names_read || !watch->names)
         return false;
     begin(watch);
-    watch->seen = look_at_profiles(watch);
+    watch->seen = profiles_now(watch->names_read, watch->profiles);
     return true;
 }
 
@@ -264,7 +220,7 @@ static int start(Watching *watch)
 {
     DconfdbError error = DCONFDB_ERROR_INIT;
     if (!prepare(watch, &error)) {
-        warn(watch->profiles ? "Memory" : error.text);
+        warn(watch->names_read ? "Memory" : error.text);
         return 1;
     }
     watch->store = place_open(&watch->place, &error);
@@ -275,6 +231,7 @@ static int start(Watching *watch)
     if (!has_named_profile(watch))
         return 1;
     watch->before = dconfdb_store_snapshot(watch->store);
+    watch_opened_anew(watch->names);
     warned_renew(&watch->warned, watch->store, NULL, say, NULL);
     return watch_until_interrupted(watch);
 }
@@ -285,7 +242,7 @@ static void end(Watching *watch)
     dconfdb_snapshot_unref(watch->before);
     dconfdb_store_close(watch->store);
     watch_free(watch->names);
-    free(watch->profiles);
+    free(watch->names_read);
     place_release(&watch->place);
 }
 
@@ -321,32 +278,56 @@ static int refuse_words(const char *why)
     return 2;
 }
 
-int main(int count, char **words)
+/* What the words ask for. */
+typedef struct {
+    const char *folder;
+    bool is_users;
+} Asked;
+
+/* Takes an option. Its answer is a status, or GOES_ON. */
+enum { GOES_ON = -1 };
+
+static int take_option(int option, Asked *asked)
+{
+    if (option == 'h')
+        return fputs(help, stdout) < 0 || fflush(stdout) != 0;
+    if (option == '?')
+        return refuse_words("an option is wrong");
+    if (option == 'u' ? asked->is_users : asked->folder != NULL)
+        return refuse_words("an option is given twice");
+    if (option == 'u')
+        asked->is_users = true;
+    else
+        asked->folder = optarg;
+    return GOES_ON;
+}
+
+static int take_options(int count, char **words, Asked *asked)
 {
     static const struct option options[] = {
         {"store", required_argument, NULL, 's'}, {"user", no_argument, NULL, 'u'}, {"help", no_argument, NULL, 'h'}, {0}};
-    Watching watch = {.path = NULL};
-    const char *folder = NULL;
-    bool is_users = false;
-    int option;
-    while ((option = getopt_long(count, words, "h", options, NULL)) != -1) {
-        if (option == 'h')
-            return fputs(help, stdout) < 0 || fflush(stdout) != 0;
-        if (option == '?')
-            return refuse_words("an option is wrong");
-        if (option == 'u' ? is_users : folder != NULL)
-            return refuse_words("an option is given twice");
-        is_users = is_users || option == 'u';
-        folder = option == 's' ? optarg : folder;
-    }
-    if (is_users && folder)
+    int option, status = GOES_ON;
+    while (status == GOES_ON && (option = getopt_long(count, words, "h", options, NULL)) != -1)
+        status = take_option(option, asked);
+    if (status != GOES_ON)
+        return status;
+    if (asked->is_users && asked->folder)
         return refuse_words("--user and --store exclude each other");
     if (count - optind != 1)
         return refuse_words(count == optind ? "no PATH is given" : "more than one PATH is given");
-    watch.path = words[optind];
+    return GOES_ON;
+}
+
+int main(int count, char **words)
+{
+    Asked asked = {NULL, false};
+    int status = take_options(count, words, &asked);
+    if (status != GOES_ON)
+        return status;
+    Watching watch = {.path = words[optind]};
     const char *fault = fault_of_path(watch.path);
     if (!fault)
-        return start_at(folder, &watch);
+        return start_at(asked.folder, &watch);
     warn(fault);
     return 1;
 }

@@ -230,6 +230,7 @@ static void of_pairs(void)
     CASE(gboolean is = dconf_client_change_fast(NULL, set, &error); print_error(is, error));
     CASE(gboolean is = dconf_client_change_sync(NULL, set, &tag, NULL, &error); print_error(is, error));
     CASE(dconf_client_change_fast(client, empty, NULL); dconf_changeset_set(empty, "/a/k", five()));
+    CASE(dconf_client_change_sync(client, empty, NULL, NULL, NULL); dconf_changeset_set(empty, "/a/k", five()));
     CASE(dconf_client_sync(NULL));
 }
 

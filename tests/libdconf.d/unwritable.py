@@ -1,5 +1,6 @@
 """A store that can't be written, one that is damaged, and one that others hold: what a sync change answers, and what becomes of a fast one."""
 import contextlib
+import errno
 import fcntl
 import os
 import resource
@@ -9,6 +10,7 @@ import subprocess
 import threading
 
 import frame
+import homes
 from frame import Stop
 
 WRITES = '''watch sync /
@@ -163,6 +165,42 @@ def compile_site(store, locks):
     subprocess.run([frame.program(), 'compile', 'db', '--locks', 'locks'], cwd=store / 'site', check=True)
 
 
+def opened_late(both, driver):
+    """A store that can't be opened at first: what is wrong with its other files is warned of once it is, before anything changes."""
+    library, fails, store = both.folder / 'refuses.so', both.folder / 'fails', both.folder / 'unwritable'
+    subprocess.run(['gcc', '-shared', '-fPIC', homes.HERE / 'refuses.c', '-o', library], check=True)
+    subprocess.run(['rm', '-rf', store], check=True)
+    (store / 'site').mkdir(parents=True)
+    (store / 'profile').write_text('user-db:user\nfile-db:site/db\n', encoding='utf-8')
+    env = both.environment('ours') | {'DCONFDB_STORE': str(store)}
+    subprocess.run([driver], env=env, input='write sync /u/k 1\n', stdout=subprocess.DEVNULL, stderr=subprocess.DEVNULL, text=True, check=True)
+    (store / 'site' / 'db').write_bytes(b'no database' * 100)
+    fails.touch()
+    refuses = {'LD_PRELOAD': str(library), 'NAME': 'user.user', 'WHILE': str(fails), 'ERRNO': str(errno.EIO)}
+    with subprocess.Popen([driver], env=env | refuses, stdin=subprocess.PIPE, stdout=subprocess.PIPE, stderr=subprocess.PIPE, text=True) as program:
+        first = says(program, 'read 0 /u/k\n')
+        fails.unlink()
+        later = says(program, 'read 0 /u/k\n')
+        err = program.communicate(timeout=60)[1]
+    same('a store that opens late', first + later, ['  NULL', '  1'])
+    same('the warnings of a store that opens late', [err.count('Input/output error'), err.count('site/db')], [1, 1])
+
+
+def left_out(both, driver):
+    """A fast change resets a key that the site locks, and sets another: the reset is told with it, once, as with dconf."""
+    def setup(store):
+        (store / 'profile').write_text('user-db:user\nfile-db:site/db\n', encoding='utf-8')
+        compile_site(store, '')
+        env = both.environment('ours') | {'DCONFDB_STORE': str(store)}
+        subprocess.run([driver], env=env, input='change sync /u/k=1 /u/m=1\n', stdout=subprocess.DEVNULL, text=True, timeout=60, check=True)
+        compile_site(store, '/u/k\n')
+    given = 'change fast /u/k=- /u/m=2\nsync\nsettle 50\nread 2 /u/k\nread 2 /u/m\n'
+    out, err = asked(both, driver, given, setup)
+    wanted = ['  changed /u/ [k m] NULL', '  1', '  1', '  2']
+    same('a reset that is left out', [line for line in out.split('\n') if line.startswith('  ')], wanted)
+    same('a reset that is left out, on stderr', err, '')
+
+
 def lock_meanwhile(store):
     """Others hold the store's lock for two seconds, and after one the site locks a key."""
     (store / 'profile').write_text('user-db:user\nfile-db:site/db\n', encoding='utf-8')
@@ -216,6 +254,6 @@ def left(both, driver):
 
 def main(both):
     driver = both.compiled('driver')
-    for part in (without_files, without_room, full, no_user, damaged, held, locked_meanwhile, whole, overtaken, left):
+    for part in (without_files, without_room, full, no_user, damaged, held, opened_late, left_out, locked_meanwhile, whole, overtaken, left):
         part(both, driver)
     return 'stores that can\'t be written, have no user, are damaged or held: the right errors, warnings and signals'

@@ -32,6 +32,7 @@ BUS = '''<busconfig>
   <limit name="max_message_size">134217728</limit>
   <limit name="max_incoming_bytes">1000000000</limit>
   <limit name="max_outgoing_bytes">1000000000</limit>
+  <limit name="max_replies_per_connection">50000</limit>
 </busconfig>
 '''
 

@@ -27,7 +27,7 @@ void *g_malloc_n(size_t count, size_t size)
 {
     if (count == 0 || size == 0)
         return NULL;
-    GIVEN(count <= QUEUE_EDITS);
+    GIVEN(count <= QUEUE_EDITS + 1);
     void *memory = malloc(count * size);
     GIVEN(memory != NULL);
     return memory;

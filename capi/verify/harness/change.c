@@ -2,7 +2,7 @@
 #define MOST_DATABASES 2
 #define FEW_DATABASES 2
 #include "libdconfdb/change.c"
-#include "machines/answers.h"
+#include "machines/given.h"
 #include "parts.h"
 
 /* narrows libdconfdb/dconfdb.h: char text[512]; => char text[8]; */
@@ -74,7 +74,7 @@ bool change_is_well(DconfdbStore *at, Asking *asking, DconfdbError *error)
     return is;
 }
 
-bool store_settle_own(const DconfdbStore *at, const char *name, DconfdbError *error)
+bool store_settle_name(const DconfdbStore *at, const char *name, DconfdbError *error)
 {
     (void)at, (void)name, (void)error;
     CHECK(none_is_held() && !has_bytes_read, "order: the store is free, and nothing is left to be released");
@@ -111,17 +111,36 @@ uint32_t dconfdb_error_code(bool of_lock, uint32_t fault)
     return error_code_given(of_lock, fault);
 }
 
-/* What the proved call may say: nothing where no database is the user's, and after a look that a file is to be made or not. */
-uint32_t dconfdb_file_need(uint32_t users, const DconfdbChange *changes, size_t n)
+/* Once it is known what stands at the name: a file is made, or none is. */
+static uint32_t by_need(const DconfdbCourse *known)
+{
+    if (known->has_user && any_bool())
+        return DCONFDB_COURSE_CHANGE;
+    return known->has_user ? DCONFDB_COURSE_REFRESH : DCONFDB_COURSE_WELL;
+}
+
+/* What the proved call may say: nothing is made where no database is the user's, and after a look a file is to be made or not. */
+uint32_t dconfdb_course_after(uint32_t task, bool yes, uint32_t users, const DconfdbChange *changes, size_t n, const DconfdbCourse *known)
 {
     (void)changes, (void)n;
     CHECK(has_asking, "order: what is asked for is had");
-    CHECK((users == DCONFDB_USERS_NOWHERE) == !store.user_file, "answer: whether a database is the user's");
-    if (users == DCONFDB_USERS_NOWHERE)
-        return DCONFDB_NEED_NOTHING;
-    if (users == DCONFDB_USERS_UNKNOWN && any_bool())
-        return DCONFDB_NEED_LOOK;
-    return any_bool() ? DCONFDB_NEED_FILE : DCONFDB_NEED_NOTHING;
+    CHECK((users == DCONFDB_USERS_NOWHERE) == !store.user_file && known->has_user == !!store.user_file, "answer: whether a database is the user's");
+    CHECK(known->is_unsynced == store.options.is_unsynced, "answer: whether anything is brought to the disk");
+    switch (task) {
+    case DCONFDB_COURSE_BEGINS:
+        if (!known->has_edits)
+            return DCONFDB_COURSE_DONE;
+        if (known->is_locked)
+            return known->has_user ? DCONFDB_COURSE_TURN : DCONFDB_COURSE_WELL;
+        return users == DCONFDB_USERS_UNKNOWN && any_bool() ? DCONFDB_COURSE_LOOK : by_need(known);
+    case DCONFDB_COURSE_LOOK: return by_need(known);
+    case DCONFDB_COURSE_REFRESH: return yes ? DCONFDB_COURSE_WELL : DCONFDB_COURSE_FAILED;
+    case DCONFDB_COURSE_WELL:
+        if (yes && known->has_user && !known->is_unsynced)
+            return DCONFDB_COURSE_SETTLE;
+        return yes ? DCONFDB_COURSE_DONE : DCONFDB_COURSE_FAILED;
+    default: return yes ? DCONFDB_COURSE_DONE : DCONFDB_COURSE_FAILED;
+    }
 }
 
 /* harness change: unwind 8, quick */

@@ -26,7 +26,6 @@ static void set_up(void)
     store.is_unsettled = any_bool();
     edited = (Edited){.store = &store, .lock = &lock, .asking = &asking, .before = &old_room};
     it.edited = &edited;
-    it.file = store.user_file;
     it.replacing.name = store.user_file + 3;
 }
 
@@ -35,10 +34,15 @@ const DconfdbError *part_fault(const Part *part)
     return part->fault && !part->fault->aside ? &part->fault->error : NULL;
 }
 
-void part_forgive(Part *part)
+void part_was_set_aside(Part *part, char **name)
 {
     CHECK(part == &new_parts[0], "step: of the new part alone");
-    part->fault = NULL;
+    if (part->fault && name) {
+        part->fault->aside = *name;
+        *name = NULL;
+    } else {
+        part->fault = NULL;
+    }
 }
 
 bool refuse_file(DconfdbError *error, int fault, const char *name, Place place)
@@ -49,11 +53,13 @@ bool refuse_file(DconfdbError *error, int fault, const char *name, Place place)
     return false;
 }
 
-bool refuse_outcome(DconfdbError *error, uint32_t outcome, const char *name)
+bool tell_ending(DconfdbError *error, const DconfdbEnding *ending, int fault, const char *name)
 {
-    (void)name;
-    refused++;
-    if (error)
-        error->outcome = (DconfdbOutcome)outcome;
-    return false;
+    (void)fault;
+    CHECK(name == store.user_file, "answer: what is told is of the user's file");
+    bool done = ending->told == DCONFDB_TOLD_NOTHING;
+    refused += !done;
+    if (!done && error)
+        error->outcome = (DconfdbOutcome)ending->outcome;
+    return done;
 }

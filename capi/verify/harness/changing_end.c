@@ -76,7 +76,6 @@ void changing_run(Changing *at)
     at->replacing.is_aside = was_aside = any_bool();
     at->replacing.aside = was_aside || any_bool() ? aside : NULL;
     at->step = (DconfdbStep){.kind = DCONFDB_TURN_DONE, .number = outcome, .fault = any_bool()};
-    refused += outcome == DCONFDB_TURN_KEPT && at->step.fault != 0; /* a step has told it */
     atomic_store(&store.is_amid, true);
 }
 

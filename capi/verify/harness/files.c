@@ -4,12 +4,9 @@
 #include "world.h"
 
 /* What files.c asks of tries.c, which is not gone through: a try, or two. */
-int try_for(uint32_t what, uint32_t milliseconds, Tries *tries, void *it)
+int try_on(uint32_t what, uint32_t tried, int fault, Tries *tries, void *it)
 {
-    (void)milliseconds;
-    CHECK(what == DCONFDB_WAIT_FOR_LEASE, "step: a lease is waited for, with an end");
-    int fault = 0;
-    CHECK(tries(it, &fault) == DCONFDB_TRIED_FILE, "answer: the file was opened");
+    CHECK(what == DCONFDB_WAIT_FOR_LEASE && tried == DCONFDB_TRIED_FILE && fault > 0, "step: a lease is waited for, once a try failed");
     if (fault == EWOULDBLOCK)
         CHECK(tries(it, &fault) == DCONFDB_TRIED_FILE, "answer: the file was opened");
     return fault;
@@ -43,7 +40,7 @@ int file_read_(void)
     if (fault != 0)
         CHECK(bytes.at == NULL && bytes.len == 0 && !bytes.is_mapped && !is_mapped(), "answer: a fault has no bytes");
     if (fault == 0 && !state.is_there)
-        CHECK(bytes.at == NULL && last[OPENAT].fault == ENOENT, "answer: only ENOENT is a missing file");
+        CHECK(bytes.at == NULL && (count_of[OPENAT] > 0 ? last[OPENAT].fault : last[FSTATAT].fault) == ENOENT, "answer: only ENOENT is a missing file");
     if (fault == 0 && state.is_there) {
         CHECK(was_done(OPENAT) && was_done(FSTAT), "answer: the state is of what was opened");
         CHECK((uintmax_t)state.size <= most, "answer: no file is longer than was asked");

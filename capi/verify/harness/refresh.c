@@ -33,15 +33,17 @@ int file_read(int folder, const char *name, bool maps, FileWanted *is_wanted, si
     return fault;
 }
 
-/* Whether a file is the part's: part_sameness() asks it. */
-uint32_t dconfdb_same_file(const DconfdbFileStamp *old, const DconfdbFileStamp *now, uint64_t opened, bool is_held)
+/* What the file is beside an old part: what was read, or failed to be, is never the same as what didn't. */
+uint32_t dconfdb_beside(uint32_t purpose, const DconfdbFileStamp *old, const DconfdbFileStamp *now, const DconfdbPartSeen *seen)
 {
-    (void)opened, (void)is_held;
     CHECK(old == &old_parts[0].state || old == &old_parts[1].state, "step: an old part's file");
-    CHECK(__CPROVER_r_ok(now, sizeof *now), "memory: two states");
-    uint32_t sameness = any_u32();
-    GIVEN(sameness <= DCONFDB_FILE_UNSURE);
-    return sameness;
+    CHECK(__CPROVER_r_ok(now, sizeof *now) && __CPROVER_r_ok(seen, sizeof *seen), "memory: two states, and what is known");
+    CHECK(purpose == DCONFDB_PART_KEEP || purpose == DCONFDB_PART_TAKE, "answer: a purpose");
+    if (seen->fault != 0 || (purpose == DCONFDB_PART_TAKE && (seen->code == 0) != (seen->read_code == 0)))
+        return DCONFDB_BESIDE_OTHER;
+    if (any_bool())
+        return DCONFDB_BESIDE_SAME;
+    return purpose == DCONFDB_PART_KEEP && any_bool() ? DCONFDB_BESIDE_IF_READABLE : DCONFDB_BESIDE_OTHER;
 }
 
 uint64_t file_clock(void)
@@ -227,6 +229,7 @@ int look_compare(void)
     set_up_store();
     Look look = look_of(NO_FOLDER);
     look.fault.code = any_bool() ? DCONFDB_ERROR_FILE : DCONFDB_ERROR_NONE;
+    faults[0].error.code = DCONFDB_ERROR_FILE; /* a fault is one */
     bool is = real_is_as_read(&look, &old_parts[0]);
     bool is_bad = old_parts[0].fault && !faults[0].aside;
     CHECK(!is || (look.fault.code != DCONFDB_ERROR_NONE) == is_bad, "answer: a bad file is not a good one");

@@ -1,9 +1,10 @@
 /* common/replacing.c, the steps of a turn: each makes its calls once, with the names, bits and flags that it says, and answers by what
  * the system answered. Of files.c it has what a state is. */
-#define MOST_ASIDE 2
 #include "common/files.c"
+#include "common/handed.c"
 #include "common/replacing.c"
 #include "machines.h"
+#include "machines/given.h"
 #include "world.h"
 
 static int folder;
@@ -32,14 +33,15 @@ static bool only_new_is_open(void)
     return is_open(it.file) && only_open(folder, it.file);
 }
 
-/* harness create: unwind 8, with machines.c, quick */
+/* harness create: unwind 8, with machines.c, define MOST_ASIDE=2, quick */
 int create(void)
 {
     begin();
     size_t bits = any_size();
     GIVEN(bits < 512);
     it.group = any_u32();
-    it.first_group = any_u32();
+    it.above = any_u32();
+    it.gives_group = any_bool();
     int fault = replacing_create(&it, bits);
     const Call *open = &last[OPENAT];
     CHECK(count_of[UNLINKAT] == 1 && last[UNLINKAT].name == it.new_name && last[UNLINKAT].file == folder, "step: what had the new name is removed");
@@ -49,7 +51,8 @@ int create(void)
         CHECK(was_done(OPENAT) && open->file == folder && open->name == it.new_name, "step: NAME.new is made in the folder");
         CHECK((open->flags & (O_CREAT | O_EXCL | O_TRUNC | O_ACCMODE)) == (O_CREAT | O_EXCL | O_WRONLY), "step: it is made anew, in nobody's place");
         CHECK((open->mode & ~(unsigned)bits) == 0 && (open->mode & 0700) == (bits & 0700), "step: with its bits, or fewer for others than its owner");
-        CHECK(it.group != it.first_group || open->mode == bits, "step: with all of them, where it has its group");
+        bool has_group = it.above == it.group && (it.gives_group || getegid() == it.group);
+        CHECK(open->mode == bits_given((uint32_t)bits, has_group), "step: with all of them, where it has its group, whatever the file system");
         CHECK(it.file == open->count && only_new_is_open(), "descriptor: it is kept, and no other");
         CHECK(when_of[UNLINKAT] < when_of[OPENAT], "order: what had the name is gone before");
         REACHED("it is made");
@@ -112,7 +115,7 @@ int sync_(void)
     return 0;
 }
 
-/* harness set_aside: unwind 8, with machines.c, quick */
+/* harness set_aside: unwind 8, with machines.c, define MOST_ASIDE=2, quick */
 int set_aside(void)
 {
     size_t cannot = any_size();
@@ -211,8 +214,8 @@ uint32_t dconfdb_owner_and_bits(const DconfdbOldFile *old, const DconfdbFileOwne
     CHECK(__CPROVER_r_ok(above, sizeof *above) && was_done(FSTAT) && is_root == (geteuid() == 0), "answer: whose the folder is, and who this is");
     asked_old = old;
     uint32_t answer = any_u32();
-    GIVEN(answer <= DCONFDB_OWNER_AGAIN);
-    if (answer == DCONFDB_OWNER_GIVEN) {
+    GIVEN(answer == 0 || answer == EACCES || answer == EAGAIN);
+    if (answer == 0) {
         *given = (DconfdbNewFile){any_u32(), any_u32(), any_u32()};
         GIVEN(given->bits < SET_ASIDE);
     }

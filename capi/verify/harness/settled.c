@@ -13,6 +13,7 @@ int folder_settle(const char *folder, const char *name)
 {
     CHECK(folder == store.place.folder && (name == NULL || name == store.user_file + 3), "step: the user's file in its folder, or the folder alone");
     CHECK(!store.options.is_unsynced, "step: nothing is brought to the disk where nobody asks for it");
+    CHECK((name != NULL) == is_readable, "step: of what can't be read the folder alone");
     settles++;
     int fault = any_fault();
     has_settled = fault == 0;
@@ -52,18 +53,12 @@ bool part_is_readable(const Part *part)
     return is_readable;
 }
 
-bool refuse_file(DconfdbError *error, int fault, const char *name, Place place)
+bool tell_ending(DconfdbError *error, const DconfdbEnding *ending, int fault, const char *name)
 {
-    (void)error, (void)place;
+    (void)error;
     CHECK(fault > 0 && name, "answer: a fault, of a file or a folder");
+    CHECK(ending->told == DCONFDB_TOLD_UNSYNCED && ending->outcome == (uint32_t)DCONFDB_OUTCOME_UNSETTLED, "answer: it is as it was, and perhaps not on the disk");
     refused++;
-    return false;
-}
-
-bool refuse_outcome(DconfdbError *error, uint32_t outcome, const char *name)
-{
-    (void)error, (void)name;
-    CHECK(outcome == DCONFDB_TURN_UNSYNCED && refused == 1, "answer: it is as it was, and perhaps not on the disk");
     return false;
 }
 

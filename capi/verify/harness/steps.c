@@ -17,7 +17,7 @@ static DconfdbStep now;           /* the step that is carried out */
 static unsigned carried, steps_done;
 static int step_fault;            /* what became of it */
 static size_t step_number;
-static bool is_amid, is_there, is_on_disk, has_tried, is_made_new, is_told, has_nothing;
+static bool is_amid, is_there, is_on_disk, has_tried, is_made_new, has_nothing;
 
 /* ---- a watch over the steps */
 
@@ -40,8 +40,7 @@ static void ends(uint32_t fault, size_t n)
     if (is_call && now.kind != DCONFDB_TURN_SETTLE)
         CHECK(carried == 1, "step: it is carried out once");
     CHECK(carried <= 1 && (is_call || carried == 0), "step: nothing else is done");
-    CHECK(step_fault != IS_NOTHING || fault == DCONFDB_TURN_NOTHING, "answer: that nothing is to be changed is said");
-    CHECK(step_fault == IS_NOTHING || fault == (step_fault != 0 ? 1 : 0), "answer: a fault is one of the step");
+    CHECK(fault == (uint32_t)step_fault, "answer: a fault is the step's, and so is that nothing is to be changed");
     CHECK(fault != 0 || n == step_number, "answer: the number is the step's");
 }
 
@@ -67,10 +66,8 @@ int changing_read(Changing *at)
 {
     int fault = carries(DCONFDB_TURN_READ);
     CHECK(at == &it, "memory: one change");
-    if (any_bool() && fault != 0) {
-        is_told = true;
+    if (any_bool() && fault != 0)
         return step_fault = IS_TOLD;
-    }
     at->order = &order;
     at->old = old_part;
     at->answer = step_number = fault == 0 ? some_number(DCONFDB_TURN_READ) : 0;
@@ -82,9 +79,8 @@ int changing_make(Changing *at)
     CHECK(at->order == &order && at->old == old_part, "order: it is read before");
     int fault = carries(DCONFDB_TURN_MAKE);
     if (fault != 0) {
-        is_told = any_bool();
-        has_nothing = !is_told;
-        return step_fault = is_told ? IS_TOLD : IS_NOTHING;
+        has_nothing = any_bool();
+        return step_fault = has_nothing ? IS_NOTHING : IS_TOLD;
     }
     at->answer = step_number = some_number(DCONFDB_TURN_MAKE);
     at->new = new_part;
@@ -104,6 +100,13 @@ bool order_is_synced(const Order *at, const char *name, const FileState *file)
 {
     CHECK(at == &order && name == it.replacing.name && file == &old_part->state, "step: what is asked is whether the old file is on the disk");
     return any_bool();
+}
+
+/* The flag of dconf's readers is set once the name may be the new file's, and never before. */
+void flag_set(const char *path)
+{
+    CHECK(path == it.flag && is_amid && carried == 1, "order: dconf's readers are told behind the rename, in the turn");
+    CHECK(now.kind == DCONFDB_TURN_RENAME || now.kind == DCONFDB_TURN_EXCHANGE, "step: it is of the step that replaces the file");
 }
 
 /* ---- the calls of replacing.c, as harness/replacing.c has them */
@@ -182,15 +185,6 @@ bool part_is_readable(const Part *part)
     return !part->fault;
 }
 
-bool refuse_file(DconfdbError *error, int fault, const char *name, Place place)
-{
-    (void)place;
-    CHECK(error == it.error && fault == step_fault && fault > 0 && name == it.file, "answer: what is told is the fault of the step");
-    CHECK(now.kind != DCONFDB_TURN_REMOVE && now.kind != DCONFDB_TURN_NOTE, "answer: what a change doesn't depend on is not told");
-    is_told = true;
-    return false;
-}
-
 static void set_up(void)
 {
     static DconfdbError error;
@@ -201,8 +195,7 @@ static void set_up(void)
     old_part->fault = any_bool() ? &fault : NULL;
     old_part->is_settled = any_bool();
     it.error = &error;
-    it.file = "/f/user";
-    it.replacing.name = it.file + 3;
+    it.replacing.name = "user";
     it.replacing.is_unsynced = any_bool();
 }
 
@@ -225,9 +218,8 @@ int change_step(void)
     is_there = step.kind == DCONFDB_TURN_SYNC_FOLDER || (step.kind == DCONFDB_TURN_NOTE && any_bool());
     begins(&step);
     it.step = step;
-    uint32_t fault = carry_out(&it);
+    uint32_t fault = (uint32_t)steps[step.kind](&it);
     ends(fault, it.answer);
-    CHECK(fault != 1 || is_told || step.kind == DCONFDB_TURN_REMOVE, "answer: a fault is told, but that of what a change doesn't depend on");
     CHECK(!new_part->is_settled || (step.kind == DCONFDB_TURN_SYNC_FOLDER && fault == 0 && !it.replacing.is_unsynced), "answer: on the disk is what was synced there");
     if (step.kind == DCONFDB_TURN_RENAME && fault == 0)
         REACHED("a rename");
@@ -248,7 +240,6 @@ int change_loop(void)
     CHECK(outcome != DCONFDB_TURN_EITHER || has_tried, "answer: nobody is unsure of what was not tried");
     bool is_same = outcome == DCONFDB_TURN_SAME || outcome == DCONFDB_TURN_UNSYNCED;
     CHECK(!is_same || has_nothing, "answer: what was to stay is the same");
-    CHECK(is_new || is_same || it.step.fault == 0 || is_told, "answer: what is kept is told, with why");
     CHECK(!new_part->is_settled || (outcome == DCONFDB_TURN_MADE && !it.replacing.is_unsynced), "answer: on the disk is what was synced there");
     if (outcome == DCONFDB_TURN_MADE)
         REACHED("it is made");

@@ -41,7 +41,16 @@ bool place_of_caller(const char *folder, StorePlace *place, DconfdbError *error)
         return false;
     }
     has_place = true;
-    *place = (StorePlace){a_text(), any_bool() ? a_text() : NULL, any_bool()};
+    *place = (StorePlace){.folder = a_text(), .profile = any_bool() ? a_text() : NULL, .is_given = any_bool()};
+    return true;
+}
+
+bool place_copy(const StorePlace *place, StorePlace *copy)
+{
+    CHECK(place->folder != NULL, "step: what was found is copied");
+    if (any_bool())
+        return false;
+    *copy = (StorePlace){.folder = a_text(), .profile = place->profile ? a_text() : NULL, .is_given = place->is_given};
     return true;
 }
 
@@ -49,7 +58,7 @@ void place_release(StorePlace *place)
 {
     free(place->folder);
     free(place->profile);
-    *place = (StorePlace){NULL, NULL, false};
+    *place = (StorePlace){.folder = NULL};
 }
 
 /* ---- its files, and what they hold */
@@ -67,9 +76,10 @@ bool store_find_files(DconfdbStore *store, DconfdbError *error)
     return is;
 }
 
-char *store_file_names(const DconfdbStore *store, size_t *size)
+char *store_file_names(const DconfdbStore *store, int *profiles, size_t *size)
 {
     (void)store;
+    *profiles = 1;
     if (size)
         *size = 2;
     return malloc(2);

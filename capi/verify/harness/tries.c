@@ -12,12 +12,12 @@ static int asked_for;
 static int try_fault;
 static uint32_t try_call;
 static DconfdbNext step;
-static bool is_amid;
+static bool is_amid, has_begun;
 static unsigned tried, steps_done;
 
 static uint32_t a_try(void *it, int *fault)
 {
-    CHECK(it == &asked_for && is_amid && step.kind == DCONFDB_WAIT_TRY, "step: it is tried where that is the step");
+    CHECK(it == &asked_for && (!has_begun || (is_amid && step.kind == DCONFDB_WAIT_TRY)), "step: it is tried first, and where that is the step");
     tried++;
     try_call = any_u32();
     GIVEN(try_call <= DCONFDB_TRIED_LOCK_FILE);
@@ -30,7 +30,8 @@ static void begins(const DconfdbNext *next)
     CHECK(!is_amid, "order: each step is answered before the next one");
     step = *next;
     is_amid = next->kind < DCONFDB_WAIT_HAD;
-    tried = 0;
+    tried = has_begun ? 0 : tried; /* the first try is that of the first step */
+    has_begun = true;
     GIVEN(++steps_done <= MOST_STEPS);
 }
 

@@ -39,9 +39,9 @@ static bool some_part(DconfdbPart *found, const uint8_t *type, const uint8_t *va
     return is;
 }
 
-bool dconfdb_child_at(const uint8_t *type, size_t type_len, const uint8_t *value, size_t len, size_t index, size_t *passed, DconfdbPart *found)
+bool dconfdb_child_at(const uint8_t *type, size_t type_len, const uint8_t *value, size_t len, bool of_variant, size_t index, size_t *passed, DconfdbPart *found)
 {
-    (void)index;
+    (void)of_variant, (void)index;
     CHECK(__CPROVER_w_ok(passed, sizeof *passed), "memory: how far a walk came");
     *passed = any_size();
     are_lent(type, type_len, value, len);

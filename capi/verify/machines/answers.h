@@ -45,76 +45,6 @@ static inline void ending_asked(uint32_t number, uint32_t *outcome, uint32_t *fa
 /* The errnos, and 0, and the calls to which one may be another thing than a fault. */
 enum { FAULTS = 134, CALLS = DCONFDB_CALL_PLACE + 1 };
 
-/* What becomes of a file by what the system says of it, which explore.c compares. The first function is of those purposes of which the errno
- * alone counts. */
-static inline uint32_t stands_by_errno(uint32_t purpose, uint32_t fault, uint32_t *told)
-{
-    enum { NO_FILE = 2, EXISTS = 17, FOLDER = 21, BAD = 22, UNKNOWN = 38, NOT_EMPTY = 39, UNSUPPORTED = 95 };
-    *told = 0;
-    if (fault == 0 || (purpose == DCONFDB_TO_MAKE_ROOM && fault == NO_FILE))
-        return DCONFDB_IS_GOOD;
-    if ((purpose == DCONFDB_TO_LOOK && fault == NO_FILE) || (purpose == DCONFDB_TO_MAKE && fault == EXISTS))
-        return DCONFDB_IS_NOTHING;
-    if ((purpose == DCONFDB_TO_MAKE_ROOM && fault == FOLDER) || (purpose == DCONFDB_TO_NAME && (fault == BAD || fault == UNKNOWN)))
-        return DCONFDB_IS_OTHER;
-    *told = purpose == DCONFDB_TO_EXCHANGE && fault == BAD ? UNSUPPORTED : purpose == DCONFDB_TO_REPLACE && fault == NOT_EMPTY ? EXISTS : fault;
-    return DCONFDB_IS_FAULT;
-}
-
-static inline uint32_t stands_sized(const DconfdbStood *stood, uint32_t *told)
-{
-    *told = stood->size > stood->most ? 75 : 0;
-    if (*told != 0 || stood->size == 0)
-        return *told != 0 ? DCONFDB_IS_FAULT : DCONFDB_IS_NOTHING;
-    if (stood->size <= 65536 || !(stood->may_map || stood->may_stop))
-        return DCONFDB_IS_GOOD;
-    return stood->may_map ? DCONFDB_IS_MAPPED : DCONFDB_IS_HEAD;
-}
-
-static inline uint32_t stands_as_file(uint32_t purpose, const DconfdbStood *stood, uint32_t *told)
-{
-    bool is_lock = purpose == DCONFDB_TO_LOCK, is_regular = (stood->mode & 0170000) == 0100000;
-    uint32_t of_mode = !is_lock && (stood->mode & 0170000) == 0040000 ? 21 : 22;
-    *told = 0;
-    if (stood->fault != 0 && purpose == DCONFDB_TO_OPEN)
-        return DCONFDB_IS_GOOD;
-    if (is_lock && stood->fault == 2)
-        return DCONFDB_IS_NOTHING;
-    if (stood->fault != 0)
-        *told = is_lock && (stood->fault == 40 || stood->fault == 21 || stood->fault == 6) ? 22 : stood->fault;
-    else if (!is_regular)
-        *told = of_mode;
-    if (*told != 0)
-        return DCONFDB_IS_FAULT;
-    return purpose == DCONFDB_TO_READ ? stands_sized(stood, told) : DCONFDB_IS_GOOD;
-}
-
-static inline uint32_t standing_given(uint32_t purpose, const DconfdbStood *stood, uint32_t *told)
-{
-    *told = 0;
-    if (purpose == DCONFDB_TO_HOLD)
-        return stood->fault != 0 || !stood->is_named ? DCONFDB_IS_NOTHING : stood->links > 1 ? DCONFDB_IS_OTHER : DCONFDB_IS_GOOD;
-    if (purpose == DCONFDB_TO_FOLLOW) {
-        *told = stood->is_root && (stood->fault != 0 || stood->user != 0 || (stood->mode & 022) != 0) ? 13 : 0;
-        return *told != 0 ? DCONFDB_IS_FAULT : DCONFDB_IS_GOOD;
-    }
-    if (purpose >= DCONFDB_TO_OPEN && purpose <= DCONFDB_TO_LOCK)
-        return stands_as_file(purpose, stood, told);
-    return stands_by_errno(purpose, stood->fault, told);
-}
-
-/* Permission bits, which explore.c compares for all that may be asked. */
-static inline uint32_t bits_given(uint32_t bits, bool has_group)
-{
-    uint32_t both = bits >> 3 & bits & 7;
-    return has_group ? bits & 0777 : (bits & 0700) | both << 3 | both;
-}
-
-static inline uint32_t lock_bits_given(uint32_t folder, bool has_group)
-{
-    return 0600 | ((folder & (has_group ? 020 : 02)) != 0 ? 060 : 0) | ((folder & 02) != 0 ? 06 : 0);
-}
-
 /* Of a look at 0 to 2 files: no, yes, and a fault that is a file's own, or isn't. */
 enum { REFRESH_BEGINNINGS = 24, REFRESH_OWN_FAULT = 2, REFRESH_OTHER_FAULT, REFRESH_ANSWERS };
 
@@ -170,31 +100,5 @@ static const uint64_t wait_passed[WAIT_TIMES] = {0, 1, 2, UINT64_MAX / 1000000};
 
 /* After an answer that isn't given there, or beyond the bounds. */
 enum { BEYOND = 65535 };
-
-/* What is asked of whether the user's file is on the disk. */
-static inline uint32_t settling_given(uint32_t task, bool yes, const DconfdbSettling *known)
-{
-    switch (task) {
-    case DCONFDB_SETTLING_BEGINS:
-        return !known->has_file || known->is_known ? DCONFDB_SETTLING_KNOWN : DCONFDB_SETTLING_NOTES;
-    case DCONFDB_SETTLING_NOTES:
-        return yes ? DCONFDB_SETTLING_KNOWN : known->asks_only ? DCONFDB_SETTLING_FAILED : DCONFDB_SETTLING_SETTLE;
-    case DCONFDB_SETTLING_SETTLE:
-        if (!yes)
-            return DCONFDB_SETTLING_FAILED;
-        return known->is_unsynced ? DCONFDB_SETTLING_DONE : known->is_in_turn ? DCONFDB_SETTLING_KNOWN : DCONFDB_SETTLING_LOOK;
-    default:
-        return yes ? DCONFDB_SETTLING_KNOWN : DCONFDB_SETTLING_DONE;
-    }
-}
-
-/* The header's code by which a program is told of an errno. */
-static inline uint32_t error_code_given(bool of_lock, uint32_t fault)
-{
-    enum { MEMORY = 1, FILE_TOO_LARGE = 18, OF_FILE = 64, BUSY = 65, NO_MEMORY = 12, WOULD_WAIT = 11, OVERFLOWS = 75 };
-    if (of_lock && fault == WOULD_WAIT)
-        return BUSY;
-    return fault == NO_MEMORY ? MEMORY : fault == OVERFLOWS ? FILE_TOO_LARGE : OF_FILE;
-}
 
 #endif

@@ -2,7 +2,7 @@
  * kept. So nothing of a machine is written by hand: who links the archive has what the archive does.
  *
  * A machine is known by its steps alone. Its memory is compared byte by byte, and is all 0 before it begins. */
-#include "answers.h"
+#include "explore.h"
 
 #include <stdbool.h>
 #include <stdio.h>
@@ -30,15 +30,13 @@ typedef struct {
     int beginnings, answers, most_depth;
     void (*begins)(void *it, int number);
     Step (*steps)(const void *it);
-
-    /* False: no such answer is given in this state. */
-    bool (*answered)(void *it, const Step *step, int number);
+    bool (*answered)(void *it, const Step *step, int number); /* false: no such answer is given in this state */
 } Machine;
 
 static State states[MOST_STATES];
 static int count;
 
-static void fail(const char *name, const char *why)
+void fail(const char *name, const char *why)
 {
     fprintf(stderr, "explore: %s: %s\n", name, why);
     exit(1);
@@ -75,8 +73,7 @@ static void explore(const Machine *machine, int *first)
     for (int i = 0; i < count; i++) {
         for (int n = 0; n < machine->answers; n++) {
             memcpy(bytes, states[i].bytes, MOST_BYTES);
-            bool is_given = machine->answered(bytes, &states[i].step, n);
-            states[i].after[n] = is_given ? number_of(machine, bytes, states[i].depth + 1) : BEYOND;
+            states[i].after[n] = machine->answered(bytes, &states[i].step, n) ? number_of(machine, bytes, states[i].depth + 1) : BEYOND;
         }
     }
 }
@@ -144,10 +141,8 @@ static void print(const Machine *machine)
     printf("};\n/* %d states, of which nobody can tell more apart than: */\n", count);
     printf("static const struct { DconfdbStep step; uint32_t seen; uint16_t after[%d]; } %s_states[%d] = {\n", machine->answers, machine->name, classes);
     for (int i = 0; i < count; i++) {
-        if (states[i].class == printed) {
+        if (states[i].class == printed && ++printed)
             print_state(machine, &states[i]);
-            printed++;
-        }
     }
     printf("};\n\n");
 }
@@ -248,16 +243,20 @@ static Step refresh_steps(const void *it)
     return (Step){looking->next.kind, 0, looking->next.number, false, 0};
 }
 
-/* By any errno that is a file's own, or isn't. */
-static bool is_had_by(const DconfdbRefresh *refresh, bool is_own)
+/* By any errno that is a file's own, or isn't: what comes of it is the same. */
+static void answer_fault(DconfdbRefresh *refresh, bool is_own, DconfdbNext *next)
 {
     enum { EACCES_ = 13, EIO_ = 5 };
-    bool is = dconfdb_refresh_is_had(refresh, is_own ? EACCES_ : EIO_);
-    for (uint32_t fault = 0; fault < FAULTS; fault++) {
-        if ((dconfdb_fault_answer(DCONFDB_CALL_OPEN, fault) == DCONFDB_ANSWER_OWN) == is_own && dconfdb_refresh_is_had(refresh, fault) != is)
+    const DconfdbRefresh before = *refresh;
+    dconfdb_refresh_answered(refresh, false, is_own ? EACCES_ : EIO_, next);
+    for (uint32_t fault = 1; fault < FAULTS; fault++) {
+        DconfdbRefresh other = before;
+        DconfdbNext then = {0, 0};
+        dconfdb_refresh_answered(&other, false, fault, &then);
+        bool is_alike = then.kind == next->kind && then.number == next->number;
+        if ((dconfdb_fault_answer(DCONFDB_CALL_OPEN, fault) == DCONFDB_ANSWER_OWN) == is_own && !is_alike)
             fail("refresh", "another errno of that class is something else");
     }
-    return is;
 }
 
 static bool refresh_answered(void *it, const Step *step, int number)
@@ -266,8 +265,10 @@ static bool refresh_answered(void *it, const Step *step, int number)
         return false;
     DconfdbNext next = {0};
     Looking *looking = it;
-    bool is_had = number >= REFRESH_OWN_FAULT ? is_had_by(&looking->refresh, number == REFRESH_OWN_FAULT) : number == 1;
-    dconfdb_refresh_answered(&looking->refresh, is_had, &next);
+    if (number >= REFRESH_OWN_FAULT)
+        answer_fault(&looking->refresh, number == REFRESH_OWN_FAULT, &next);
+    else
+        dconfdb_refresh_answered(&looking->refresh, number == 1, 0, &next);
     is_at_next(&looking->next, &next);
     return true;
 }
@@ -374,12 +375,10 @@ static bool wait_answered(void *it, const Step *step, int number)
 {
     if (step->kind > DCONFDB_WAIT_PAUSE)
         return false;
-    if (step->kind == DCONFDB_WAIT_PAUSE)
+    if (step->kind == DCONFDB_WAIT_PAUSE || number == WAIT_GOT)
         wait_takes(it, DCONFDB_TRIED_LOCK, 0, 0);
     else if (number == WAIT_FAILED)
         wait_fails(it);
-    else if (number == WAIT_GOT)
-        wait_takes(it, DCONFDB_TRIED_LOCK, 0, 0);
     else if (number < WAIT_MOVED)
         wait_takes(it, DCONFDB_TRIED_LOCK, BUSY_FAULT, wait_passed[number % WAIT_TIMES]);
     else
@@ -394,113 +393,12 @@ static const Machine machines[] = {
     {"wait", sizeof(Awaiting), WAIT_BEGINNINGS, WAIT_ANSWERS, MOST_WAITED_STEPS, wait_begins, wait_steps, wait_answered},
 };
 
-/* ---- calls that keep nothing: their answers to all that is asked */
-
-static void print_making(void)
-{
-    printf("static const uint8_t making[2][2][DCONFDB_MAKING_READY][3] = {");
-    for (uint32_t i = 0; i < 4; i++) {
-        printf(i % 2 == 0 ? "%s{{" : "%s{", i > 0 ? ", " : "");
-        for (uint32_t ask = 0; ask < DCONFDB_MAKING_READY; ask++) {
-            printf("%s{", ask > 0 ? ", " : "");
-            for (uint32_t found = 0; found < 3; found++)
-                printf("%s%u", found > 0 ? ", " : "", dconfdb_making_after(i / 2 == 1, i % 2 == 1, ask, found));
-            printf("}");
-        }
-        printf(i % 2 == 1 ? "}}" : "}");
-    }
-    printf("};\n\n");
-}
-
-static void print_endings(void)
-{
-    printf("static const DconfdbEnding endings[ENDINGS] = {");
-    for (uint32_t i = 0; i < ENDINGS; i++) {
-        uint32_t outcome, fault;
-        bool is_unsettled;
-        DconfdbEnding ending = {0};
-        ending_asked(i, &outcome, &fault, &is_unsettled);
-        dconfdb_ending(outcome, fault, is_unsettled, &ending);
-        printf("%s{%u, %u, %d, %d}", i > 0 ? ", " : "", ending.newest, ending.told, ending.is_unsettled, ending.is_there);
-    }
-    printf("};\n");
-}
-
-static void print_fault_answers(void)
-{
-    printf("\nstatic const uint8_t fault_answers[CALLS][FAULTS] = {");
-    for (uint32_t call = 0; call < CALLS; call++) {
-        printf("%s{", call > 0 ? ", " : "");
-        for (uint32_t fault = 0; fault < FAULTS; fault++)
-            printf("%s%u", fault > 0 ? ", " : "", dconfdb_fault_answer(call, fault));
-        printf("}");
-    }
-    printf("};\n");
-}
-
-static void compare_bits(void)
-{
-    for (uint32_t bits = 0; bits < 65536; bits++) {
-        for (int has_group = 0; has_group < 2; has_group++) {
-            if (dconfdb_file_bits(false, bits, has_group) != bits_given(bits, has_group))
-                fail("bits_for", "other bits than are given");
-            if (dconfdb_file_bits(true, bits, has_group) != lock_bits_given(bits, has_group))
-                fail("lock_bits", "other bits than are given");
-        }
-    }
-}
-
-static void compare_standing(const DconfdbStood *stood)
-{
-    for (uint32_t purpose = 0; purpose <= DCONFDB_TO_REPLACE; purpose++) {
-        uint32_t told, wanted;
-        if (dconfdb_standing(purpose, stood, &told) != standing_given(purpose, stood, &wanted) || told != wanted)
-            fail("standing", "another answer than is given");
-    }
-}
-
-/* By each errno; and of files of each kind, with all bits of the group and of others. */
-static void compare_standings(void)
-{
-    static const uint64_t sizes[] = {0, 1, 65536, 65537};
-    for (uint32_t fault = 0; fault < FAULTS; fault++)
-        compare_standing(&(DconfdbStood){.fault = fault, .mode = 0100600, .links = 1, .is_named = true, .is_root = true});
-    for (uint32_t mode = 0; mode < 65536; mode++)
-        compare_standing(&(DconfdbStood){.mode = mode, .size = 1, .most = 1, .links = mode % 3, .user = mode / 8192, .is_root = true});
-    for (uint32_t i = 0; i < 128; i++)
-        compare_standing(&(DconfdbStood){.mode = 0100600, .size = sizes[i % 4], .most = sizes[i / 4 % 4], .may_map = (i & 16) != 0,
-                                         .may_stop = (i & 32) != 0, .is_named = (i & 64) != 0, .links = i % 3});
-}
-
-static void compare_error_codes(void)
-{
-    for (uint32_t fault = 0; fault < FAULTS; fault++)
-        if (dconfdb_error_code(true, fault) != error_code_given(true, fault) || dconfdb_error_code(false, fault) != error_code_given(false, fault))
-            fail("error_code", "another code than is given");
-}
-
-static void compare_settling(void)
-{
-    for (uint32_t bits = 0; bits < 128; bits++) {
-        for (uint32_t task = DCONFDB_SETTLING_BEGINS; task < DCONFDB_SETTLING_KNOWN; task++) {
-            const DconfdbSettling known = {bits & 1, bits & 2, bits & 4, bits & 8, bits & 16};
-            if (dconfdb_settling_after(task, bits & 32, &known) != settling_given(task, bits & 32, &known))
-                fail("settling_after", "another task than is given");
-        }
-    }
-}
-
 int main(void)
 {
     printf("/* Made by machines/explore of the archive of the proved calls: machines/compare says whether it is so still. */\n");
     for (size_t i = 0; i < sizeof machines / sizeof *machines; i++)
         print(&machines[i]);
-    print_making();
-    print_endings();
-    print_fault_answers();
-    compare_bits();
-    compare_standings();
-    compare_error_codes();
-    compare_settling();
+    print_answers();
+    compare_answers();
     return 0;
 }

@@ -1,4 +1,4 @@
--- The directories in which paths are.
+-- What both of two paths are, or are in.
 use Rattle.std.specs.Prelude.{◌≡◌, ◌⊎◌, ◌≤◌, ◌<◌, ℕ, zero, suc, true, false, List, [], ◌∷◌, ◌++◌, drop, length, take, min, refl}
 use Rattle.std.proofs.Common.{◌==◌, ◌+◌, inl, inr, sym, ap, ◌∙◌, subst, arith, eqb-true}
 use Rattle.std.proofs.lemmas.Bool.{eqb-false}
@@ -7,6 +7,7 @@ use Rattle.dconf_model.specs.Locks.{covers}
 use Rattle.dconf_model.specs.Paths.{ends_with_slash}
 use Rattle.dconf_changesets.specs.Above.{NoDirectoryIsPassedOver, is_shared, longest_shared}
 use Rattle.dconf_changesets.proofs.WordLaws.{below_cut, covers_how}
+use Rattle.std.proofs.lemmas.Bool.{and_from}
 
 within : (path other : List ℕ) (n : ℕ) → longest_shared path other n ≤ n
 within path other zero = omega arith
@@ -54,9 +55,26 @@ all_of path other over = elim (covers_how other path over) [
       inr (below.0, sym (ap (take (length other)) whole ∙ take_own other (drop (length other) path)))
 ]
 
+take_all : (a : List ℕ) → take (length a) a ≡ a
+take_all [] = refl
+take_all (x ∷ a) = ap (λ (l : List ℕ). x ∷ l) (take_all a)
+
+begins : (path other : List ℕ) → covers other path ≡ true → other ≡ take (length other) path
+begins path other over = elim (all_of path other over) [
+  | inl same ↦ sym (ap (take (length other)) (sym same) ∙ take_all other)
+  | inr below ↦ below.1
+]
+
+own_of : (path other : List ℕ) → covers other path ≡ true → (other ≡ take (length other) path) × (is_shared path path (length other) ≡ true)
+own_of path other over =
+    let first : other ≡ take (length other) path = begins path other over in
+    let is : covers (take (length other) path) path ≡ true = subst (λ (x : List ℕ). covers x path ≡ true) first over in
+    (first, and_from (covers (take (length other) path) path) (covers (take (length other) path) path) is is)
+
 pub no_directory_is_passed_over : NoDirectoryIsPassedOver
 no_directory_is_passed_over path most other = record {
   short = omega (arith, within path other (min (length path) most));
   longest = none_longer path other (min (length path) most);
   all = all_of path other;
+  own = own_of path other;
 }

@@ -1,7 +1,10 @@
--- Who says the newest word of a key.
-use Rattle.std.specs.Prelude.{◌≡◌, ◌-◌, ℕ, zero, suc, List, [], ◌∷◌, length, refl}
-use Rattle.std.proofs.Common.{ap, sym, ◌∙◌, arith}
-use Rattle.dconf_changesets.specs.Asking.{TheNewestIsAsked, all_rows, newest, said_in}
+-- Who says the newest word of a key, and who looks at the files.
+use Rattle.std.specs.Prelude.{◌≡◌, ◌↔◌, ◌-◌, ◌==◌, ◌&&◌, ◌||◌, ℕ, zero, suc, Bool, true, false, not, if◌then◌else◌, List, [], ◌∷◌, length, refl}
+use Rattle.std.proofs.Common.{ap, sym, ◌∙◌, arith, subst}
+use Rattle.std.proofs.lemmas.Bool.{and_parts}
+use Rattle.dconf_changesets.specs.declared.asking.LookDue.{LookDue}
+use Rattle.dconf_changesets.specs.declared.asking.LookDue.TheVariants.{Nothing, Opens, Looks, Later}
+use Rattle.dconf_changesets.specs.Asking.{NoLookIsMissed, TheNewestIsAsked, all_rows, is_heard, is_spared, newest, said_in}
 use Rattle.dconf_changesets.specs.Rows.{Row, later_word, said}
 use Rattle.dconf_changesets.proofs.WordLaws.{after_silent, later_assoc, said_append}
 
@@ -20,3 +23,33 @@ none_asked n = omega arith
 
 pub the_newest_is_asked : TheNewestIsAsked
 the_newest_is_asked key sets = ap (newest key sets) (none_asked (length sets)) ∙ in_all key sets
+
+-- ---- looks
+
+abbrev due_by : Bool → Bool → Bool → LookDue
+due_by opened spared busy = if not opened then Opens else if spared then Nothing else if busy then Later else Looks
+
+opens_by : (o s b : Bool) → (due_by o s b ≡ Opens) ↔ (o ≡ false)
+opens_by false s b = ((λ e. refl), (λ e. refl))
+opens_by true true b = ((λ e. absurd (let bad : Nothing ≡ Opens = e in cc)), (λ e. absurd (let bad : true ≡ false = e in cc)))
+opens_by true false true = ((λ e. absurd (let bad : Later ≡ Opens = e in cc)), (λ e. absurd (let bad : true ≡ false = e in cc)))
+opens_by true false false = ((λ e. absurd (let bad : Looks ≡ Opens = e in cc)), (λ e. absurd (let bad : true ≡ false = e in cc)))
+
+seen_by : (o w b : Bool) → o ≡ true → due_by o (w && false) b ≡ (if b then Later else Looks)
+seen_by false w b is = absurd (let bad : false ≡ true = is in cc)
+seen_by true true b is = refl
+seen_by true false b is = refl
+
+spared_by : (o s b : Bool) → due_by o s b ≡ Nothing → s ≡ true
+spared_by false s b e = absurd (let bad : Opens ≡ Nothing = e in cc)
+spared_by true true b e = refl
+spared_by true false true e = absurd (let bad : Later ≡ Nothing = e in cc)
+spared_by true false false e = absurd (let bad : Looks ≡ Nothing = e in cc)
+
+pub no_look_is_missed : NoLookIsMissed
+no_look_is_missed looker k = record {
+  opens = opens_by k.is_open (is_spared looker k) k.is_busy;
+  seen = λ (e : looker ≡ 0) (is : k.is_open ≡ true). rw e (seen_by k.is_open k.is_watched k.is_busy is);
+  read = λ (e : looker ≡ 2). subst (λ (x : ℕ). due_by k.is_open (is_spared x k) k.is_busy ≡ Nothing → (k.is_watched ≡ true) × (is_heard k ≡ true)) (sym e)
+      (λ quiet. and_parts k.is_watched (is_heard k) (spared_by k.is_open (k.is_watched && is_heard k) k.is_busy quiet));
+}

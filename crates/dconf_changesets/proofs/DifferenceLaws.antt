@@ -14,7 +14,7 @@ use Rattle.dconf_changesets.specs.declared.differences.Base.{Base}
 use Rattle.dconf_changesets.specs.Differences.{AreInOrder, AreKept, IsKnown, KeptIsEnough, Values, differs}
 use Rattle.dconf_changesets.specs.Rows.{IsRow, Row, later_word, said, said_by, word_of}
 use Rattle.dconf_changesets.proofs.FoundLaws.{append_all, upper_is_unset}
-use Rattle.dconf_changesets.proofs.WordLaws.{after_silent, covers_how, later_assoc, over_by_word, said_append, said_apart, said_covered}
+use Rattle.dconf_changesets.proofs.WordLaws.{after_silent, covers_how, heard_word, later_assoc, over_by_word, said_append, said_apart, said_covered}
 
 -- ---- rows of which none is the key's own
 
@@ -52,10 +52,6 @@ no_true b t f = let bad : true ≡ false = sym t ∙ f in cc
 none_of : (had : Option Tree) → false ≡ is_some had → had ≡ None
 none_of None e = refl
 none_of (Some v) e = absurd (let bad : false ≡ true = e in cc)
-
-heard_word : (had value : Option Tree) → heard had (word_of value) ≡ value
-heard_word had None = refl
-heard_word had (Some v) = refl
 
 -- no row that was kept is the key's own
 not_own : (row : Row) (key : List ℕ) (rows : List Row) → covers row.path key ≡ true → AllByRecursion (λ (r : Row). covers row.path r.path ≡ false) rows →

@@ -1,3 +1,4 @@
+pub mod SayingLaws
 pub mod WordLaws
 pub mod FoundLaws
 pub mod DifferenceLaws

@@ -11,7 +11,7 @@ use Rattle.dconf_model.proofs.ParentLaws.{by_bool}
 use Rattle.dconf_model.proofs.SameBytes.{itself, same_path}
 use Rattle.dconf_model.specs.Locks.{covers, is_below}
 use Rattle.dconf_model.specs.Paths.{ends_with_slash}
-use Rattle.dconf_model.specs.Stores.{Saying}
+use Rattle.dconf_model.specs.Stores.{Saying, heard}
 use Rattle.dconf_model.specs.Stores.Saying.{silent, unset, sets}
 use Rattle.dconf_changesets.specs.Rows.{LaterCounts, Row, effect_of, is_staying, is_taking, later_word, own_effect, said, said_by, with_row, word_of}
 use Rattle.dconf_changesets.specs.declared.rows.Effect.TheVariants.{Stays, Goes}
@@ -28,7 +28,7 @@ covers_how a b is = elim (or_cases (bytes_eq a b) (ends_with_slash a && is_below
 pub below_cut : (b a : List ℕ) → is_below b a ≡ true → b ≡ a ++ drop (length a) b
 below_cut b a is = (starts_is Decides-eqb b a (is_below b a) refl).0 is
 
-below_from : (b a rest : List ℕ) → b ≡ a ++ rest → is_below b a ≡ true
+pub below_from : (b a rest : List ℕ) → b ≡ a ++ rest → is_below b a ≡ true
 below_from b a rest is = (starts_is Decides-eqb b a (is_below b a) refl).1 rest is
 
 below_twice : (a b c : List ℕ) → is_below b a ≡ true → is_below c b ≡ true → is_below c a ≡ true
@@ -38,7 +38,7 @@ below_twice a b c h k =
     below_from c a (drop (length a) b ++ drop (length b) c)
     (second ∙ (ap (λ (x : List ℕ). x ++ drop (length b) c) first ∙ append_assoc a (drop (length a) b) (drop (length b) c)))
 
-covers_directory : (a b : List ℕ) → ends_with_slash a ≡ true → is_below b a ≡ true → covers a b ≡ true
+pub covers_directory : (a b : List ℕ) → ends_with_slash a ≡ true → is_below b a ≡ true → covers a b ≡ true
 covers_directory a b ends below = or_right (bytes_eq a b) (ends_with_slash a && is_below b a) (and_from (ends_with_slash a) (is_below b a) ends below)
 
 pub covers_twice : (a b c : List ℕ) → covers a b ≡ true → covers b c ≡ true → covers a c ≡ true
@@ -141,3 +141,8 @@ later_counts rows [] key = refl
 later_counts rows (c ∷ more) key =
     later_counts (with_row false rows c) more key
     ∙ (ap (λ w. later_word w (said key more)) (set_said key rows c) ∙ later_assoc (said key rows) (said_by key c) (said key more))
+
+-- a word is heard as the value that it sets
+pub heard_word : (had value : Option Tree) → heard had (word_of value) ≡ value
+heard_word had None = refl
+heard_word had (Some v) = refl

@@ -1,8 +1,11 @@
 -- Where who reads finds the newest word of a key.
-use Rattle.std.specs.Prelude.{◌≡◌, ℕ, zero, suc, ◌-◌, Bool, not, ◌&&◌, List, [], ◌∷◌, ◌++◌, length}
+use Rattle.std.specs.Prelude.{◌≡◌, ◌↔◌, ℕ, zero, suc, ◌-◌, ◌==◌, Bool, true, false, not, ◌&&◌, ◌||◌, if◌then◌else◌, List, [], ◌∷◌, ◌++◌, length}
 use Rattle.dconf_model.specs.Stores.{Saying}
 use Rattle.dconf_model.specs.Stores.Saying.{silent}
 use Rattle.dconf_changesets.specs.Rows.{Row, later_word, said}
+use Rattle.dconf_changesets.specs.declared.asking.LookKnown.{LookKnown}
+use Rattle.dconf_changesets.specs.declared.asking.LookDue.{LookDue}
+use Rattle.dconf_changesets.specs.declared.asking.LookDue.TheVariants.{Nothing, Opens, Looks, Later}
 
 -- The sets that may say it, in the order in which they go over each other: what is being written, what waits, and what is read through, the
 -- first of those first. They are numbered from 1 on, and 0 is the store. The last is asked first.
@@ -35,6 +38,33 @@ TheNewestIsAsked =
 
 -- ---- whether the files are looked at
 
--- What is known of them is what they are: all that happens to them is told to this process, and nothing has been.
-abbrev pub is_current : Bool → Bool → Bool → Bool
-is_current is_watched is_told is_own = is_watched && (not is_told && is_own)
+-- what was seen of them is what they are: all that happens to them is told to this process, nothing has been, and nobody waits for a time
+abbrev pub is_heard : LookKnown → Bool
+is_heard k = k.is_whole && ((k.until == 0) && (not k.is_told && k.is_own))
+
+-- who changes a setting needs no look where they are watched, and who reads one where nothing has been told besides; who only wants the store
+-- needs none
+abbrev pub is_spared : ℕ → LookKnown → Bool
+is_spared looker k = (looker == 3) || (k.is_watched && ((looker == 1) || ((looker == 2) && is_heard k)))
+
+abbrev pub look_due : ℕ → LookKnown → LookDue
+look_due looker k = if not k.is_open then Opens else if is_spared looker k then Nothing else if k.is_busy then Later else Looks
+
+abbrev pub look_number : LookDue → ℕ
+look_number Nothing = 0
+look_number Opens = 1
+look_number Looks = 2
+look_number Later = 3
+
+-- ---- the law
+
+pub record IsGoodLook (looker : ℕ) (k : LookKnown) : Type 0 where
+  -- a store is opened exactly where none is open
+  pub opens : (look_due looker k ≡ Opens) ↔ (k.is_open ≡ false)
+  -- who sees the files goes without a look only while one of them is replaced, and that look is owed
+  pub seen : looker ≡ 0 → k.is_open ≡ true → look_due looker k ≡ (if k.is_busy then Later else Looks)
+  -- who reads goes without one only where what was seen is what they are
+  pub read : looker ≡ 2 → look_due looker k ≡ Nothing → (k.is_watched ≡ true) × (is_heard k ≡ true)
+
+abbrev pub NoLookIsMissed : Type 0
+NoLookIsMissed = (looker : ℕ) (k : LookKnown) → IsGoodLook looker k

@@ -3,3 +3,4 @@ pub mod Differences
 pub mod Above
 pub mod Asking
 pub mod Making
+pub mod Saying

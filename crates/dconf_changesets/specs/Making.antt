@@ -1,12 +1,17 @@
 -- What becomes of a change whose caller waits for it. dconf's "dconf_client_change_sync".
 use Rattle.std.specs.Prelude.{ℕ, zero, suc, ◌≡◌, Bool, true, false, not, ◌&&◌, ◌||◌, if◌then◌else◌, ◌==◌, nat_lt}
 use Rattle.dconf_changesets.specs.declared.making.ChangeKnown.{ChangeKnown}
+use Rattle.dconf_changesets.specs.declared.making.Tried.{Tried}
 use Rattle.dconf_changesets.specs.declared.making.ChangeTask.{ChangeTask}
 use Rattle.dconf_changesets.specs.declared.making.ChangeTask.TheVariants.{Before, Settle, Put, Tell, Made, Refused, Failed}
 
--- all that it asks for is there
-abbrev pub is_all_there : ChangeKnown → Bool
-is_all_there k = k.has_user && k.is_there
+-- there is a user's database that it could be put into
+abbrev pub has_place : ChangeKnown → Bool
+has_place k = k.has_store && k.has_user
+
+-- a store without one takes no change, not even a reset
+abbrev pub closed_by : ChangeKnown → ChangeTask
+closed_by k = if k.has_store then Refused else Failed
 
 abbrev pub begins_with : ChangeKnown → ChangeTask
 begins_with k = if k.is_empty then Made else if k.is_refused then Refused else Before
@@ -26,7 +31,8 @@ tells k = k.is_news && k.is_watched
 abbrev pub change_after : ℕ → Bool → ChangeKnown → ChangeTask
 change_after done is_so k =
     if nat_lt done 1 then begins_with k else if (done == 1 || done == 3) && not is_so then fails_by k else
-    if nat_lt done 2 && is_all_there k then Settle else if nat_lt done 3 && puts done is_so k then Put else
+    if nat_lt done 2 && not (has_place k) then closed_by k else
+    if nat_lt done 2 && k.is_there then Settle else if nat_lt done 3 && puts done is_so k then Put else
     if nat_lt done 4 && tells k then Tell else Made
 
 abbrev pub change_number : ChangeTask → ℕ
@@ -70,12 +76,29 @@ goes_on (suc n) a k task = if is_said task then task else goes_on n a k (change_
 abbrev pub said_at_last : Answers → ChangeKnown → ChangeTask
 said_at_last a k = goes_on 4 a k (change_after 0 true k)
 
--- what it asks for is on the disk, after all that was asked for before it
+-- what it asks for is on the disk
 abbrev pub is_made : Answers → ChangeKnown → Bool
-is_made a k = a.before && ((is_all_there k && a.settled) || (not k.is_left || a.put))
+is_made a k = has_place k && ((k.is_there && a.settled) || (not k.is_left || a.put))
 
--- It is made exactly if all of it is on the disk, after what was asked for before it; and else dconf says why.
+-- It is made exactly if all of it is on the disk, after what was asked for before it; and else dconf says why: it is refused where a key may
+-- not be written, or nothing may.
 abbrev pub MadeMeansOnTheDisk : Type 0
 MadeMeansOnTheDisk =
     (a : Answers) (k : ChangeKnown) →
-    said_at_last a k ≡ (if k.is_empty then Made else if k.is_refused then Refused else if is_made a k then Made else fails_by k)
+    said_at_last a k ≡ (if k.is_empty then Made else if k.is_refused then Refused else if not a.before then fails_by k else
+    if not (has_place k) then closed_by k else if is_made a k then Made else fails_by k)
+
+-- ---- what is told again
+
+-- it is refused or left out, or others have set its path since
+abbrev pub is_unmade : Tried → Bool
+is_unmade t = t.is_refused || (t.is_left_out || (t.is_written && not (t.is_now || t.is_there)))
+
+-- Of an edit that was tried, and isn't told again, all is so, or it goes on waiting.
+pub record IsSo (t : Tried) : Type 0 where
+  pub refused : t.is_refused ≡ false
+  pub left : t.is_left_out ≡ false
+  pub made : t.is_written ≡ true → (t.is_now || t.is_there) ≡ true
+
+abbrev pub WhatIsLostIsToldAgain : Type 0
+WhatIsLostIsToldAgain = (t : Tried) → is_unmade t ≡ false → IsSo t

@@ -1,27 +1,31 @@
 //! What dconf's client does with changes, beside the store: what a set says of each key, by [`effect_of`] and [`shared_within`]; what of a
-//! set makes a difference to a database, by [`differs`]; where the newest word of a key is found, by [`asked_after`]; and what becomes of a
-//! change whose caller waits for it, by [`change_after`].
+//! set makes a difference to a database, by [`differs`]; where the newest word of a key is found, by [`asked_after`]; who looks at the files,
+//! by [`look_due`]; what becomes of a change whose caller waits for it, by [`change_after`]; and what is told, by [`is_said`] and
+//! [`is_unmade`].
 //!
 //! Nothing is kept here: who asks keeps the sets, and does as it is told.
 #![tactic(auto)]
 
 ghost use Rattle.dconf_changesets.specs.Above.{NoDirectoryIsPassedOver};
-ghost use Rattle.dconf_changesets.specs.Asking.{TheNewestIsAsked};
+ghost use Rattle.dconf_changesets.specs.Asking.{NoLookIsMissed, TheNewestIsAsked};
 ghost use Rattle.dconf_changesets.specs.Differences.{KeptIsEnough};
-ghost use Rattle.dconf_changesets.specs.Making.{MadeMeansOnTheDisk};
+ghost use Rattle.dconf_changesets.specs.Making.{MadeMeansOnTheDisk, WhatIsLostIsToldAgain};
 ghost use Rattle.dconf_changesets.specs.Rows.{FoundIsSaid, LaterCounts};
+ghost use Rattle.dconf_changesets.specs.Saying.{TheSameIsSaid};
 
 mod above;
 mod asking;
 mod differences;
 mod making;
 mod rows;
+mod saying;
 
 pub use above::shared_within;
-pub use asking::{asked_after, is_current};
+pub use asking::{LookDue, LookKnown, asked_after, look_due, look_number};
 pub use differences::{Base, differs};
-pub use making::{ChangeKnown, ChangeTask, change_after, change_number};
+pub use making::{ChangeKnown, ChangeTask, Tried, change_after, change_number, is_unmade};
 pub use rows::{Effect, effect_number, effect_of};
+pub use saying::{Said, is_said};
 
 /// After a set of changes was changed by another one, each key's word is the other one's if it has one, and else as before.
 pub fn later_counts()
@@ -38,7 +42,7 @@ pub fn kept_is_enough()
     ensures { KeptIsEnough }
 {}
 
-/// Of the directories in which a path is none is passed over, and what covers a path is the path or one of them.
+/// Of what covers a path none is passed over: it is the path, or one of the directories in which that is.
 pub fn no_directory_is_passed_over()
     ensures { NoDirectoryIsPassedOver }
 {}
@@ -51,4 +55,19 @@ pub fn the_newest_is_asked()
 /// A change whose caller waits for it is made exactly if all of it is on the disk, after what was asked for before it.
 pub fn made_means_on_the_disk()
     ensures { MadeMeansOnTheDisk }
+{}
+
+/// Who reads goes without a look at the files only where what was seen is what they are; and no look is left out for good.
+pub fn no_look_is_missed()
+    ensures { NoLookIsMissed }
+{}
+
+/// Of an edit that was tried to write, and isn't told again, all is so, or it goes on waiting.
+pub fn what_is_lost_is_told_again()
+    ensures { WhatIsLostIsToldAgain }
+{}
+
+/// Each key of a change that says nothing new has its value already, by what is stored and by what waits.
+pub fn the_same_is_said()
+    ensures { TheSameIsSaid }
 {}

@@ -1,6 +1,6 @@
 //! What becomes of a change whose caller waits for it.
 ghost use Rattle.std.specs.Prelude.{◌≡◌};
-ghost use Rattle.dconf_changesets.specs.Making.{begins_with, change_after, change_number, fails_by, is_all_there, puts, tells};
+ghost use Rattle.dconf_changesets.specs.Making.{begins_with, change_after, change_number, closed_by, fails_by, has_place, is_unmade, puts, tells};
 
 /// What comes next, in this order.
 #[derive(Clone, Copy)]
@@ -29,7 +29,9 @@ pub struct ChangeKnown {
     pub is_empty: bool,
     /// It sets a key that may not be written.
     pub is_refused: bool,
-    /// There is a user's database.
+    /// A store is open.
+    pub has_store: bool,
+    /// It has a user's database.
     pub has_user: bool,
     /// That has all that the change asks for.
     pub is_there: bool,
@@ -55,7 +57,10 @@ pub fn change_after(done: u32, is_so: bool, known: &ChangeKnown) -> ChangeTask
     if (done == 1 || done == 3) && !is_so {
         return fails_by(known);
     }
-    if done < 2 && is_all_there(known) {
+    if done < 2 && !has_place(known) {
+        return closed_by(known);
+    }
+    if done < 2 && known.is_there {
         return ChangeTask::Settle;
     }
     if done < 3 && puts(done, is_so, known) {
@@ -104,10 +109,21 @@ fn fails_by(known: &ChangeKnown) -> ChangeTask
     ChangeTask::Failed
 }
 
-fn is_all_there(known: &ChangeKnown) -> bool
-    ensures { result ≡ is_all_there known.now }
+/// Whether there is a user's database that it could be put into.
+fn has_place(known: &ChangeKnown) -> bool
+    ensures { result ≡ has_place known.now }
 {
-    known.has_user && known.is_there
+    known.has_store && known.has_user
+}
+
+/// What is said where there is none: a store without one takes no change, not even a reset.
+fn closed_by(known: &ChangeKnown) -> ChangeTask
+    ensures { result ≡ closed_by known.now }
+{
+    if known.has_store {
+        return ChangeTask::Refused;
+    }
+    ChangeTask::Failed
 }
 
 /// Whether something is to be put: not if all was there, and is on the disk.
@@ -121,4 +137,27 @@ fn tells(known: &ChangeKnown) -> bool
     ensures { result ≡ tells known.now }
 {
     known.is_news && known.is_watched
+}
+
+/// An edit that was tried, and what is known of it.
+#[repr(C)]
+#[derive(Clone, Copy)]
+pub struct Tried {
+    /// All changes are made but for those that are refused.
+    pub is_written: bool,
+    /// Its change is refused.
+    pub is_refused: bool,
+    /// It is left out of its change.
+    pub is_left_out: bool,
+    /// It counts as set when it is made: nobody has set its path since.
+    pub is_now: bool,
+    /// The user has what it says.
+    pub is_there: bool,
+}
+
+/// Whether it is not made, so that whoever was told of it is told again: it is refused or left out, or others have set its path since.
+pub fn is_unmade(edit: &Tried) -> bool
+    ensures { result ≡ is_unmade edit.now }
+{
+    edit.is_refused || (edit.is_left_out || (edit.is_written && !(edit.is_now || edit.is_there)))
 }

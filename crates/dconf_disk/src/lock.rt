@@ -2,7 +2,7 @@
 ghost use Rattle.std.specs.Prelude.{◌≡◌, Some};
 
 use dconf_files::lock_bits;
-use dconf_steps::{LockWait, WaitAnswer, WaitEnd, WaitStep};
+use dconf_waits::{LockWait, WaitAnswer, WaitEnd, WaitStep};
 use std::alloc::{AllocError, Global};
 use std::error::Error;
 use std::fs::{File, Metadata, OpenOptions, Permissions, TryLockError};

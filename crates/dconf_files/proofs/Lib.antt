@@ -1,3 +1,4 @@
 pub mod SameLaws
 pub mod OwnerLaws
 pub mod LockLaws
+pub mod HandingLaws

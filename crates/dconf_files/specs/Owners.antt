@@ -45,11 +45,11 @@ owner_of old above is_root keeps =
     if is_root && keeps && old.is_link then (if old.user == 0 then as_old old keeps else Refused) else
     if is_root && not old.is_read then Again else as_old old keeps
 
--- it is told as a number, and given where there is one
+-- It is told as an errno, and given where there is none: EACCES, or EAGAIN where it is to be read again.
 abbrev pub IsToldOwner : NewOwner → NewFile → ℕ → NewFile → Type 0
 IsToldOwner (Given new) before number given = (number ≡ 0) × (given ≡ new)
-IsToldOwner Refused before number given = (number ≡ 1) × (given ≡ before)
-IsToldOwner Again before number given = (number ≡ 2) × (given ≡ before)
+IsToldOwner Refused before number given = (number ≡ 13) × (given ≡ before)
+IsToldOwner Again before number given = (number ≡ 11) × (given ≡ before)
 
 -- ---- the law
 

@@ -11,6 +11,9 @@ mod numbers;
 mod putting;
 mod states;
 
+/// So many files that were left are kept in a folder's lock.
+pub const MOST_LEFT: usize = 64;
+
 pub use numbers::{name_number, number_of_bytes, value_number};
 pub use putting::with_left;
 pub use states::{LeftState, left_state, state_number};

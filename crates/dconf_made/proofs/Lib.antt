@@ -1,3 +1,4 @@
 mod MadeLaws
 mod LeftLaws
 mod NeedLaws
+mod CourseLaws

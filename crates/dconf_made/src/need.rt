@@ -55,7 +55,7 @@ pub fn need_number(users: u32, changes: &[DconfdbChange<'_>]) -> u32
     }
 }
 
-fn users_of(number: u32) -> Users
+pub(crate) fn users_of(number: u32) -> Users
     ensures { result ≡ users_of number }
 {
     match number {

@@ -19,6 +19,16 @@ ghost use Rattle.dconf_notes.specs.Records.{SaysOneThing};
 mod reading;
 mod writing;
 
+/// A file of notes has no more bytes, and no more of them;
+pub const MOST_BYTES: usize = 1_048_576;
+
+pub const MOST_NOTES: usize = 8192;
+
+/// and of what was set so many, which leave room for that of the turn, and for that of the files that were left.
+pub const MOST_SET_BYTES: usize = 1_044_480;
+
+pub const MOST_SET_NOTES: usize = 8190;
+
 pub use reading::notes_read;
 pub use writing::notes_written;
 

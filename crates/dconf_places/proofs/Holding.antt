@@ -26,10 +26,10 @@ no_variable_counts v w (program folder) e f = (refl, refl)
 no_variable_counts v w (user folder) e f = (refl, unasked v.counted _ _ _ e ∙ sym (unasked w.counted _ _ _ f))
 
 -- a spot whose path is whole, if its base is
-abbrev IsWhole : Spot → Type 0
+abbrev pub IsWhole : Spot → Type 0
 IsWhole spot = (base path : List ℕ) → starts_with_slash base ≡ true → path_at spot base ≡ Some path → starts_with_slash path ≡ true
 
-slash_stays : (x y : List ℕ) → starts_with_slash x ≡ true → starts_with_slash (x ++ y) ≡ true
+pub slash_stays : (x y : List ℕ) → starts_with_slash x ≡ true → starts_with_slash (x ++ y) ≡ true
 slash_stays [] y e = absurd (let bad : false ≡ true = e in cc)
 slash_stays (c ∷ x) y e = e
 
@@ -37,7 +37,7 @@ slash_stays (c ∷ x) y e = e
 whole_by : (begun path : List ℕ) → starts_with_slash begun ≡ true → Some begun ≡ Some path → starts_with_slash path ≡ true
 whole_by begun path e f = let same : begun ≡ path = cc in subst (λ x. starts_with_slash x ≡ true) same e
 
-root_is_whole : (path : List ℕ) → starts_with_slash path ≡ true → IsWhole (in_root path)
+pub root_is_whole : (path : List ℕ) → starts_with_slash path ≡ true → IsWhole (in_root path)
 root_is_whole path e base found b f = whole_by path found e f
 
 current_is_whole : (path : List ℕ) → IsWhole (in_current path)
@@ -47,7 +47,7 @@ if_some : (is : Bool) (text path : List ℕ) → is ≡ true → (if is then Som
 if_some true text path e f = f
 if_some false text path e f = absurd (let bad : false ≡ true = e in cc)
 
-home_is_whole : (path : List ℕ) → IsWhole (in_home path)
+pub home_is_whole : (path : List ℕ) → IsWhole (in_home path)
 home_is_whole path base found b f = whole_by (base ++ (codes "/" ++ path)) found (slash_stays base _ b) (if_some (starts_with_slash base) _ found b f)
 
 nowhere_is_whole : IsWhole nowhere
@@ -61,7 +61,7 @@ spot_is_whole : (path : List ℕ) → IsWhole (spot_of path)
 spot_is_whole path = spot_by (starts_with_slash path) path refl
 
 -- one that is made of a variable, or else another one
-begun_by : (is : Bool) (variable end : List ℕ) (other : Spot) → starts_with_slash variable ≡ is → IsWhole other → IsWhole (if is then in_root (variable ++ end) else other)
+pub begun_by : (is : Bool) (variable end : List ℕ) (other : Spot) → starts_with_slash variable ≡ is → IsWhole other → IsWhole (if is then in_root (variable ++ end) else other)
 begun_by true variable end other e w = root_is_whole (variable ++ end) (slash_stays variable end e)
 begun_by false variable end other e w = w
 
@@ -128,7 +128,7 @@ no_start : (name : List ℕ) → not (has_slash name) ≡ true → starts_with_s
 no_start [] e = refl
 no_start (c ∷ name) e = and_true (eqb 47 c) (either_way (eqb 47 c) c (none_first (c == 47) (has_slash name) e) refl)
 
-else_is : {X : Type 0} (is : Bool) (x y : X) → is ≡ false → (if is then x else y) ≡ y
+pub else_is : {X : Type 0} (is : Bool) (x y : X) → is ≡ false → (if is then x else y) ≡ y
 else_is true x y e = absurd (let bad : true ≡ false = e in cc)
 else_is false x y e = refl
 

@@ -1,3 +1,4 @@
 pub mod Roles
 pub mod Readings
 pub mod Numbers
+pub mod Findings

@@ -1,15 +1,18 @@
 //! As what the files are looked at that a site makes its databases of: by what stands in them, and below a folder NAME.d as `update` reads
-//! them.
+//! them; and what is found wrong there, by what the installed schemas have.
 //!
 //! A path is gone through folder by folder: of each comes the [`Role`] of the files in it. Nothing is opened here.
 #![tactic(auto)]
 
+ghost use Rattle.dconf_roles.specs.Findings.{NoAlarmIsFalse};
 ghost use Rattle.dconf_roles.specs.Roles.{WhatUpdateReadsIsRead};
 
+mod findings;
 mod numbers;
 mod readings;
 mod roles;
 
+pub use findings::{Finding, FindingKnown, finding_number, finding_of};
 pub use numbers::{reading_number, role_number};
 pub use readings::{ReadAs, reading};
 pub use roles::{Role, role_after, role_among};
@@ -17,4 +20,9 @@ pub use roles::{Role, role_after, role_among};
 /// A file in a folder NAME.d, or in its folder `locks`, is a keyfile, or one of locks, if `update` reads it, and else it is hidden.
 pub fn what_update_reads_is_read()
     ensures { WhatUpdateReadsIsRead }
+{}
+
+/// What no schema has is found, unless one without a path may have it; and so is a value that no key takes. Nothing else is.
+pub fn no_alarm_is_false()
+    ensures { NoAlarmIsFalse }
 {}

@@ -1,9 +1,9 @@
 -- What holds of a look at the files, whatever is known.
-use Rattle.std.proofs.Common.{◌≡◌, Bool, true, false, not, refl}
+use Rattle.std.proofs.Common.{◌≡◌, Bool, true, false, not, refl, ap, sym, ◌∙◌}
 use Rattle.std.specs.Prelude.{◌&&◌, ◌||◌, if◌then◌else◌, nat_lt}
 use Rattle.dconf_rounds.specs.declared.glances.Glance.{Glance}
 use Rattle.dconf_rounds.specs.declared.glances.Glance.TheVariants.{Refresh, Open, OpenAgain, Hand, Heed, Watch, Seen, Failed}
-use Rattle.dconf_rounds.specs.Glances.{refreshes, opens, hands, heeds, watches_anew, is_told, NothingNewIsMissed}
+use Rattle.dconf_rounds.specs.Glances.{refreshes, opens, hands, heeds, watches_anew, glance_after, is_told, NothingNewIsMissed}
 
 abbrev begin_by : Bool → Bool → Glance
 begin_by kept opens = if kept then Refresh else if opens then Open else OpenAgain
@@ -52,6 +52,37 @@ kept_by false k o false false true d s = absurd (let bad : Watch ≡ Refresh = s
 kept_by false k o false false false true s = absurd (let bad : Seen ≡ Refresh = s in cc)
 kept_by false k o false false false false s = absurd (let bad : Failed ≡ Refresh = s in cc)
 
+-- ---- who has no turn to look
+
+abbrev barred : Bool → Bool → Bool → Glance
+barred amid soon shown = if not amid then Failed else if soon && not shown then Hand else Seen
+
+handed_by : (a s w : Bool) → is_told (barred a s w) ≡ false → (barred a s w ≡ Hand) × (a ≡ true) × (w ≡ false)
+handed_by false s w e = absurd (let bad : true ≡ false = e in cc)
+handed_by true false w e = absurd (let bad : true ≡ false = e in cc)
+handed_by true true true e = absurd (let bad : true ≡ false = e in cc)
+handed_by true true false e = (refl, refl, refl)
+
+shown_by : (a s w : Bool) → barred a s w ≡ Seen → a ≡ true
+shown_by false s w e = absurd (let bad : Failed ≡ Seen = e in cc)
+shown_by true s w e = refl
+
+later_by : (a s w : Bool) → barred a s w ≡ Failed → a ≡ false
+later_by false s w e = refl
+later_by true false w e = absurd (let bad : Seen ≡ Failed = e in cc)
+later_by true true true e = absurd (let bad : Seen ≡ Failed = e in cc)
+later_by true true false e = absurd (let bad : Hand ≡ Failed = e in cc)
+
+free : (b : Bool) (x y : Glance) → b ≡ false → (if b then x else y) ≡ y
+free true x y e = absurd (let bad : true ≡ false = e in cc)
+free false x y e = refl
+
+held : (b : Bool) (x y : Glance) → b ≡ true → (if b then x else y) ≡ x
+held true x y e = refl
+held false x y e = absurd (let bad : false ≡ true = e in cc)
+
+-- ---- the law
+
 pub nothing_new_is_missed : NothingNewIsMissed
 nothing_new_is_missed done k =
     let b : Bool = nat_lt done 1 in
@@ -59,9 +90,19 @@ nothing_new_is_missed done k =
     let h : Bool = nat_lt done 4 && hands k in
     let e : Bool = nat_lt done 5 && heeds k in
     let w : Bool = nat_lt done 6 && watches_anew k in
+    let s : Bool = nat_lt done 4 in
+    let mine : Glance = by b (refreshes k) o h e w k.is_done in
+    let other : Glance = barred k.is_amid s k.is_shown in
+    let is_mine : k.is_barred ≡ false → glance_after done k ≡ mine = free k.is_barred other mine in
+    let is_other : k.is_barred ≡ true → glance_after done k ≡ other = held k.is_barred other mine in
     record {
-      over = over_by b (refreshes k) o h e w k.is_done;
-      seen = seen_by b (refreshes k) o h e w k.is_done;
-      failed = failed_by b (refreshes k) o h e w k.is_done;
-      kept = kept_by b (refreshes k) o h e w k.is_done;
+      over = λ f. ap is_told (is_mine f) ∙ over_by b (refreshes k) o h e w k.is_done;
+      seen = λ f s. seen_by b (refreshes k) o h e w k.is_done (sym (is_mine f) ∙ s);
+      failed = λ f s. failed_by b (refreshes k) o h e w k.is_done (sym (is_mine f) ∙ s);
+      kept = λ f s. kept_by b (refreshes k) o h e w k.is_done (sym (is_mine f) ∙ s);
+      handed = λ t n.
+          let by_it : (other ≡ Hand) × (k.is_amid ≡ true) × (k.is_shown ≡ false) = handed_by k.is_amid s k.is_shown (sym (ap is_told (is_other t)) ∙ n) in
+          (is_other t ∙ by_it.0, by_it.1, by_it.2);
+      shown = λ t n. shown_by k.is_amid s k.is_shown (sym (is_other t) ∙ n);
+      later = λ t n. later_by k.is_amid s k.is_shown (sym (is_other t) ∙ n);
     }

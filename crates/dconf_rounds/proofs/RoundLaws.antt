@@ -2,12 +2,12 @@
 use Rattle.std.proofs.Common.{ℕ, ◌≡◌, Bool, true, false, not, refl, sym, ◌∙◌}
 use Rattle.std.specs.Prelude.{◌&&◌, ◌||◌, if◌then◌else◌, nat_lt}
 use Rattle.dconf_rounds.specs.declared.rounds.Task.{Task}
-use Rattle.dconf_rounds.specs.declared.rounds.Task.TheVariants.{Tell, Watch, Look, Write, Leave, Rest, End, GiveUp}
-use Rattle.dconf_rounds.specs.Rounds.{watches, looks_first, writes, leaves, is_left, has_failed, task_number, is_over, NothingDueIsPassedOver}
+use Rattle.dconf_rounds.specs.declared.rounds.Task.TheVariants.{Tell, Watch, Look, Take, Write, Leave, Rest, End, GiveUp}
+use Rattle.dconf_rounds.specs.Rounds.{watches, looks_first, takes, writes, leaves, is_left, has_failed, task_number, is_over, NothingDueIsPassedOver}
 
-abbrev by : Bool → Bool → Bool → Bool → Bool → Task → Task
-by tells watched looked wrote left end =
-    if tells then Tell else if watched then Watch else if looked then Look else if wrote then Write else if left then Leave else end
+abbrev by : Bool → Bool → Bool → Bool → Bool → Bool → Task → Task
+by tells watched looked took wrote left end =
+    if tells then Tell else if watched then Watch else if looked then Look else if took then Take else if wrote then Write else if left then Leave else end
 
 abbrev ends_by : Bool → Bool → Bool → Bool → Task
 ends_by ends waits left failed = if not ends then Rest else if not waits && not left then End else if not failed then Rest else if waits then GiveUp else End
@@ -44,51 +44,78 @@ ended true true left true e = absurd (let bad : GiveUp ≡ End = e in cc)
 
 -- ---- a task
 
-over_by : (a b l c d : Bool) (end : Task) → is_over end ≡ true → is_over (by a b l c d end) ≡ not (a || (b || (l || (c || d))))
-over_by true b l c d end e = refl
-over_by false true l c d end e = refl
-over_by false false true c d end e = refl
-over_by false false false true d end e = refl
-over_by false false false false true end e = refl
-over_by false false false false false end e = e
+over_by : (a b l t c d : Bool) (end : Task) → is_over end ≡ true → is_over (by a b l t c d end) ≡ not (a || (b || (l || (t || (c || d)))))
+over_by true b l t c d end e = refl
+over_by false true l t c d end e = refl
+over_by false false true t c d end e = refl
+over_by false false false true c d end e = refl
+over_by false false false false true d end e = refl
+over_by false false false false false true end e = refl
+over_by false false false false false false end e = e
 
-forward_by : (done : ℕ) (a b l c d : Bool) (end : Task) → (a ≡ true → nat_lt done 1 ≡ true) → (b ≡ true → nat_lt done 2 ≡ true)
-    → (l ≡ true → nat_lt done 3 ≡ true) → (c ≡ true → nat_lt done 4 ≡ true) → (d ≡ true → nat_lt done 5 ≡ true) → is_over end ≡ true
-    → is_over (by a b l c d end) ≡ false → nat_lt done (task_number (by a b l c d end)) ≡ true
-forward_by done true b l c d end p q t r s o e = p refl
-forward_by done false true l c d end p q t r s o e = q refl
-forward_by done false false true c d end p q t r s o e = t refl
-forward_by done false false false true d end p q t r s o e = r refl
-forward_by done false false false false true end p q t r s o e = s refl
-forward_by done false false false false false end p q t r s o e = absurd (let bad : true ≡ false = sym o ∙ e in cc)
+forward_by : (done : ℕ) (a b l t c d : Bool) (end : Task) → (a ≡ true → nat_lt done 1 ≡ true) → (b ≡ true → nat_lt done 2 ≡ true)
+    → (l ≡ true → nat_lt done 3 ≡ true) → (t ≡ true → nat_lt done 4 ≡ true) → (c ≡ true → nat_lt done 5 ≡ true) → (d ≡ true → nat_lt done 6 ≡ true) → is_over end ≡ true
+    → is_over (by a b l t c d end) ≡ false → nat_lt done (task_number (by a b l t c d end)) ≡ true
+forward_by done true b l t c d end p q r s u v o e = p refl
+forward_by done false true l t c d end p q r s u v o e = q refl
+forward_by done false false true t c d end p q r s u v o e = r refl
+forward_by done false false false true c d end p q r s u v o e = s refl
+forward_by done false false false false true d end p q r s u v o e = u refl
+forward_by done false false false false false true end p q r s u v o e = v refl
+forward_by done false false false false false false end p q r s u v o e = absurd (let bad : true ≡ false = sym o ∙ e in cc)
 
-lives_by : (a b l c d : Bool) (end : Task) → end ≡ Rest → is_over (by a b l c d end) ≡ true → by a b l c d end ≡ Rest
-lives_by true b l c d end r e = absurd (let bad : false ≡ true = e in cc)
-lives_by false true l c d end r e = absurd (let bad : false ≡ true = e in cc)
-lives_by false false true c d end r e = absurd (let bad : false ≡ true = e in cc)
-lives_by false false false true d end r e = absurd (let bad : false ≡ true = e in cc)
-lives_by false false false false true end r e = absurd (let bad : false ≡ true = e in cc)
-lives_by false false false false false end r e = r
+lives_by : (a b l t c d : Bool) (end : Task) → end ≡ Rest → is_over (by a b l t c d end) ≡ true → by a b l t c d end ≡ Rest
+lives_by true b l t c d end r e = absurd (let bad : false ≡ true = e in cc)
+lives_by false true l t c d end r e = absurd (let bad : false ≡ true = e in cc)
+lives_by false false true t c d end r e = absurd (let bad : false ≡ true = e in cc)
+lives_by false false false true c d end r e = absurd (let bad : false ≡ true = e in cc)
+lives_by false false false false true d end r e = absurd (let bad : false ≡ true = e in cc)
+lives_by false false false false false true end r e = absurd (let bad : false ≡ true = e in cc)
+lives_by false false false false false false end r e = r
 
-give_up_is_the_end : (a b l c d : Bool) (end : Task) → by a b l c d end ≡ GiveUp → end ≡ GiveUp
-give_up_is_the_end true b l c d end e = absurd (let bad : Tell ≡ GiveUp = e in cc)
-give_up_is_the_end false true l c d end e = absurd (let bad : Watch ≡ GiveUp = e in cc)
-give_up_is_the_end false false true c d end e = absurd (let bad : Look ≡ GiveUp = e in cc)
-give_up_is_the_end false false false true d end e = absurd (let bad : Write ≡ GiveUp = e in cc)
-give_up_is_the_end false false false false true end e = absurd (let bad : Leave ≡ GiveUp = e in cc)
-give_up_is_the_end false false false false false end e = e
+give_up_is_the_end : (a b l t c d : Bool) (end : Task) → by a b l t c d end ≡ GiveUp → end ≡ GiveUp
+give_up_is_the_end true b l t c d end e = absurd (let bad : Tell ≡ GiveUp = e in cc)
+give_up_is_the_end false true l t c d end e = absurd (let bad : Watch ≡ GiveUp = e in cc)
+give_up_is_the_end false false true t c d end e = absurd (let bad : Look ≡ GiveUp = e in cc)
+give_up_is_the_end false false false true c d end e = absurd (let bad : Take ≡ GiveUp = e in cc)
+give_up_is_the_end false false false false true d end e = absurd (let bad : Write ≡ GiveUp = e in cc)
+give_up_is_the_end false false false false false true end e = absurd (let bad : Leave ≡ GiveUp = e in cc)
+give_up_is_the_end false false false false false false end e = e
 
-end_is_the_end : (a b l c d : Bool) (end : Task) → by a b l c d end ≡ End → end ≡ End
-end_is_the_end true b l c d end e = absurd (let bad : Tell ≡ End = e in cc)
-end_is_the_end false true l c d end e = absurd (let bad : Watch ≡ End = e in cc)
-end_is_the_end false false true c d end e = absurd (let bad : Look ≡ End = e in cc)
-end_is_the_end false false false true d end e = absurd (let bad : Write ≡ End = e in cc)
-end_is_the_end false false false false true end e = absurd (let bad : Leave ≡ End = e in cc)
-end_is_the_end false false false false false end e = e
+end_is_the_end : (a b l t c d : Bool) (end : Task) → by a b l t c d end ≡ End → end ≡ End
+end_is_the_end true b l t c d end e = absurd (let bad : Tell ≡ End = e in cc)
+end_is_the_end false true l t c d end e = absurd (let bad : Watch ≡ End = e in cc)
+end_is_the_end false false true t c d end e = absurd (let bad : Look ≡ End = e in cc)
+end_is_the_end false false false true c d end e = absurd (let bad : Take ≡ End = e in cc)
+end_is_the_end false false false false true d end e = absurd (let bad : Write ≡ End = e in cc)
+end_is_the_end false false false false false true end e = absurd (let bad : Leave ≡ End = e in cc)
+end_is_the_end false false false false false false end e = e
+
+-- no round ends in a write
+no_write : (ends waits left failed : Bool) → ends_by ends waits left failed ≡ Write → ⊥
+no_write false waits left failed e = let bad : Rest ≡ Write = e in cc
+no_write true false false failed e = let bad : End ≡ Write = e in cc
+no_write true false true false e = let bad : Rest ≡ Write = e in cc
+no_write true false true true e = let bad : End ≡ Write = e in cc
+no_write true true left false e = let bad : Rest ≡ Write = e in cc
+no_write true true left true e = let bad : GiveUp ≡ Write = e in cc
+
+write_is_due : (a b l t c d : Bool) (end : Task) → (end ≡ Write → ⊥) → by a b l t c d end ≡ Write → c ≡ true
+write_is_due true b l t c d end n e = absurd (let bad : Tell ≡ Write = e in cc)
+write_is_due false true l t c d end n e = absurd (let bad : Watch ≡ Write = e in cc)
+write_is_due false false true t c d end n e = absurd (let bad : Look ≡ Write = e in cc)
+write_is_due false false false true c d end n e = absurd (let bad : Take ≡ Write = e in cc)
+write_is_due false false false false true d end n e = refl
+write_is_due false false false false false true end n e = absurd (let bad : Leave ≡ Write = e in cc)
+write_is_due false false false false false false end n e = absurd (n e)
 
 and_left : (a b : Bool) → a && b ≡ true → a ≡ true
 and_left true b e = refl
 and_left false b e = e
+
+and_right : (a b : Bool) → a && b ≡ true → b ≡ true
+and_right true b e = e
+and_right false b e = absurd (let bad : false ≡ true = e in cc)
 
 -- ---- the law
 
@@ -97,15 +124,21 @@ nothing_due_is_passed_over done k =
     let a : Bool = nat_lt done 1 && k.has_untold in
     let b : Bool = nat_lt done 2 && watches k in
     let l : Bool = nat_lt done 3 && looks_first k in
-    let c : Bool = nat_lt done 4 && writes k in
-    let d : Bool = nat_lt done 5 && leaves k in
+    let t : Bool = nat_lt done 4 && takes k in
+    let c : Bool = nat_lt done 5 && writes k in
+    let d : Bool = nat_lt done 6 && leaves k in
     let end : Task = ends_by k.ends k.waits (is_left k) (has_failed k) in
     let over : is_over end ≡ true = end_is_over k.ends k.waits (is_left k) (has_failed k) in
     record {
-      over = over_by a b l c d end over;
-      forward = forward_by done a b l c d end (and_left (nat_lt done 1) k.has_untold) (and_left (nat_lt done 2) (watches k))
-          (and_left (nat_lt done 3) (looks_first k)) (and_left (nat_lt done 4) (writes k)) (and_left (nat_lt done 5) (leaves k)) over;
-      lives = λ e. lives_by a b l c d end (rests k.ends k.waits (is_left k) (has_failed k) e);
-      gives_up = λ e. given_up k.ends k.waits (is_left k) (has_failed k) (give_up_is_the_end a b l c d end e);
-      ends = λ e. ended k.ends k.waits (is_left k) (has_failed k) (end_is_the_end a b l c d end e);
+      over = over_by a b l t c d end over;
+      forward = forward_by done a b l t c d end (and_left (nat_lt done 1) k.has_untold) (and_left (nat_lt done 2) (watches k))
+          (and_left (nat_lt done 3) (looks_first k)) (and_left (nat_lt done 4) (takes k)) (and_left (nat_lt done 5) (writes k))
+          (and_left (nat_lt done 6) (leaves k)) over;
+      turn = λ e.
+          let due : c ≡ true = write_is_due a b l t c d end (no_write k.ends k.waits (is_left k) (has_failed k)) e in
+          let both : writes k ≡ true = and_right (nat_lt done 5) (writes k) due in
+          (and_left k.waits k.has_turn both, and_right k.waits k.has_turn both);
+      lives = λ e. lives_by a b l t c d end (rests k.ends k.waits (is_left k) (has_failed k) e);
+      gives_up = λ e. given_up k.ends k.waits (is_left k) (has_failed k) (give_up_is_the_end a b l t c d end e);
+      ends = λ e. ended k.ends k.waits (is_left k) (has_failed k) (end_is_the_end a b l t c d end e);
     }

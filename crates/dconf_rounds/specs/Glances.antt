@@ -33,9 +33,13 @@ watches_anew k = k.is_done && (opens k || (not (refreshes k) && not k.has_same_f
 
 -- ---- what comes next, once the first tasks were done, or were not due
 
+-- while another thread has the turn nobody looks: what that one has seen is the newest, if it changes the files
+abbrev pub after_barred : ℕ → GlanceKnown → Glance
+after_barred done k = if not k.is_amid then Failed else if nat_lt done 4 && not k.is_shown then Hand else Seen
+
 abbrev pub glance_after : ℕ → GlanceKnown → Glance
 glance_after done k =
-    if nat_lt done 1 then begins_with k else if nat_lt done 4 && hands k then Hand else if nat_lt done 5 && heeds k then Heed else
+    if k.is_barred then after_barred done k else if nat_lt done 1 then begins_with k else if nat_lt done 4 && hands k then Hand else if nat_lt done 5 && heeds k then Heed else
     if nat_lt done 6 && watches_anew k then Watch else if k.is_done then Seen else Failed
 
 abbrev pub glance_number : Glance → ℕ
@@ -61,12 +65,16 @@ is_wanted done k = nat_lt done 1 || ((nat_lt done 4 && hands k) || ((nat_lt done
 
 pub record IsGoodGlance (done : ℕ) (k : GlanceKnown) : Type 0 where
   -- it is over exactly if nothing is due: what others changed while changes waited is heeded
-  pub over : is_told (glance_after done k) ≡ not (is_wanted done k)
+  pub over : k.is_barred ≡ false → is_told (glance_after done k) ≡ not (is_wanted done k)
   -- it has succeeded exactly if the files were read
-  pub seen : glance_after done k ≡ Seen → k.is_done ≡ true
-  pub failed : glance_after done k ≡ Failed → k.is_done ≡ false
+  pub seen : k.is_barred ≡ false → glance_after done k ≡ Seen → k.is_done ≡ true
+  pub failed : k.is_barred ≡ false → glance_after done k ≡ Failed → k.is_done ≡ false
   -- the store is kept only while both profiles are the ones that were read, for sure
-  pub kept : glance_after done k ≡ Refresh → refreshes k ≡ true
+  pub kept : k.is_barred ≡ false → glance_after done k ≡ Refresh → refreshes k ≡ true
+  -- who has no turn to look hands out what another thread has seen in its own, and nothing else: it succeeds exactly if there is that
+  pub handed : k.is_barred ≡ true → is_told (glance_after done k) ≡ false → (glance_after done k ≡ Hand) × (k.is_amid ≡ true) × (k.is_shown ≡ false)
+  pub shown : k.is_barred ≡ true → glance_after done k ≡ Seen → k.is_amid ≡ true
+  pub later : k.is_barred ≡ true → glance_after done k ≡ Failed → k.is_amid ≡ false
 
 abbrev pub NothingNewIsMissed : Type 0
 NothingNewIsMissed = (done : ℕ) (k : GlanceKnown) → IsGoodGlance done k

@@ -2,7 +2,7 @@
 use Rattle.std.specs.Prelude.{ℕ, ◌≡◌, Bool, true, false, not, ◌&&◌, ◌||◌, if◌then◌else◌, ◌==◌, nat_lt, nat_le}
 use Rattle.dconf_rounds.specs.declared.rounds.Known.{Known}
 use Rattle.dconf_rounds.specs.declared.rounds.Task.{Task}
-use Rattle.dconf_rounds.specs.declared.rounds.Task.TheVariants.{Tell, Watch, Look, Write, Leave, Rest, End, GiveUp}
+use Rattle.dconf_rounds.specs.declared.rounds.Task.TheVariants.{Tell, Watch, Look, Take, Write, Leave, Rest, End, GiveUp}
 
 -- it has not ended, and is in the process that began it
 abbrev pub is_at_work : Bool → ℕ → ℕ → Bool
@@ -14,12 +14,16 @@ abbrev pub watches : Known → Bool
 watches k = k.is_to_watch && not k.ends
 
 -- something waits; and it is in line already, or asked for, or its moment has come
-abbrev pub writes : Known → Bool
-writes k = k.waits && (k.is_in_line || (k.is_asked || nat_le k.again k.moment))
+abbrev pub takes : Known → Bool
+takes k = k.waits && (k.is_in_line || (k.is_asked || nat_le k.again k.moment))
 
 -- before a write, unless the newest files are known
 abbrev pub looks_first : Known → Bool
-looks_first k = writes k && (k.asks || not k.is_watched)
+looks_first k = takes k && (k.asks || not k.is_watched)
+
+-- something waits, and its turn has come
+abbrev pub writes : Known → Bool
+writes k = k.waits && k.has_turn
 
 -- nothing waits, but it is in line, or was to try again
 abbrev pub leaves : Known → Bool
@@ -43,17 +47,19 @@ ending k = if not k.ends then Rest else if not k.waits && not (is_left k) then E
 abbrev pub task_after : ℕ → Known → Task
 task_after done k =
     if nat_lt done 1 && k.has_untold then Tell else if nat_lt done 2 && watches k then Watch else
-    if nat_lt done 3 && looks_first k then Look else if nat_lt done 4 && writes k then Write else if nat_lt done 5 && leaves k then Leave else ending k
+    if nat_lt done 3 && looks_first k then Look else if nat_lt done 4 && takes k then Take else
+    if nat_lt done 5 && writes k then Write else if nat_lt done 6 && leaves k then Leave else ending k
 
 abbrev pub task_number : Task → ℕ
 task_number Tell = 1
 task_number Watch = 2
 task_number Look = 3
-task_number Write = 4
-task_number Leave = 5
-task_number Rest = 6
-task_number End = 7
-task_number GiveUp = 8
+task_number Take = 4
+task_number Write = 5
+task_number Leave = 6
+task_number Rest = 7
+task_number End = 8
+task_number GiveUp = 9
 
 -- ---- the law
 
@@ -61,12 +67,13 @@ task_number GiveUp = 8
 abbrev pub is_owed : ℕ → Known → Bool
 is_owed done k =
     (nat_lt done 1 && k.has_untold) || ((nat_lt done 2 && watches k) ||
-    ((nat_lt done 3 && looks_first k) || ((nat_lt done 4 && writes k) || (nat_lt done 5 && leaves k))))
+    ((nat_lt done 3 && looks_first k) || ((nat_lt done 4 && takes k) || ((nat_lt done 5 && writes k) || (nat_lt done 6 && leaves k)))))
 
 abbrev pub is_over : Task → Bool
 is_over Tell = false
 is_over Watch = false
 is_over Look = false
+is_over Take = false
 is_over Write = false
 is_over Leave = false
 is_over Rest = true
@@ -78,6 +85,8 @@ pub record IsGoodRound (done : ℕ) (k : Known) : Type 0 where
   pub over : is_over (task_after done k) ≡ not (is_owed done k)
   -- each task comes once, and those before it don't come after it
   pub forward : is_over (task_after done k) ≡ false → nat_lt done (task_number (task_after done k)) ≡ true
+  -- nothing is written before its turn has come
+  pub turn : task_after done k ≡ Write → (k.waits ≡ true) × (k.has_turn ≡ true)
   -- while the program goes on, so does the thread
   pub lives : k.ends ≡ false → is_over (task_after done k) ≡ true → task_after done k ≡ Rest
   -- what waits is given up only at the program's end, after a later try has failed

@@ -1,5 +1,7 @@
 -- Who is told that something is seen otherwise than before, path by path.
 use Rattle.std.specs.Prelude.{ℕ, ◌≡◌, ◌<◌, Bool, true, false, not, ◌&&◌, ◌||◌, if◌then◌else◌, ◌==◌, nat_lt}
+use Rattle.dconf_seen.specs.declared.seen.Word.{Word}
+use Rattle.dconf_seen.specs.Reading.{found_by, found_number}
 use Rattle.dconf_rounds.specs.declared.telling.TellKnown.{TellKnown}
 use Rattle.dconf_rounds.specs.declared.telling.Telling.{Telling}
 use Rattle.dconf_rounds.specs.declared.telling.Telling.TheVariants.{Nothing, Take, TellAndTake, Tell, All}
@@ -20,6 +22,13 @@ telling_number Take = 1
 telling_number TellAndTake = 2
 telling_number Tell = 3
 telling_number All = 4
+
+-- ---- which keys are asked for by their type
+
+-- who asks for a type finds the setting elsewhere than who asks for any
+abbrev pub passes_over : Word → Bool → Bool → Bool → Bool → Bool
+passes_over word writable may edit stored =
+    not (found_number (found_by false false word writable may edit stored) == found_number (found_by false false word writable may true true))
 
 -- ---- the law
 

@@ -1,6 +1,6 @@
 //! What whoever looks at the files of a store does next.
 ghost use Rattle.std.specs.Prelude.{◌≡◌};
-ghost use Rattle.dconf_rounds.specs.Glances.{begins_with, glance_after, glance_number, hands, heeds, is_another, opens, refreshes, watches_anew};
+ghost use Rattle.dconf_rounds.specs.Glances.{after_barred, begins_with, glance_after, glance_number, hands, heeds, is_another, opens, refreshes, watches_anew};
 
 /// What comes next, in this order; of the first three, one does.
 #[derive(Clone, Copy)]
@@ -41,12 +41,19 @@ pub struct GlanceKnown {
     pub waits: bool,
     /// The store that was opened has the files of the one before.
     pub has_same_files: bool,
+    /// Another thread has the turn to look.
+    pub is_barred: bool,
+    /// That one changes the files: it has read them in its turn, and nobody else changes them until it has written.
+    pub is_amid: bool,
 }
 
 /// What comes next, once the first `done` tasks were done, or were not due.
 pub fn glance_after(done: u32, known: &GlanceKnown) -> Glance
     ensures { result ≡ glance_after done known.now }
 {
+    if known.is_barred {
+        return after_barred(done, known);
+    }
     if done < 1 {
         return begins_with(known);
     }
@@ -79,6 +86,19 @@ pub fn glance_number(done: u32, known: &GlanceKnown) -> u32
         Glance::Seen => 7,
         Glance::Failed => 8,
     }
+}
+
+/// The same of who can't look: what another thread has seen is as new, if that changes the files.
+fn after_barred(done: u32, known: &GlanceKnown) -> Glance
+    ensures { result ≡ after_barred done known.now }
+{
+    if !known.is_amid {
+        return Glance::Failed;
+    }
+    if done < 4 && !known.is_shown {
+        return Glance::Hand;
+    }
+    Glance::Seen
 }
 
 fn begins_with(known: &GlanceKnown) -> Glance

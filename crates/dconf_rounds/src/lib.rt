@@ -17,9 +17,9 @@ mod telling;
 pub use glances::{Glance, GlanceKnown, glance_after, glance_number};
 pub use rounds::{Known, Task, is_at_work, task_after, task_number};
 pub use syncs::{SyncKnown, SyncTask, sync_after, sync_number};
-pub use telling::{TellKnown, Telling, tell_next, telling_number};
+pub use telling::{TellKnown, Telling, passes_over, tell_next, telling_number};
 
-/// The thread does all that is due before it rests, in one order, and each once. It gives up what waits only at the program's end, after
+/// The thread does all that is due before it rests, in one order, and each once. It writes once its turn has come. It gives up what waits only at the program's end, after
 /// one more try has failed by a fault that lasts; and else it ends with nothing that waits.
 pub fn nothing_due_is_passed_over()
     ensures { NothingDueIsPassedOver }
@@ -33,7 +33,7 @@ pub fn yes_means_all_is_there()
 
 /// A look at the files keeps a store open only while both profiles are the ones that were read, for sure. It does all that is due before it
 /// is over: what is new is handed out, what others changed while changes waited is heeded, and the files of a store that was opened
-/// are watched.
+/// are watched. Who can't look while another thread changes the files hands out what that one has seen.
 pub fn nothing_new_is_missed()
     ensures { NothingNewIsMissed }
 {}

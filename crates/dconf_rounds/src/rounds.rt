@@ -1,6 +1,6 @@
 //! What the thread does next that writes what waits, tells, and watches the files. All moments are of one clock; 0 is none.
 ghost use Rattle.std.specs.Prelude.{◌≡◌};
-ghost use Rattle.dconf_rounds.specs.Rounds.{ending, has_failed, is_at_work, is_left, leaves, looks_first, task_after, task_number, watches, writes};
+ghost use Rattle.dconf_rounds.specs.Rounds.{ending, has_failed, is_at_work, is_left, leaves, looks_first, takes, task_after, task_number, watches, writes};
 
 /// A task of a round, in the order in which they come.
 #[derive(Clone, Copy)]
@@ -11,7 +11,9 @@ pub enum Task {
     Watch,
     /// Looks at the files before it writes: what is there already needs no turn.
     Look,
-    /// Writes what waits, or goes on waiting for its turn.
+    /// Takes its turn to write, or goes on waiting for it.
+    Take,
+    /// Writes what waits.
     Write,
     /// Nothing waits any longer: leaves the line for the turn, and forgets when it was to try again.
     Leave,
@@ -42,6 +44,8 @@ pub struct Known {
     pub waits: bool,
     /// It is in line for its turn to write.
     pub is_in_line: bool,
+    /// It has it, or waited for it in vain.
+    pub has_turn: bool,
     pub has_untold: bool,
     /// Somebody wants to be told of what others change.
     pub is_to_watch: bool,
@@ -74,16 +78,19 @@ pub fn task_after(done: u32, known: &Known) -> Task
     if done < 3 && looks_first(known) {
         return Task::Look;
     }
-    if done < 4 && writes(known) {
+    if done < 4 && takes(known) {
+        return Task::Take;
+    }
+    if done < 5 && writes(known) {
         return Task::Write;
     }
-    if done < 5 && leaves(known) {
+    if done < 6 && leaves(known) {
         return Task::Leave;
     }
     ending(known)
 }
 
-/// The same as a number: 1 tell, 2 watch, 3 look, 4 write, 5 leave, 6 rest, 7 end, 8 give up.
+/// The same as a number: 1 tell, 2 watch, 3 look, 4 take, 5 write, 6 leave, 7 rest, 8 end, 9 give up.
 pub fn task_number(done: u32, known: &Known) -> u32
     ensures { result ≡ task_number (task_after done known.now) }
 {
@@ -91,11 +98,12 @@ pub fn task_number(done: u32, known: &Known) -> u32
         Task::Tell => 1,
         Task::Watch => 2,
         Task::Look => 3,
-        Task::Write => 4,
-        Task::Leave => 5,
-        Task::Rest => 6,
-        Task::End => 7,
-        Task::GiveUp => 8,
+        Task::Take => 4,
+        Task::Write => 5,
+        Task::Leave => 6,
+        Task::Rest => 7,
+        Task::End => 8,
+        Task::GiveUp => 9,
     }
 }
 
@@ -109,14 +117,20 @@ fn watches(known: &Known) -> bool
 fn looks_first(known: &Known) -> bool
     ensures { result ≡ looks_first known.now }
 {
-    writes(known) && (known.asks || !known.is_watched)
+    takes(known) && (known.asks || !known.is_watched)
 }
 
 /// Something waits; and it is in line already, or asked for, or its moment has come.
+fn takes(known: &Known) -> bool
+    ensures { result ≡ takes known.now }
+{
+    known.waits && (known.is_in_line || (known.is_asked || known.again <= known.moment))
+}
+
 fn writes(known: &Known) -> bool
     ensures { result ≡ writes known.now }
 {
-    known.waits && (known.is_in_line || (known.is_asked || known.again <= known.moment))
+    known.waits && known.has_turn
 }
 
 fn leaves(known: &Known) -> bool

@@ -1,6 +1,9 @@
 //! Who is told that something is seen otherwise than before, path by path.
 ghost use Rattle.std.specs.Prelude.{◌≡◌};
-ghost use Rattle.dconf_rounds.specs.Telling.{is_silent, tell_next, telling_number};
+ghost use Rattle.dconf_seen.specs.Reading.{known_word};
+ghost use Rattle.dconf_rounds.specs.Telling.{is_silent, passes_over, tell_next, telling_number};
+
+use dconf_seen::{Known, found_by, found_number};
 
 /// What has a notice ends the program where there are more keys of a schema in one.
 const MOST_KEYS: usize = 255;
@@ -85,4 +88,17 @@ fn is_silent(known: &TellKnown) -> bool
     ensures { result ≡ is_silent known.now }
 {
     known.is_first || (known.ends || !(known.is_other || known.has_edits))
+}
+
+/// Whether a value of another type was passed over when a setting was read: who asks for any type finds it elsewhere. What is seen of the key
+/// then changes with its default, of which nobody else is told: so it is asked for by its type.
+pub fn passes_over(known: &Known) -> bool
+    ensures { result ≡ passes_over (known_word known.now) known.now.writable known.now.may_write known.now.edit_fits known.now.stored_fits }
+{
+    let of_any = Known {
+        edit_fits: true,
+        stored_fits: true,
+        ..*known
+    };
+    found_number(found_by(false, false, *known)) != found_number(found_by(false, false, of_any))
 }

@@ -1,4 +1,3 @@
-pub mod WaitProofs
 pub mod LookProofs
 pub mod EditLaws
 pub mod QueueProofs

@@ -15,10 +15,6 @@ use Rattle.dconf_steps.specs.declared.refresh.Refresh.{Refresh}
 use Rattle.dconf_steps.specs.declared.refresh.LookEnd.TheVariants.{Newer}
 use Rattle.dconf_steps.specs.declared.refresh.LookStep.TheVariants.{Stat, Read, Compare, Keep, Open, Done}
 use Rattle.dconf_steps.specs.declared.refresh.LookStep.{LookStep}
-use Rattle.dconf_steps.specs.declared.wait.LockWait.{LockWait}
-use Rattle.dconf_steps.specs.declared.wait.WaitEnd.TheVariants.{Had, Busy}
-use Rattle.dconf_steps.specs.declared.wait.WaitStep.TheVariants as wait
-use Rattle.dconf_steps.specs.declared.wait.WaitAnswer.TheVariants.{Taken, Got}
 use Rattle.dconf_steps.specs.Notices.{notice_step}
 use Rattle.dconf_steps.specs.NoticeLaws.{NoticeMoment, Noticed, IsToLook, IsSoon, IsGoodNotice}
 use Rattle.dconf_steps.specs.NoticeLaws.NoticeMoment.{tells, answers}
@@ -26,8 +22,6 @@ use Rattle.dconf_steps.specs.Queues.{queue_step}
 use Rattle.dconf_steps.specs.QueueLaws.{IsGoodQueue, TakenStep}
 use Rattle.dconf_steps.specs.Looks.{look_step}
 use Rattle.dconf_steps.specs.RefreshLaws.{Looked, IsGoodLook}
-use Rattle.dconf_steps.specs.Waits.{wait_step}
-use Rattle.dconf_steps.specs.WaitLaws.{IsGoodWait}
 
 abbrev numbers_differ : ℕ → ℕ → Type 0
 numbers_differ a b = a ≡ b → ⊥
@@ -102,16 +96,6 @@ unread_in_turn u g = g.unasked refl true (inl (refl, refl))
 pub called_newer : (u : Refresh) → IsGoodLook 1 true false false (looked (Stat 0) true ∷ looked (Keep 0) true ∷ []) u → look_step u ≡ Done Newer → ⊥
 called_newer u g e =
     ⊎_elim (λ (none : true ≡ false). cc) (λ o. ⊎_elim (λ x. x) (λ r. ⊎_elim (λ x. x) (λ x. x) r) o) (g.newer e).1
-
--- ---- the wait
-
--- it gives up after three milliseconds of ten, and one try
-pub too_early : (u : LockWait) → IsGoodWait 10 (record { step = wait.Try; answer = Taken 3 } ∷ []) u → wait_step u ≡ wait.Done Busy → ⊥
-too_early u g e = ⊎_elim (λ past. ⊎_elim (λ (le : 10 ≤ 3). omega arith) (λ x. x) past) (λ (all : 1 ≡ 51). omega arith) (g.busy e)
-
--- it says that the lock is had though no try had it
-pub never_had : (u : LockWait) → IsGoodWait 10 (record { step = wait.Try; answer = Taken 3 } ∷ []) u → wait_step u ≡ wait.Done Had → ⊥
-never_had u g e = ⊎_elim (λ it. (let bad : Taken 3 ≡ Got = it.1 in cc)) (λ x. x) (g.had e)
 
 -- ---- a notice: what it watches is watched at first
 

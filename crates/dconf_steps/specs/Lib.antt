@@ -1,11 +1,8 @@
-pub mod Waits
-pub mod WaitLaws
 pub mod Looks
 pub mod RefreshLaws
 pub mod Queues
 pub mod QueueLaws
 pub mod LookRecords
-pub mod WaitRecords
 pub mod QueueRecords
 pub mod Notices
 pub mod NoticeLaws

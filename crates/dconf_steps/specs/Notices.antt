@@ -33,6 +33,8 @@ next_look_pause pause = max 20000 (min 1000000 (2 * pause))
 pub record IsNoticeBegun (w : Notice) : Type 0 where
   pub first : notice_step w ≡ Watch
   pub owed : w.owed ≡ Nothing
+  pub whole : w.is_whole ≡ false
+  pub pause : w.pause ≡ 0
 
 -- ---- what happens
 

@@ -1,13 +1,10 @@
-//! What comes next where a file may have changed, a lock may be another's, and changes wait: four machines that do nothing
-//! themselves.
+//! What comes next where a file may have changed, and changes wait: three machines that do nothing themselves.
 //!
 //! Each says its next step; its caller carries that out and gives the answer, until the step is `Done`. They are a few numbers: they
-//! hold no bytes, no name and no file, take no memory, and can be copied. A [`LockWait`] takes a lock that others may have, a
-//! [`Refresh`] looks at the files of a store, a [`Queue`] writes the changes that wait, and a [`Notice`] says when whoever is told of
-//! changes looks.
+//! hold no bytes, no name and no file, take no memory, and can be copied. A [`Refresh`] looks at the files of a store, a [`Queue`] writes
+//! the changes that wait, and a [`Notice`] says when whoever is told of changes looks.
 #![tactic(auto)]
 
-ghost use Rattle.dconf_steps.specs.WaitLaws.{HoweverLongItWaits};
 ghost use Rattle.dconf_steps.specs.RefreshLaws.{WhateverIsSeen};
 ghost use Rattle.dconf_steps.specs.QueueLaws.{WhateverIsWritten};
 ghost use Rattle.dconf_steps.specs.NoticeLaws.{WhatComesIsDue, WhatIsToldIsNoticed, WhateverIsNoticed};
@@ -19,8 +16,6 @@ mod queue;
 mod queue_record;
 mod refresh;
 mod refresh_record;
-mod wait;
-mod wait_record;
 
 pub use next_step::NextStep;
 pub use notice::{Notice, NoticeEvent, NoticeStep};
@@ -29,14 +24,6 @@ pub use queue::{Queue, QueueAnswer, QueueEnd, QueueStep, QueuedEdit};
 pub use queue_record::QueueRecord;
 pub use refresh::{LookEnd, LookStep, Refresh};
 pub use refresh_record::RefreshRecord;
-pub use wait::{LockWait, WaitAnswer, WaitEnd, WaitStep};
-pub use wait_record::WaitRecord;
-
-/// Whatever is answered, a wait begins with a try, pauses between two tries at a lock that others have, says that it is had only
-/// where a try had it, and gives up only where the time or the tries have run out.
-pub fn however_long_it_waits()
-    ensures { HoweverLongItWaits }
-{}
 
 /// Whatever is answered, a look keeps a part only where the file was said to be as it was, has all parts of the newer snapshot or
 /// none, and says that the snapshot is newer exactly where a part is another one.

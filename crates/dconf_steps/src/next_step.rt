@@ -11,14 +11,16 @@ pub struct NextStep {
 }
 
 impl NextStep {
-    pub(crate) fn plain(kind: u32) -> NextStep
+    /// A step that names nothing.
+    pub fn plain(kind: u32) -> NextStep
         ensures kind { result.kind ≡ kind }
         ensures number { result.number ≡ 0 }
     {
         NextStep { kind, number: 0 }
     }
 
-    pub(crate) fn of(kind: u32, number: usize) -> NextStep
+    /// A step that names this one.
+    pub fn of(kind: u32, number: usize) -> NextStep
         ensures kind { result.kind ≡ kind }
         ensures number { result.number ≡ number }
     {

@@ -1,5 +1,5 @@
 -- What is kept of notes when more are added.
-use Rattle.std.specs.Prelude.{◌≡◌, ◌⊎◌, ◌≤◌, ◌<◌, ◌+◌, ℕ, zero, suc, Bool, true, false, List, [], ◌∷◌, ◌++◌, length, Some, refl, nat_le, nat_lt, ◌||◌, ◌==◌, IsTrue, if◌then◌else◌, set, slice_get}
+use Rattle.std.specs.Prelude.{◌≡◌, ◌⊎◌, ◌≤◌, ◌<◌, ◌+◌, ℕ, zero, suc, Bool, true, false, List, [], ◌∷◌, ◌++◌, length, Some, refl, nat_le, nat_lt, ◌&&◌, ◌||◌, ◌==◌, IsTrue, if◌then◌else◌, set, slice_get}
 use Rattle.std.proofs.Common.{inl, inr, sym, ap, ◌∙◌, subst, arith}
 use Rattle.std.specs.List.{list_any, list_all, filter}
 use Rattle.std.specs.Str.{bytes_eq}
@@ -100,14 +100,19 @@ said_when n x is = leb-true n.when x.when (and_parts (bytes_eq n.path x.path) (n
 
 pub one_note : (n x : Note) → is_note n x ≡ true → n ≡ x
 one_note n x is =
-    let parts = and_parts (bytes_eq n.path x.path) (n.when == x.when) is in
+    let parts = and_parts (bytes_eq n.path x.path) (n.when == x.when && n.value == x.value) is in
+    let numbers = and_parts (n.when == x.when) (n.value == x.value) parts.1 in
     let path : n.path ≡ x.path = same_path n.path x.path parts.0 in
-    let when : n.when ≡ x.when = eqb-true n.when x.when parts.1 in
-    ap (λ (p : List ℕ). let note : Note = record { path = p; when = n.when } in note) path
-    ∙ ap (λ (w : ℕ). let note : Note = record { path = x.path; when = w } in note) when
+    let when : n.when ≡ x.when = eqb-true n.when x.when numbers.0 in
+    let value : n.value ≡ x.value = eqb-true n.value x.value numbers.1 in
+    ap (λ (p : List ℕ). let note : Note = record { path = p; when = n.when; value = n.value } in note) path
+    ∙ ap (λ (w : ℕ). let note : Note = record { path = x.path; when = w; value = n.value } in note) when
+    ∙ ap (λ (v : ℕ). let note : Note = record { path = x.path; when = x.when; value = v } in note) value
 
 pub note_itself : (n : Note) → is_note n n ≡ true
-note_itself n = and_from (bytes_eq n.path n.path) (n.when == n.when) (itself n.path) (eq-eqb n.when n.when refl)
+note_itself n =
+    and_from (bytes_eq n.path n.path) (n.when == n.when && n.value == n.value) (itself n.path)
+    (and_from (n.when == n.when) (n.value == n.value) (eq-eqb n.when n.when refl) (eq-eqb n.value n.value refl))
 
 -- what says a note is said by what is later
 said_later : (n y x : Note) → y.path ≡ x.path → y.when ≤ x.when → is_said_by n y ≡ true → is_said_by n x ≡ true

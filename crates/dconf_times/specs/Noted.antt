@@ -5,7 +5,7 @@ use Rattle.std.specs.Str.{bytes_eq}
 use Rattle.dconf_times.specs.Times.{Note}
 
 abbrev pub is_note : Note → Note → Bool
-is_note note other = bytes_eq note.path other.path && (note.when == other.when)
+is_note note other = bytes_eq note.path other.path && (note.when == other.when && note.value == other.value)
 
 abbrev pub is_among : Note → List Note → Bool
 is_among note notes = list_any (is_note note) notes

@@ -30,18 +30,20 @@ pub record IsLeast (most most_bytes : ℕ) (notes : List DconfdbTime) (when : �
   pub least : (sooner : ℕ) → sooner < when → has_room_since most most_bytes notes sooner ≡ false
   pub room : (has_room_since most most_bytes notes when ≡ true) ⊎ (when ≡ 0xffff_ffff_ffff_ffff)
 
--- The later ones are kept, and one note says of all paths that they were set by then.
+-- The later ones are kept, and one note says of all paths that they were set by then. Its number isn't that of no value, 0.
 pub record AreLater (most most_bytes : ℕ) (notes kept : List DconfdbTime) : Type 0 where
   pub when : ℕ
   pub one : DconfdbTime
   pub kept_is : kept ≡ filter (is_since when) notes ++ one ∷ []
   pub root : one.path.now ≡ codes "/"
   pub until : one.when ≡ when
+  pub number : one.value ≡ 1
   pub least : IsLeast (most - 1) (most_bytes - 25) notes when
 
--- all, where there is room for them
-abbrev pub AreNewest : ℕ → ℕ → List DconfdbTime → List DconfdbTime → Type 0
-AreNewest most most_bytes notes kept = (kept ≡ notes) ⊎ AreLater most most_bytes notes kept
+-- All are kept where there is room for them, and only there.
+pub record AreNewest (most most_bytes : ℕ) (notes kept : List DconfdbTime) : Type 0 where
+  pub all : has_room most most_bytes notes ≡ true → kept ≡ notes
+  pub later : has_room most most_bytes notes ≡ false → AreLater most most_bytes notes kept
 
 -- ---- the law
 

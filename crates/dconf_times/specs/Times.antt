@@ -3,13 +3,14 @@ use Rattle.std.specs.Prelude.{ℕ, Bool, List, [], ◌∷◌, max, nat_le, nat_l
 use Rattle.dconf_model.specs.Locks.{covers}
 use Rattle.dconf_times.specs.declared.times.DconfdbTime.{DconfdbTime}
 
--- a key that was set, or a directory of which all keys were reset, and when
+-- a key that was set, or a directory of which all keys were reset, when, and the caller's number for what was left there
 pub record Note : Type 0 where
   pub path : List ℕ
   pub when : ℕ
+  pub value : ℕ
 
 abbrev pub note_of : DconfdbTime → Note
-note_of time = record { path = time.path.now; when = time.when }
+note_of time = record { path = time.path.now; when = time.when; value = time.value }
 
 -- a note of the future counts for nothing
 abbrev pub is_known : ℕ → Note → Bool

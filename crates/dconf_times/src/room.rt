@@ -44,6 +44,7 @@ pub fn newest<'a>(
 fn all_by<'a>(when: u64) -> DconfdbTime<'a>
     ensures root { result.path.now ≡ codes "/" }
     ensures when { result.when ≡ when }
+    ensures number { result.value ≡ 1 }
 {
     DconfdbTime {
         path: ROOT,

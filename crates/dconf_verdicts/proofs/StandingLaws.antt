@@ -53,14 +53,52 @@ held_good true false more e = cc
 held_good true true true e = cc
 held_good true true false e = (refl, refl)
 
-abbrev follow : Bool → Bool → Bool → Standing
-follow root done alone = if not root then Good else if done && alone then Good else Fault 13
+abbrev follow : Bool → Bool → Bool → Bool → Standing
+follow root done alone few = if root && not (done && alone) then Fault 13 else if few then Good else Fault 40
 
-follow_good : (root done alone : Bool) → root ≡ true → follow root done alone ≡ Good → alone ≡ true
-follow_good false done alone r e = absurd (let bad : false ≡ true = r in cc)
-follow_good true done true r e = refl
-follow_good true false false r e = cc
-follow_good true true false r e = cc
+follow_good : (root done alone few : Bool) → root ≡ true → follow root done alone few ≡ Good → alone ≡ true
+follow_good false done alone few r e = absurd (let bad : false ≡ true = r in cc)
+follow_good true done true few r e = refl
+follow_good true false false few r e = cc
+follow_good true true false few r e = cc
+
+follow_few : (root done alone few : Bool) → follow root done alone few ≡ Good → few ≡ true
+follow_few root done alone true e = refl
+follow_few false done alone false e = cc
+follow_few true true true false e = cc
+follow_few true true false false e = cc
+follow_few true false alone false e = cc
+
+abbrev open_folder : Bool → Bool → Bool → ℕ → Standing
+open_folder root done named errno = if root then (if done && named then Good else Other) else if done then Good else Fault errno
+
+open_good : (root done named : Bool) (errno : ℕ) → root ≡ true → open_folder root done named errno ≡ Good → named ≡ true
+open_good false done named errno r e = absurd (let bad : false ≡ true = r in cc)
+open_good true done true errno r e = refl
+open_good true true false errno r e = cc
+open_good true false false errno r e = cc
+
+abbrev make_in : Bool → Bool → Bool → ℕ → Standing
+make_in done root own errno = if not done then Fault errno else if root && not own then Other else Good
+
+make_good : (done root own : Bool) (errno : ℕ) → root ≡ true → make_in done root own errno ≡ Good → own ≡ true
+make_good done false own errno r e = absurd (let bad : false ≡ true = r in cc)
+make_good done true true errno r e = refl
+make_good true true false errno r e = cc
+make_good false true false errno r e = cc
+
+abbrev enter : Bool → Bool → Bool → Bool → Bool → ℕ → Standing
+enter done missing may none other errno = if done then Good else if missing && (may && none) then Nothing else if other then Other else Fault errno
+
+enter_none : (done missing may none other : Bool) (errno : ℕ) → enter done missing may none other errno ≡ Nothing → none ≡ true
+enter_none true missing may none other errno e = cc
+enter_none false missing may true other errno e = refl
+enter_none false true true false true errno e = cc
+enter_none false true true false false errno e = cc
+enter_none false true false false true errno e = cc
+enter_none false true false false false errno e = cc
+enter_none false false may false true errno e = cc
+enter_none false false may false false errno e = cc
 
 pub each_is_safe : EachIsSafe
 each_is_safe s = record {
@@ -68,5 +106,9 @@ each_is_safe s = record {
   mapped = take_map (s.fault == 0) s.fault (is_regular s.mode) (fault_of_mode s.mode) (nat_lt s.most s.size) (s.size == 0) (nat_lt 65536 s.size) s.may_map s.may_stop;
   lock = lock_good (s.fault == 0) (is_regular s.mode) (is_no_file s.fault) (s.fault == 2) s.fault;
   held = held_good (s.fault == 0) s.is_named (nat_lt 1 s.links);
-  followed = follow_good s.is_root (s.fault == 0) (is_roots_alone s);
+  followed = follow_good s.is_root (s.fault == 0) (is_roots_alone s) (nat_lt s.tried 40);
+  ends = follow_few s.is_root (s.fault == 0) (is_roots_alone s) (nat_lt s.tried 40);
+  opened = open_good s.is_root (s.fault == 0) s.is_named s.fault;
+  made = make_good (s.fault == 0) s.is_root (s.user == 0) s.fault;
+  entered = enter_none (s.fault == 0) (s.fault == 2) s.may_make (s.tried == 0) (s.fault == 20) s.fault;
 }

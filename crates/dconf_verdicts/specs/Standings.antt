@@ -2,7 +2,7 @@
 use Rattle.std.specs.Prelude.{ℕ, ◌≡◌, ◌/◌, ◌%◌, Bool, true, false, if◌then◌else◌, ◌==◌, ◌&&◌, ◌||◌, not, nat_lt}
 use Rattle.dconf_verdicts.specs.declared.standing.Seen.{Seen}
 use Rattle.dconf_verdicts.specs.declared.standing.Purpose.{Purpose}
-use Rattle.dconf_verdicts.specs.declared.standing.Purpose.TheVariants.{Look, Open, Take, OpenLock, HoldLock, Follow, MakeRoom, Exchange, Make, GiveName, TakePlace}
+use Rattle.dconf_verdicts.specs.declared.standing.Purpose.TheVariants.{Look, Open, Take, OpenLock, HoldLock, Follow, MakeRoom, Exchange, Make, GiveName, TakePlace, SetAside, MoveAside, MakeNamed, Enter, ReadLink, MakeIn, OpenFolder}
 use Rattle.dconf_verdicts.specs.declared.standing.Standing.{Standing}
 use Rattle.dconf_verdicts.specs.declared.standing.Standing.TheVariants.{Good, Nothing, Map, Head, Other, Fault}
 
@@ -60,9 +60,32 @@ lock_held s = if not (s.fault == 0) || not s.is_named then Nothing else if nat_l
 abbrev pub is_roots_alone : Seen → Bool
 is_roots_alone s = s.user == 0 && ((s.mode / 16) % 2 == 0 && (s.mode / 2) % 2 == 0)
 
--- else EACCES
+-- else EACCES; and so many links, as the system itself does (path_resolution(7)): else ELOOP
 abbrev pub followed : Seen → Standing
-followed s = if not s.is_root then Good else if s.fault == 0 && is_roots_alone s then Good else Fault 13
+followed s =
+    if s.is_root && not (s.fault == 0 && is_roots_alone s) then Fault 13 else if nat_lt s.tried 40 then Good else Fault 40
+
+-- What is missing (ENOENT) is made, if that is wanted, but not where a link led. What is no folder (ENOTDIR) may be a link.
+abbrev pub entered : Seen → Standing
+entered s =
+    if s.fault == 0 then Good else if s.fault == 2 && (s.may_make && s.tried == 0) then Nothing else
+    if s.fault == 20 then Other else Fault s.fault
+
+-- a link (S_IFLNK), or else ENOTDIR
+abbrev pub is_link : ℕ → Bool
+is_link mode = (mode / 4096) % 16 == 10
+
+abbrev pub link_read : Seen → Standing
+link_read s = if not (s.fault == 0) then Fault s.fault else if is_link s.mode then Good else Fault 20
+
+-- What root makes in another's folder is that one's, before it has its name.
+abbrev pub made_in : Seen → Standing
+made_in s = if not (s.fault == 0) then Fault s.fault else if s.is_root && not (s.user == 0) then Other else Good
+
+-- Root has a folder at once only where no link led to it: else it goes through the path.
+abbrev pub folder_opened : Seen → Standing
+folder_opened s =
+    if s.is_root then (if s.fault == 0 && s.is_named then Good else Other) else if s.fault == 0 then Good else Fault s.fault
 
 -- what is there already (EEXIST) need not be made
 abbrev pub made : ℕ → Standing
@@ -87,6 +110,22 @@ room_made errno = if errno == 0 then Good else if errno == 2 then Good else if e
 abbrev pub exchanged : ℕ → Standing
 exchanged errno = if errno == 0 then Good else if errno == 22 then Fault 95 else Fault errno
 
+-- where a name is taken (EEXIST), before which so many were, the next one is tried, but after the last
+abbrev pub next_name : ℕ → ℕ → ℕ → Standing
+next_name errno tried last =
+    if errno == 0 then Good else if errno == 17 && nat_lt tried last then Other else Fault errno
+
+-- NAME~1 to NAME~999; by such a name a turn that failed may have left the same file
+abbrev pub set_aside : Seen → Standing
+set_aside s = if s.fault == 17 && s.is_named then Good else next_name s.fault s.tried 998
+
+abbrev pub moved_aside : Seen → Standing
+moved_aside s = next_name s.fault s.tried 998
+
+-- of what gets its own name later
+abbrev pub named_anew : Seen → Standing
+named_anew s = next_name s.fault s.tried 99
+
 abbrev pub standing_of : Purpose → Seen → Standing
 standing_of Look s = looked s.fault
 standing_of Open s = opened s
@@ -99,6 +138,13 @@ standing_of Exchange s = exchanged s.fault
 standing_of Make s = made s.fault
 standing_of GiveName s = name_given s.fault
 standing_of TakePlace s = place_taken s.fault
+standing_of SetAside s = set_aside s
+standing_of MoveAside s = moved_aside s
+standing_of MakeNamed s = named_anew s
+standing_of Enter s = entered s
+standing_of ReadLink s = link_read s
+standing_of MakeIn s = made_in s
+standing_of OpenFolder s = folder_opened s
 
 -- ---- numbers
 
@@ -106,7 +152,8 @@ abbrev pub purpose_of : ℕ → Purpose
 purpose_of n =
     if n == 0 then Look else if n == 1 then Open else if n == 2 then Take else if n == 3 then OpenLock else if n == 4 then HoldLock else
     if n == 5 then Follow else if n == 6 then MakeRoom else if n == 7 then Exchange else if n == 8 then Make else
-    if n == 9 then GiveName else TakePlace
+    if n == 9 then GiveName else if n == 10 then TakePlace else if n == 11 then SetAside else if n == 12 then MoveAside else
+    if n == 13 then MakeNamed else if n == 14 then Enter else if n == 15 then ReadLink else if n == 16 then MakeIn else OpenFolder
 
 abbrev pub standing_number : Standing → ℕ
 standing_number Good = 0
@@ -133,8 +180,14 @@ pub record IsSafe (s : Seen) : Type 0 where
   pub lock : (standing_of OpenLock s ≡ Good) → is_regular s.mode ≡ true
   -- a lock that is had has its name, and no other
   pub held : (standing_of HoldLock s ≡ Good) → (s.is_named ≡ true) × (nat_lt 1 s.links ≡ false)
-  -- root follows only root's links
+  -- root follows only root's links; and nobody follows links without end
   pub followed : (s.is_root ≡ true) → (standing_of Follow s ≡ Good) → is_roots_alone s ≡ true
+  pub ends : (standing_of Follow s ≡ Good) → nat_lt s.tried 40 ≡ true
+  -- root has a folder only by a path without links, and makes one by its name only in root's
+  pub opened : (s.is_root ≡ true) → (standing_of OpenFolder s ≡ Good) → s.is_named ≡ true
+  pub made : (s.is_root ≡ true) → (standing_of MakeIn s ≡ Good) → (s.user == 0) ≡ true
+  -- nothing is made where a link led
+  pub entered : (standing_of Enter s ≡ Nothing) → (s.tried == 0) ≡ true
 
 abbrev pub EachIsSafe : Type 0
 EachIsSafe = (s : Seen) → IsSafe s

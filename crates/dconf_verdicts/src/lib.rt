@@ -13,8 +13,10 @@ mod answers;
 mod entry;
 mod errnos;
 mod faults;
+mod names;
 mod standing;
 mod told;
+mod ways;
 
 pub use answers::{FaultAnswer, FileCall, answer_number, answer_of};
 pub use entry::{Entry, NewEdit, entry_number, entry_of, is_news, is_there};

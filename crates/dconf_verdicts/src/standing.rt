@@ -1,24 +1,23 @@
 //! What becomes of what has a name, or is open, by what the host says of it.
 ghost use Rattle.std.specs.Prelude.{◌≡◌};
 ghost use Rattle.dconf_verdicts.specs.declared.standing.Standing.TheVariants as Standing;
-ghost use Rattle.dconf_verdicts.specs.Standings.{exchanged, fault_of_mode, followed, is_no_file, is_regular, is_roots_alone, lock_held, lock_opened, looked, made, name_given, opened, place_taken, purpose_of, room_made, standing_fault, standing_number, standing_of, taken, taken_sized};
+ghost use Rattle.dconf_verdicts.specs.Standings.{fault_of_mode, is_no_file, is_regular, lock_held, lock_opened, looked, opened, purpose_of, standing_fault, standing_number, standing_of, taken, taken_sized};
+
+use crate::names::{
+    exchanged, moved_aside, name_given, named_anew, place_taken, room_made, set_aside,
+};
+use crate::ways::{entered, folder_opened, followed, link_read, made, made_in};
 
 /// Whatever is larger is mapped, or only its head is read at first. A small file costs less to read than to map.
 const SMALL: u64 = 65536;
 
 const ENOENT: u32 = 2;
 
-const EACCES: u32 = 13;
-
-const EEXIST: u32 = 17;
-
 const EISDIR: u32 = 21;
 
 const EINVAL: u32 = 22;
 
 const EOVERFLOW: u32 = 75;
-
-const EOPNOTSUPP: u32 = 95;
 
 /// What the host says of it.
 #[repr(C)]
@@ -35,14 +34,18 @@ pub struct Seen {
     pub size: u64,
     /// A file of more bytes isn't read.
     pub most: u64,
+    /// How many links were followed on the way, or how many names were tried before this one.
+    pub tried: u64,
     /// It may be mapped.
     pub may_map: bool,
     /// Its head may say that the rest isn't wanted.
     pub may_stop: bool,
-    /// The names still stand for what is open.
+    /// The names still stand for what is open; or what has the name is the same file.
     pub is_named: bool,
     /// Root asks.
     pub is_root: bool,
+    /// What is missing may be made.
+    pub may_make: bool,
 }
 
 /// What for it is asked.
@@ -70,6 +73,20 @@ pub enum Purpose {
     GiveName,
     /// The same, or it took the place of an empty folder.
     TakePlace,
+    /// A file got another name, too, the next of those that are tried.
+    SetAside,
+    /// A folder got such a name in the place of its own.
+    MoveAside,
+    /// Something was made by such a name.
+    MakeNamed,
+    /// A folder on the way was opened.
+    Enter,
+    /// What is no folder is to be read as a link.
+    ReadLink,
+    /// A folder is to be made in this one.
+    MakeIn,
+    /// A folder was opened by its path.
+    OpenFolder,
 }
 
 /// What becomes of it.
@@ -105,11 +122,18 @@ pub fn standing_of(purpose: Purpose, seen: &Seen) -> Standing
         Purpose::Make => made(seen.fault),
         Purpose::GiveName => name_given(seen.fault),
         Purpose::TakePlace => place_taken(seen.fault),
+        Purpose::SetAside => set_aside(seen),
+        Purpose::MoveAside => moved_aside(seen),
+        Purpose::MakeNamed => named_anew(seen),
+        Purpose::Enter => entered(seen),
+        Purpose::ReadLink => link_read(seen),
+        Purpose::MakeIn => made_in(seen),
+        Purpose::OpenFolder => folder_opened(seen),
     }
 }
 
 /// The same in numbers. Purposes: 0 look, 1 open, 2 take, 3 open a lock, 4 hold it, 5 follow, 6 make room, 7 exchange, 8 make, 9 give the
-/// name, else take a place. Answers: 0 good, 1 nothing, 2 map, 3 head, 4 another way, 5 a fault; and the fault's errno, or 0.
+/// name, 10 take a place, 11 set aside, 12 move aside, 13 make by a name, 14 enter, 15 read a link, 16 make in it, else open a folder. Answers: 0 good, 1 nothing, 2 map, 3 head, 4 another way, 5 a fault; and the fault's errno, or 0.
 pub fn standing_numbers(purpose: u32, seen: &Seen) -> (u32, u32)
     ensures number { result.0 ≡ standing_number (standing_of (purpose_of purpose) seen.now) }
     ensures fault { result.1 ≡ standing_fault (standing_of (purpose_of purpose) seen.now) }
@@ -203,68 +227,6 @@ fn lock_held(seen: &Seen) -> Standing
     }
 }
 
-fn followed(seen: &Seen) -> Standing
-    ensures { result ≡ followed seen.now }
-{
-    if !seen.is_root || seen.fault == 0 && is_roots_alone(seen) {
-        Standing::Good
-    } else {
-        Standing::Fault(EACCES)
-    }
-}
-
-fn room_made(errno: u32) -> Standing
-    ensures { result ≡ room_made errno }
-{
-    match errno {
-        0 | ENOENT => Standing::Good,
-        EISDIR => Standing::Other,
-        errno => Standing::Fault(errno),
-    }
-}
-
-fn exchanged(errno: u32) -> Standing
-    ensures { result ≡ exchanged errno }
-{
-    match errno {
-        0 => Standing::Good,
-        EINVAL => Standing::Fault(EOPNOTSUPP),
-        errno => Standing::Fault(errno),
-    }
-}
-
-fn made(errno: u32) -> Standing
-    ensures { result ≡ made errno }
-{
-    match errno {
-        0 => Standing::Good,
-        EEXIST => Standing::Nothing,
-        errno => Standing::Fault(errno),
-    }
-}
-
-/// EINVAL and ENOSYS say that the host knows no such call.
-fn name_given(errno: u32) -> Standing
-    ensures { result ≡ name_given errno }
-{
-    match errno {
-        0 => Standing::Good,
-        22 | 38 => Standing::Other,
-        errno => Standing::Fault(errno),
-    }
-}
-
-/// ENOTEMPTY.
-fn place_taken(errno: u32) -> Standing
-    ensures { result ≡ place_taken errno }
-{
-    match errno {
-        0 => Standing::Good,
-        39 => Standing::Fault(EEXIST),
-        errno => Standing::Fault(errno),
-    }
-}
-
 /// ELOOP, EISDIR and ENXIO.
 fn is_no_file(errno: u32) -> bool
     ensures { result ≡ is_no_file errno }
@@ -288,12 +250,6 @@ fn fault_of_mode(mode: u32) -> u32
     }
 }
 
-fn is_roots_alone(folder: &Seen) -> bool
-    ensures { result ≡ is_roots_alone folder.now }
-{
-    folder.user == 0 && folder.mode / 16 % 2 == 0 && folder.mode / 2 % 2 == 0
-}
-
 fn purpose_of(number: u32) -> Purpose
     ensures { result ≡ purpose_of number }
 {
@@ -308,6 +264,13 @@ fn purpose_of(number: u32) -> Purpose
         7 => Purpose::Exchange,
         8 => Purpose::Make,
         9 => Purpose::GiveName,
-        _ => Purpose::TakePlace,
+        10 => Purpose::TakePlace,
+        11 => Purpose::SetAside,
+        12 => Purpose::MoveAside,
+        13 => Purpose::MakeNamed,
+        14 => Purpose::Enter,
+        15 => Purpose::ReadLink,
+        16 => Purpose::MakeIn,
+        _ => Purpose::OpenFolder,
     }
 }

@@ -2,3 +2,4 @@ pub mod TableLaws
 pub mod PatienceLaws
 pub mod FaultLaws
 pub mod WrongMachines
+pub mod FateLaws

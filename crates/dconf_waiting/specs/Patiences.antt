@@ -1,5 +1,7 @@
 -- How long somebody waits until what waits is written, in microseconds.
-use Rattle.std.specs.Prelude.{ℕ, ◌≡◌, ◌+◌, min, if◌then◌else◌, ◌==◌}
+use Rattle.std.specs.Prelude.{ℕ, ◌+◌, min, Bool, not, ◌&&◌, if◌then◌else◌, ◌==◌}
+use Rattle.dconf_files.specs.Stamps.{is_same_time}
+use Rattle.dconf_files.specs.declared.stamp.FileTime.{FileTime}
 use Rattle.dconf_waiting.specs.declared.patience.Patience.{Patience}
 
 -- the moment so long after that one, on a clock of 64 bits
@@ -11,9 +13,16 @@ abbrev pub latest_of : Patience → ℕ → ℕ
 latest_of p now = if p.latest == 0 then later_by now 60000000 else p.latest
 
 -- it begins now, or another program had a turn: so long, but not beyond that minute
-abbrev pub renewed : Patience → ℕ → Patience
-renewed p now = record p { end = min (later_by now p.each) (latest_of p now); latest = latest_of p now }
+abbrev pub renewed : Patience → FileTime → ℕ → Patience
+renewed p changed now = record p { end = min (later_by now p.each) (latest_of p now); latest = latest_of p now; changed = changed }
+
+-- nobody had a turn if it has begun and the folder is as it was
+abbrev pub renewed_by : Patience → FileTime → ℕ → Patience
+renewed_by p changed now = if not (p.latest == 0) && is_same_time p.changed changed then p else renewed p changed now
+
+abbrev pub never : FileTime
+never = record { seconds = 0; nanoseconds = 0 }
 
 -- it has not begun
 abbrev pub unbegun : ℕ → Patience
-unbegun each = record { end = 0; each = each; latest = 0 }
+unbegun each = record { end = 0; each = each; latest = 0; changed = never }

@@ -1,12 +1,14 @@
 -- What holds of changes that wait, whatever comes.
-use Rattle.std.specs.Prelude.{ℕ, ◌≡◌, ◌≢◌, ◌↔◌, ◌+◌, ◌≤◌, ◌<◌, Bool, true, false, List, [], ◌∷◌, ◌++◌, length, replicate, if◌then◌else◌, ◌==◌}
+use Rattle.std.specs.Prelude.{ℕ, ◌≡◌, ◌≢◌, ◌↔◌, ◌+◌, ◌≤◌, ◌<◌, Bool, true, false, not, ◌&&◌, filter, map, List, [], ◌∷◌, ◌++◌, length, replicate, if◌then◌else◌, ◌==◌}
 use Rattle.std.specs.List.{AllByRecursion}
-use Rattle.dconf_waiting.specs.declared.fate.Fate.TheVariants.{Waits, Written, Refused, Overtaken}
-use Rattle.dconf_waiting.specs.declared.fate.WaitingEdit.{WaitingEdit}
+use Rattle.std.specs.List.Sorted.{IsNonDecreasingBy}
+use Rattle.dconf_waiting.specs.declared.fate.Fate.TheVariants.{Waits, Written, Refused, Overtaken, Renewed}
+use Rattle.dconf_waiting.specs.declared.fate.Waiter.{Waiter}
+use Rattle.dconf_files.specs.declared.stamp.FileTime.{FileTime}
 use Rattle.dconf_waiting.specs.declared.patience.Patience.{Patience}
 use Rattle.dconf_waiting.specs.Newest.{found, IsPut}
-use Rattle.dconf_waiting.specs.Fates.{fate_of, is_overtaken}
-use Rattle.dconf_waiting.specs.Patiences.{renewed, unbegun}
+use Rattle.dconf_waiting.specs.Fates.{fate_of, is_made, is_overtaken, marked, waits}
+use Rattle.dconf_waiting.specs.Patiences.{renewed_by, unbegun}
 
 -- ---- the newest edit of a key
 
@@ -38,25 +40,50 @@ TheNewestIsFound = (count : ℕ) (puts : List Put) (after : List ℕ) → RanPut
 
 -- ---- what becomes of a change
 
-pub record IsGoodFate (is_written is_refused : Bool) (edit newest : WaitingEdit) : Type 0 where
-  -- it is written with all that isn't refused
-  pub written : (fate_of is_written is_refused (is_overtaken edit newest) ≡ Written) ↔ ((is_written ≡ true) × (is_refused ≡ false))
-  pub refused : (fate_of is_written is_refused (is_overtaken edit newest) ≡ Refused) ↔ (is_refused ≡ true)
+pub record IsGoodFate (is_written : Bool) (w : Waiter) : Type 0 where
+  -- it is written with all that was tried and isn't refused, or it is there
+  pub written : (fate_of is_written w ≡ Written) ↔ ((is_made is_written w ≡ true) × (w.is_refused ≡ false))
+  pub refused : (fate_of is_written w ≡ Refused) ↔ (w.is_refused ≡ true)
   -- it goes unwritten only where a later one is there, which is alone, too: that one sets its key, and is not overtaken itself
-  pub overtaken : fate_of is_written is_refused (is_overtaken edit newest) ≡ Overtaken
-      → (edit.number < newest.number) × (edit.is_alone ≡ true) × (newest.is_alone ≡ true) × (is_overtaken newest newest ≡ false)
+  pub overtaken : fate_of is_written w ≡ Overtaken
+      → (w.edit.number < w.newest.number) × (w.edit.is_alone ≡ true) × (w.newest.is_alone ≡ true) × (is_overtaken w.newest w.newest ≡ false)
+  -- nothing is overtaken that nobody tried to write
+  pub untried : w.is_tried ≡ false → w.is_refused ≡ false → (w.asks && w.is_there) ≡ false → w.is_renewed ≡ false → fate_of is_written w ≡ Waits
+  pub renewed : fate_of is_written w ≡ Renewed → w.is_renewed ≡ true
   -- the newest of a key waits until it is written or refused
-  pub stays : is_written ≡ false → is_refused ≡ false → newest.number ≤ edit.number → fate_of is_written is_refused (is_overtaken edit newest) ≡ Waits
+  pub stays : is_made is_written w ≡ false → w.is_refused ≡ false → w.newest.number ≤ w.edit.number → w.is_renewed ≡ false → fate_of is_written w ≡ Waits
 
 abbrev pub NothingIsLost : Type 0
-NothingIsLost = (is_written is_refused : Bool) (edit newest : WaitingEdit) → IsGoodFate is_written is_refused edit newest
+NothingIsLost = (is_written : Bool) (w : Waiter) → IsGoodFate is_written w
+
+-- ---- in which order they wait
+
+-- those that were not set once more
+abbrev pub is_old : Waiter → Bool
+is_old w = not w.is_renewed
+
+-- those that go on waiting in their places
+abbrev pub still : Bool → List Waiter → List Waiter
+still is_written line = filter waits (map (marked is_written) line)
+
+-- each was set no later than those behind it, by the moments in which the changes were set
+abbrev pub IsInOrder : (ℕ → ℕ) → List Waiter → Type 0
+IsInOrder set line = IsNonDecreasingBy (λ (w : Waiter). set w.change) line
+
+abbrev pub WhatWaitsKeepsItsOrder : Type 0
+WhatWaitsKeepsItsOrder = (is_written : Bool) (line : List Waiter) (set : ℕ → ℕ) → IsInOrder set (filter is_old line) → IsInOrder set (still is_written line)
 
 -- ---- how long somebody waits
 
--- it began in the first of these moments, and other programs had turns in the others
-abbrev pub patience_after : List ℕ → Patience → Patience
+-- what was seen of the folder, and when
+pub record Sight : Type 0 where
+  pub changed : FileTime
+  pub now : ℕ
+
+-- it began with the first of these, and others may have had turns before the others
+abbrev pub patience_after : List Sight → Patience → Patience
 patience_after [] p = p
-patience_after (now ∷ more) p = patience_after more (renewed p now)
+patience_after (s ∷ more) p = patience_after more (renewed_by p s.changed s.now)
 
 abbrev pub EveryWaitEnds : Type 0
-EveryWaitEnds = (began each : ℕ) (turns : List ℕ) → (patience_after (began ∷ turns) (unbegun each)).end ≤ began + 60000000
+EveryWaitEnds = (began : Sight) (each : ℕ) (sights : List Sight) → (patience_after (began ∷ sights) (unbegun each)).end ≤ began.now + 60000000

@@ -7,19 +7,21 @@
 
 ghost use Rattle.dconf_waiting.specs.Faults.{EachFaultIsSaidOnce};
 ghost use Rattle.dconf_waiting.specs.Fresh.{NoReadIsTooOld};
-ghost use Rattle.dconf_waiting.specs.WaitingLaws.{EveryWaitEnds, NothingIsLost, TheNewestIsFound};
+ghost use Rattle.dconf_waiting.specs.WaitingLaws.{EveryWaitEnds, NothingIsLost, TheNewestIsFound, WhatWaitsKeepsItsOrder};
 
 mod due;
 mod failing;
 mod fate;
 mod fresh;
+mod line;
 mod newest;
 mod patience;
 
 pub use due::{pause_after, sleep_until};
 pub use failing::{Failing, Word};
-pub use fate::{Fate, WaitingEdit, fate_number, fate_of, is_overtaken};
+pub use fate::{Fate, Waiter, WaitingEdit, fate_number, fate_of};
 pub use fresh::{Looker, next_look};
+pub use line::settle;
 pub use newest::{found, put};
 pub use patience::{Patience, Progress};
 
@@ -28,10 +30,16 @@ pub fn the_newest_is_found()
     ensures { TheNewestIsFound }
 {}
 
-/// A change that waits is written or refused, each once, or a later one overtakes it that sets the same key and goes on waiting. Else it
-/// goes on waiting itself.
+/// A change that waits is written or refused, each once, or it is there already, or a later one overtakes it that sets the same key and goes on
+/// waiting. Else it goes on waiting itself.
 pub fn nothing_is_lost()
     ensures { NothingIsLost }
+{}
+
+/// What waits is written in the order in which it was set: whatever becomes of others, each keeps its place before those that were set later;
+/// and what is set once more goes behind all of them.
+pub fn what_waits_keeps_its_order()
+    ensures { WhatWaitsKeepsItsOrder }
 {}
 
 /// Whoever waits until all is written waits for a minute at most, whatever other programs do meanwhile.

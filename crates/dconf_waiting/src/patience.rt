@@ -1,6 +1,9 @@
 //! How long somebody waits until what waits is written. All moments are of one clock, in microseconds.
 ghost use Rattle.std.specs.Prelude.{◌≡◌, ◌≤◌, ◌<◌, ◌+◌, ◌↔◌, IsTrue};
-ghost use Rattle.dconf_waiting.specs.Patiences.{renewed};
+ghost use Rattle.dconf_files.specs.Stamps.{is_same_time};
+ghost use Rattle.dconf_waiting.specs.Patiences.{renewed_by};
+
+use dconf_files::FileTime;
 
 /// How long is waited at most while other programs have their turns.
 const LONGEST_CROWD: u64 = 60_000_000;
@@ -18,6 +21,8 @@ pub struct Patience {
     pub each: u64,
     /// When it is over, whoever has turns; 0: it has not begun.
     pub latest: u64,
+    /// When the folder changed last: a turn makes a file in it, and renames it.
+    pub changed: FileTime,
 }
 
 /// What was written, and what was tried.
@@ -53,14 +58,19 @@ impl Progress {
 }
 
 impl Patience {
-    /// It begins now, or another program had a turn.
-    pub fn renew(&mut self, now: u64)
-        ensures { self.new ≡ renewed self.old now }
+    /// It begins now, or goes on; `changed`: when the folder changed last. In another moment than before: another program had a turn, and it is
+    /// waited as long again.
+    pub fn renew(&mut self, changed: FileTime, now: u64)
+        ensures { self.new ≡ renewed_by self.old changed now }
     {
+        if self.latest != 0 && is_same(self.changed, changed) {
+            return;
+        }
         if self.latest == 0 {
             self.latest = now.saturating_add(LONGEST_CROWD);
         }
         self.end = now.saturating_add(self.each).min(self.latest);
+        self.changed = changed;
     }
 
     /// Whether it is waited on: something that waited then isn't settled, no later try has failed by a fault that lasts, the time isn't
@@ -73,4 +83,10 @@ impl Patience {
             && now < self.end
             && now.saturating_sub(progress.moved) < LONGEST_REST
     }
+}
+
+fn is_same(one: FileTime, other: FileTime) -> bool
+    ensures { result ≡ is_same_time one other }
+{
+    one.seconds == other.seconds && one.nanoseconds == other.nanoseconds
 }

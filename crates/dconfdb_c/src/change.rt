@@ -1,14 +1,15 @@
 //! The user's database with changes, and what of them is there already.
-ghost use Rattle.std.specs.Prelude.{◌≡◌, ◌≢◌, ◌↔◌, ◌⊎◌, ℕ, IsTrue, List};
+ghost use Rattle.std.specs.Prelude.{◌≡◌, ◌≢◌, ◌↔◌, ◌⊎◌, ℕ, IsTrue, List, false};
 ghost use Rattle.std.specs.List.{list_any};
 ghost use Rattle.dconfdb_calls.specs.Changed.{IsChanged};
 ghost use Rattle.dconfdb_calls.specs.Given.{HandsOut};
 ghost use Rattle.dconfdb_calls.specs.Seen.{layers_of};
 ghost use Rattle.dconf_made.specs.Made.{AreMade, IsMade, IsNoChangeTold};
-ghost use Rattle.dconf_made.specs.Needs.{need_number, need_of, users_of};
+ghost use Rattle.dconf_made.specs.Courses.{course_after, task_number};
+ghost use Rattle.dconf_made.specs.Needs.{need_of, users_of};
 
 use dconf_layers::Layer;
-use dconf_made::{changed_file, is_made, need_number};
+use dconf_made::{Course, changed_file, course_number, is_made};
 use dconfdb_calls::{DconfdbChange, hand_out};
 use std::alloc::Global;
 
@@ -48,7 +49,7 @@ pub extern "C" fn dconfdb_change(
 }
 
 /// Whether the user's database, which is the first if it may be written (`writable`), has what a change asks for already: this value
-/// of the key or, if it sets nothing, none, or none below the directory. Else the number of a fault, and `is` stays as it was.
+/// of the key or, if it sets nothing, none, or none below the directory. Where memory is lacking, it counts as what it hasn't.
 #[unsafe(no_mangle)]
 pub extern "C" fn dconfdb_is_made(
     alloc: Global,
@@ -58,23 +59,31 @@ pub extern "C" fn dconfdb_is_made(
     is: &mut bool,
 ) -> u32
     ensures done { result ≡ 0 → IsTrue is.new ↔ IsMade (layers_of layers.now writable) change.now }
-    ensures refused { result ≢ 0 → result ≡ 1 }
-    ensures kept { result ≢ 0 → is.new ≡ is.old }
+    ensures refused { result ≢ 0 → (result ≡ 1) × (is.new ≡ false) }
 {
     match is_made(alloc, layers, writable, change) {
         Ok(made) => {
             *is = made;
             0
         }
-        Err(fault) => fault.number(),
+        Err(fault) => {
+            *is = false;
+            fault.number()
+        }
     }
 }
 
-/// Whether a file is to be made for changes, by what stands at its name. The numbers are those of
-/// [`need_number`](dconf_made::need_number).
+/// What is done for changes after that task, by its answer, and by what stands at the name of the user's file. The numbers are those of
+/// [`course_number`](dconf_made::course_number).
 #[unsafe(no_mangle)]
-pub extern "C" fn dconfdb_file_need(users: u32, changes: &[DconfdbChange<'_>]) -> u32
-    ensures { result ≡ need_number (need_of (users_of users) (list_any (λ c. c.sets) changes.now)) }
+pub extern "C" fn dconfdb_course_after(
+    task: u32,
+    yes: bool,
+    users: u32,
+    changes: &[DconfdbChange<'_>],
+    known: &Course,
+) -> u32
+    ensures { result ≡ task_number (course_after task yes (need_of (users_of users) (list_any (λ c. c.sets) changes.now)) known.now) }
 {
-    need_number(users, changes)
+    course_number(task, yes, users, changes, known)
 }

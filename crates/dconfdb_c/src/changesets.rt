@@ -1,14 +1,15 @@
 //! What dconf's client does with changes.
 ghost use Rattle.std.specs.Prelude.{◌≡◌};
 ghost use Rattle.dconf_changesets.specs.Above.{shared_within};
-ghost use Rattle.dconf_changesets.specs.Asking.{asked_after, is_current};
+ghost use Rattle.dconf_changesets.specs.Asking.{asked_after, look_due, look_number};
 ghost use Rattle.dconf_changesets.specs.Differences.{differs};
-ghost use Rattle.dconf_changesets.specs.Making.{change_after, change_number};
+ghost use Rattle.dconf_changesets.specs.Making.{change_after, change_number, is_unmade};
 ghost use Rattle.dconf_changesets.specs.Rows.{effect_number, effect_of};
+ghost use Rattle.dconf_changesets.specs.Saying.{is_said};
 
 use dconf_changesets::{
-    Base, ChangeKnown, asked_after, change_number, differs, effect_number, effect_of, is_current,
-    shared_within,
+    Base, ChangeKnown, LookKnown, Said, Tried, asked_after, change_number, differs, effect_number,
+    effect_of, is_said, is_unmade, look_number, shared_within,
 };
 
 /// What becomes of the row of a path in a set of changes where one is set, or reset: 0 it stays, 1 it goes, 2 it takes the change's value,
@@ -25,7 +26,7 @@ pub extern "C" fn dconfdb_row_effect(
     effect_number(effect_of(path, sets, is_database, other))
 }
 
-/// How many bytes the longest directory has in which both paths are, of at most so many; 0 where there is none.
+/// How many bytes the longest path has that covers both, of at most so many; 0 where there is none.
 #[unsafe(no_mangle)]
 pub extern "C" fn dconfdb_shared_within(path: &[u8], most: usize, other: &[u8]) -> usize
     ensures { result ≡ shared_within path.now most other.now }
@@ -50,12 +51,21 @@ pub extern "C" fn dconfdb_asked_after(sets: usize, asked: usize) -> usize
     asked_after(sets, asked)
 }
 
-/// Whether who reads takes the files for what they were.
+/// Whether the user has what a change says, or will have once these sets are written, the newest first. `is_stored`: the store has it.
 #[unsafe(no_mangle)]
-pub extern "C" fn dconfdb_is_current(is_watched: bool, is_told: bool, is_own: bool) -> bool
-    ensures { result ≡ is_current is_watched is_told is_own }
+pub extern "C" fn dconfdb_is_said(said: &[Said], is_stored: bool) -> bool
+    ensures { result ≡ is_said said.now is_stored }
 {
-    is_current(is_watched, is_told, is_own)
+    is_said(said, is_stored)
+}
+
+/// What becomes of a look at the files: 0 none is needed, 1 the store is opened, 2 it is made, 3 later. `looker`: 0 who wants to see them,
+/// 1 who changes a setting, 2 who reads one, 3 who wants no more than the store.
+#[unsafe(no_mangle)]
+pub extern "C" fn dconfdb_look_due(looker: u32, known: &LookKnown) -> u32
+    ensures { result ≡ look_number (look_due looker known.now) }
+{
+    look_number(looker, known)
 }
 
 /// What comes next of a change whose caller waits for it, once the first `done` tasks were done, or were not due, by the answer to the last
@@ -65,4 +75,12 @@ pub extern "C" fn dconfdb_changing_after(done: u32, is_so: bool, known: &ChangeK
     ensures { result ≡ change_number (change_after done is_so known.now) }
 {
     change_number(done, is_so, known)
+}
+
+/// Whether an edit that was tried to write is not made, so that whoever was told of it is told again.
+#[unsafe(no_mangle)]
+pub extern "C" fn dconfdb_is_unmade(edit: &Tried) -> bool
+    ensures { result ≡ is_unmade edit.now }
+{
+    is_unmade(edit)
 }

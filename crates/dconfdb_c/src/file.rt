@@ -1,13 +1,19 @@
-//! Whether a file is the one that was read, whose a new one is, and who may take a lock.
-ghost use Rattle.std.specs.Prelude.{◌≡◌, if◌then◌else◌};
-ghost use Rattle.dconf_files.specs.Locks.{lock_bits};
-ghost use Rattle.dconf_files.specs.Owners.{IsToldOwner, bits_for, owner_of};
+//! Whether a file is the one that was read, or of which something was made, whose a new one is, and how it becomes so.
+ghost use Rattle.std.specs.Prelude.{◌≡◌};
+ghost use Rattle.dconf_files.specs.Handings.{handed_after, handing_number, handing_value, what_of};
+ghost use Rattle.dconf_files.specs.Owners.{IsToldOwner, owner_of};
 ghost use Rattle.dconf_files.specs.Stamps.{sameness_number, sameness_of};
+ghost use Rattle.dconf_parts.specs.Parts.{beside, beside_number, purpose_of};
 
 use dconf_files::{
-    FileOwner, FileStamp, NewFile, NewOwner, OldFile, bits_for, lock_bits, owner_and_bits,
+    FileOwner, FileStamp, MadeFile, NewFile, NewOwner, OldFile, handing_numbers, owner_and_bits,
     sameness_number,
 };
+use dconf_parts::{DconfdbPartSeen, beside_number};
+
+const EAGAIN: u32 = 11;
+
+const EACCES: u32 = 13;
 
 /// Whether a file is the one that was read from that moment on: 0 it is, 1 it is another one or has
 /// changed, 2 it may have. `is_held`: it has been open or mapped since.
@@ -23,8 +29,22 @@ pub extern "C" fn dconfdb_same_file(
     sameness_number(old, now, opened, is_held)
 }
 
-/// Whose the new file is, and its permission bits: 0 it is given so, 1 it is refused, 2 what was read is
-/// another one by now. In the last two cases `given` stays as it was.
+/// What a file is, of which something was made, by what the host said of it then and says now. The numbers are those of
+/// [`beside_number`](dconf_parts::beside_number).
+#[unsafe(no_mangle)]
+pub extern "C" fn dconfdb_beside(
+    purpose: u32,
+    old: &FileStamp,
+    now: &FileStamp,
+    seen: &DconfdbPartSeen,
+) -> u32
+    ensures { result ≡ beside_number (beside (purpose_of purpose) old.now now.now seen.now) }
+{
+    beside_number(purpose, old, now, seen)
+}
+
+/// Whose the new file is, and its permission bits: 0 it is given so; or an errno, 13 it is refused, 11 what was read is
+/// another one by now, and then `given` stays as it was.
 #[unsafe(no_mangle)]
 pub extern "C" fn dconfdb_owner_and_bits(
     old: &OldFile,
@@ -40,20 +60,25 @@ pub extern "C" fn dconfdb_owner_and_bits(
             *given = new;
             0
         }
-        NewOwner::Refused => 1,
-        NewOwner::Again => 2,
+        NewOwner::Refused => EACCES,
+        NewOwner::Again => EAGAIN,
     }
 }
 
-/// The permission bits of a file while it has its group or another one: that is to have these once it has its own; or, of a lock's file that
-/// was just made, by those of its folder.
+/// What comes next with what was just made: what 0 a lock, 1 a file, else a folder, once that was done: 0 nothing, 1 it was made, 2 it got its user,
+/// 3 its group, 4 both, 5 its bits, by its errno, or 0. The same numbers; or it is over: 6 done, 7 failed. And the bits, or the errno.
 #[unsafe(no_mangle)]
-pub extern "C" fn dconfdb_file_bits(of_lock: bool, bits: u32, has_group: bool) -> u32
-    ensures { result ≡ (if of_lock then lock_bits bits has_group else bits_for bits has_group) }
+pub extern "C" fn dconfdb_handing_after(
+    what: u32,
+    done: u32,
+    errno: u32,
+    file: &MadeFile,
+    number: &mut u32,
+) -> u32
+    ensures step { result ≡ handing_number (handed_after (what_of what) done errno file.now) }
+    ensures number { number.new ≡ handing_value (handed_after (what_of what) done errno file.now) }
 {
-    if of_lock {
-        lock_bits(bits, has_group)
-    } else {
-        bits_for(bits, has_group)
-    }
+    let (step, value) = handing_numbers(what, done, errno, file);
+    *number = value;
+    step
 }

@@ -3,6 +3,7 @@ ghost use Rattle.std.specs.Prelude.{◌≡◌, ◌↔◌, ◌≤◌, IsTrue, IsU
 ghost use Rattle.gv_model.specs.Decode.{decode};
 ghost use Rattle.gv_model.specs.Tree.{children, tree_at, trees_len};
 ghost use Rattle.gv_model.specs.TypeText.{type_at};
+ghost use Rattle.dconfdb_c.specs.Variants.{is_variant};
 ghost use Rattle.dconfdb_values.specs.Numbers.{IsNumber, IsNumberType};
 ghost use Rattle.dconfdb_values.specs.Order.{ArePassed};
 ghost use Rattle.dconfdb_values.specs.Parts.{IsFound, IsLentChild, part_value};
@@ -63,8 +64,8 @@ pub extern "C" fn dconfdb_count_children(type_text: &[u8], value: &[u8]) -> usiz
     n_children(type_text, value)
 }
 
-/// The child at the index, lent from the value's bytes. False where there are no more; then `found`
-/// stays as it was.
+/// The child at the index, lent from the value's bytes. False where there are no more, or, if `of_variant`, where the text isn't `v`; then
+/// `found` stays as it was.
 ///
 /// `passed` is 0, which is right of all bytes, or what an earlier call left there of the same bytes: how many of
 /// the first children are known to be in order, so that they are not looked at again.
@@ -72,18 +73,23 @@ pub extern "C" fn dconfdb_count_children(type_text: &[u8], value: &[u8]) -> usiz
 pub extern "C" fn dconfdb_child_at<'a>(
     type_text: &'a [u8],
     value: &'a [u8],
+    of_variant: bool,
     index: usize,
     passed: &mut usize,
     found: &mut DconfdbPart<'a>,
 ) -> bool
     requires order { ArePassed (type_at type_text.now) value.now passed.now }
+    ensures variant { IsTrue result → IsTrue of_variant → IsTrue (is_variant type_text.entry.now) }
     ensures value { IsTrue result → tree_at (children (decode (type_at type_text.entry.now) value.entry.now)) index ≡ Some (part_value found.new) }
     ensures lent { IsTrue result → IsLentChild type_text.entry.now value.entry.now index found.new }
-    ensures none { result ≡ false → tree_at (children (decode (type_at type_text.entry.now) value.entry.now)) index ≡ None }
+    ensures none { result ≡ false → (IsTrue of_variant → IsTrue (is_variant type_text.entry.now)) → tree_at (children (decode (type_at type_text.entry.now) value.entry.now)) index ≡ None }
     ensures kept { result ≡ false → found.new ≡ found.old }
     ensures order { ArePassed (type_at type_text.entry.now) value.entry.now passed.new }
     ensures onward { passed.old ≤ passed.new }
 {
+    if of_variant && !is_variant(type_text) {
+        return false;
+    }
     match child(type_text, value, index, passed) {
         Some(part) => {
             *found = part;
@@ -118,4 +124,11 @@ pub extern "C" fn dconfdb_look_up<'a>(
         }
         None => false,
     }
+}
+
+/// Whether a type is that of a variant.
+fn is_variant(type_text: &[u8]) -> bool
+    ensures { result ≡ is_variant type_text.now }
+{
+    type_text == "v".as_bytes()
 }

@@ -31,6 +31,7 @@ mod repair;
 mod roles;
 mod rounds;
 mod seen;
+mod served;
 mod since;
 mod turn;
 mod wait;

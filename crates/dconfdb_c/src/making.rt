@@ -26,16 +26,22 @@ pub extern "C" fn dconfdb_making_after(
 }
 
 /// What a program has of a change by its outcome and the first fault. `before`: a change before this one may
-/// not be on the disk.
+/// not be on the disk. `is_aside`: the old file has another name.
 #[unsafe(no_mangle)]
-pub extern "C" fn dconfdb_ending(outcome: u32, fault: u32, before: bool, ending: &mut DconfdbEnding)
-    ensures { IsEndingTold (ending_of (outcome_of outcome fault) before) ending.new }
+pub extern "C" fn dconfdb_ending(
+    outcome: u32,
+    fault: u32,
+    before: bool,
+    is_aside: bool,
+    ending: &mut DconfdbEnding,
+)
+    ensures { IsEndingTold (ending_of (outcome_of outcome fault) before is_aside) (outcome_of outcome fault) ending.new }
 {
-    *ending = ending_by(outcome, fault, before);
+    *ending = ending_by(outcome, fault, before, is_aside);
 }
 
-/// What is asked of whether the user's file is on the disk, once the first `done` tasks were done, by the answer to the last one: 1 is it
-/// noted so, 2 it is to be brought there, 3 is it the same file; 4 it is known to be there, 5 all is done, 6 it isn't.
+/// What is asked of whether the user's file is on the disk, once that task was done, by its answer: 1 is it noted so, 2 it is to be brought
+/// there, 3 its folder's names are, 4 is it the same file; 5 it is known to be there, 6 all is done, 7 it isn't.
 #[unsafe(no_mangle)]
 pub extern "C" fn dconfdb_settling_after(done: u32, is_so: bool, known: &SettlingKnown) -> u32
     ensures { result ≡ settling_number (settling_after done is_so known.now) }

@@ -1,5 +1,5 @@
 //! When whoever is told of changes looks at the files: what comes next, and what happened. C carries out each step, and answers.
-ghost use Rattle.std.specs.Prelude.{◌≡◌, ◌||◌};
+ghost use Rattle.std.specs.Prelude.{◌≡◌, ◌<◌, ◌||◌};
 ghost use Rattle.dconf_steps.specs.NoticeRecords.{notice_event_of, notice_of, notice_step_number, rest_until};
 ghost use Rattle.dconf_steps.specs.Notices.{AreTold, IsNoticeAnswered, IsNoticeAsked, IsNoticeBegun, anew_events, due_at, due_if, heard_events, notice_step, time_events};
 
@@ -24,41 +24,36 @@ pub extern "C" fn dconfdb_notice_next(notice: &NoticeRecord, until: &mut u64) ->
     step
 }
 
-/// Takes what was heard, at any time, and that time passed: 0 a file may have changed, 1 other files may be the store's, else
-/// nothing was.
+/// Takes what happened, at any time, and that time passed; and what comes next, as `dconfdb_notice_next` has it. 0: that event was heard, 0 a
+/// file may have changed, 1 other files may be the store's, else nothing. 1: the same, as somebody asks for a look: so what comes is no rest. 2:
+/// time passed; where not all is watched, and nobody listens, no look is made for that. Else other files are the store's.
 #[unsafe(no_mangle)]
-pub extern "C" fn dconfdb_notice_heard(notice: &mut NoticeRecord, event: u32, now: u64)
-    ensures { AreTold (heard_events (notice_event_of event)) now (notice_of notice.old) (notice_of notice.new) }
-{
-    notice.heard(event, now);
-}
-
-/// The same, as somebody asks for a look: and what comes next, which is 0 or 1.
-#[unsafe(no_mangle)]
-pub extern "C" fn dconfdb_notice_asked(notice: &mut NoticeRecord, event: u32, now: u64) -> u32
-    ensures taken { IsNoticeAsked (notice_of notice.old) (notice_event_of event) now (notice_of notice.new) }
+pub extern "C" fn dconfdb_notice_told(
+    notice: &mut NoticeRecord,
+    what: u32,
+    event: u32,
+    listens: bool,
+    now: u64,
+) -> u32
+    ensures heard { what ≡ 0 → AreTold (heard_events (notice_event_of event)) now (notice_of notice.old) (notice_of notice.new) }
+    ensures asked { what ≡ 1 → IsNoticeAsked (notice_of notice.old) (notice_event_of event) now (notice_of notice.new) }
+    ensures passed { what ≡ 2 → AreTold (time_events ((notice_of notice.old).is_whole || listens)) now (notice_of notice.old) (notice_of notice.new) }
+    ensures anew { 2 < what → AreTold (anew_events (notice_step (notice_of notice.old))) now (notice_of notice.old) (notice_of notice.new) }
     ensures step { result ≡ notice_step_number (notice_step (notice_of notice.new)) }
 {
-    notice.asked(event, now)
+    match what {
+        0 => notice.heard(event, now),
+        1 => {
+            notice.asked(event, now);
+        }
+        2 => notice.passed(listens, now),
+        _ => notice.opened_anew(now),
+    }
+    let (step, _) = notice.next();
+    step
 }
 
-/// Takes that time passed. Where not all is watched, and nobody listens, no look is made for that.
-#[unsafe(no_mangle)]
-pub extern "C" fn dconfdb_notice_passed(notice: &mut NoticeRecord, listens: bool, now: u64)
-    ensures { AreTold (time_events ((notice_of notice.old).is_whole || listens)) now (notice_of notice.old) (notice_of notice.new) }
-{
-    notice.passed(listens, now);
-}
-
-/// Takes that other files are the store's.
-#[unsafe(no_mangle)]
-pub extern "C" fn dconfdb_notice_opened_anew(notice: &mut NoticeRecord, now: u64)
-    ensures { AreTold (anew_events (notice_step (notice_of notice.old))) now (notice_of notice.old) (notice_of notice.new) }
-{
-    notice.opened_anew(now);
-}
-
-/// When the next step is due, or 0: as `dconfdb_notice_passed` minds the time.
+/// When the next step is due, or 0: as that time passed is minded.
 #[unsafe(no_mangle)]
 pub extern "C" fn dconfdb_notice_due(notice: &NoticeRecord, listens: bool) -> u64
     ensures { result ≡ due_if ((notice_of notice.now).is_whole || listens) (notice_step (notice_of notice.now)) }

@@ -1,5 +1,5 @@
 //! Which paths were set last: what is overtaken, and what is noted.
-ghost use Rattle.std.specs.Prelude.{◌≡◌, ◌≢◌, ◌⊎◌, ◌++◌, ◌∷◌, [], ℕ, List, length, map, take, drop};
+ghost use Rattle.std.specs.Prelude.{◌≡◌, ◌≢◌, ◌⊎◌, ◌<◌, ◌++◌, ◌∷◌, [], ℕ, List, length, map, take, drop};
 ghost use Rattle.std.specs.List.{filter};
 ghost use Rattle.dconf_times.specs.Leaving.{is_late, is_left};
 ghost use Rattle.dconf_times.specs.Moments.{time_of_file, time_of_moment};
@@ -12,7 +12,9 @@ ghost use Rattle.dconf_times.specs.declared.times.DconfdbTime.{DconfdbTime};
 ghost use Rattle.dconf_notes.specs.Records.{Noted, IsFile, IsForAll, IsHandedOut, file_bytes, noted_of};
 ghost use Rattle.dconfdb_calls.specs.Given.{HandsOut};
 
-use dconf_notes::{notes_read, notes_written};
+use dconf_notes::{
+    MOST_BYTES, MOST_NOTES, MOST_SET_BYTES, MOST_SET_NOTES, notes_read, notes_written,
+};
 use dconf_times::{
     DconfdbAsked, DconfdbSeen, DconfdbTime, leave_out, moment_beside, newest, note_made, note_seen,
     time_of_file, time_of_moment,
@@ -99,23 +101,21 @@ pub extern "C" fn dconfdb_note_made<'a>(
     }
 }
 
-/// The newest notes: at most so many, which take so many bytes in a file. The oldest go, and one note says
+/// The newest notes of what was set: at most [`MOST_SET_NOTES`], which take [`MOST_SET_BYTES`] in a file. The oldest go, and one note says
 /// of all paths that they were set by the time of the latest of these. They are handed out as
 /// `dconfdb_list` does. Else the number of a fault, and nothing changes.
 #[unsafe(no_mangle)]
 pub extern "C" fn dconfdb_newest_notes<'a>(
     alloc: Global,
     notes: &[DconfdbTime<'a>],
-    most: usize,
-    most_bytes: usize,
     room: &mut [DconfdbTime<'a>],
     len: &mut usize,
 ) -> u32
-    ensures done { result ≡ 0 → (kept : List DconfdbTime) × AreNewest most most_bytes notes.now kept × HandsOut kept room.old room.new len.new }
+    ensures done { result ≡ 0 → (kept : List DconfdbTime) × AreNewest MOST_SET_NOTES MOST_SET_BYTES notes.now kept × HandsOut kept room.old room.new len.new }
     ensures refused { result ≢ 0 → result ≡ 1 }
     ensures kept { result ≢ 0 → (room.new ≡ room.old) × (len.new ≡ len.old) }
 {
-    match newest(alloc, notes, most, most_bytes) {
+    match newest(alloc, notes, MOST_SET_NOTES, MOST_SET_BYTES) {
         Ok(kept) => {
             *len = hand_out(kept.as_slice(), room);
             0
@@ -152,7 +152,7 @@ pub extern "C" fn dconfdb_time_of_file(written: u64, touched: u64) -> u64
 }
 
 /// The notes that a file's bytes are, of which the first is of the turn in which they were written:
-/// handed out as `dconfdb_list` does. There is none where the bytes are no such file's, or not whole.
+/// handed out as `dconfdb_list` does. There is none where the bytes are no such file's, or not whole, or more than [`MOST_BYTES`].
 /// Else the number of a fault, and nothing changes.
 #[unsafe(no_mangle)]
 pub extern "C" fn dconfdb_notes_read<'a>(
@@ -162,10 +162,14 @@ pub extern "C" fn dconfdb_notes_read<'a>(
     len: &mut usize,
 ) -> u32
     ensures done { result ≡ 0 → (read : List DconfdbTime) × HandsOut read room.old room.new len.new
-        × (IsFile bytes.now (map noted_of read) ⊎ ((read ≡ []) × ((notes : List Noted) → IsFile bytes.now notes → ⊥))) }
+        × (IsFile bytes.now (map noted_of read) ⊎ ((read ≡ []) × ((MOST_BYTES < length bytes.now) ⊎ ((notes : List Noted) → IsFile bytes.now notes → ⊥)))) }
     ensures refused { result ≢ 0 → result ≡ 1 }
     ensures kept { result ≢ 0 → (room.new ≡ room.old) × (len.new ≡ len.old) }
 {
+    if bytes.len() > MOST_BYTES {
+        *len = hand_out(&[], room);
+        return 0;
+    }
     match notes_read(alloc, bytes) {
         Ok(Some(notes)) => {
             *len = hand_out(notes.as_slice(), room);
@@ -179,15 +183,13 @@ pub extern "C" fn dconfdb_notes_read<'a>(
     }
 }
 
-/// The bytes of a file of these notes, of which the first is of the turn: at most so many notes, and
-/// so many bytes, or one note stands for all that were set. They are handed out as `dconfdb_list`
+/// The bytes of a file of these notes, of which the first is of the turn: at most [`MOST_NOTES`],
+/// and [`MOST_BYTES`], or one note stands for all that were set. They are handed out as `dconfdb_list`
 /// does. Else the number of a fault, and nothing changes.
 #[unsafe(no_mangle)]
 pub extern "C" fn dconfdb_notes_written(
     alloc: Global,
     notes: &[DconfdbTime<'_>],
-    most: usize,
-    most_bytes: usize,
     room: &mut [u8],
     len: &mut usize,
 ) -> u32
@@ -196,7 +198,7 @@ pub extern "C" fn dconfdb_notes_written(
     ensures refused { result ≢ 0 → result ≡ 1 }
     ensures kept { result ≢ 0 → (room.new ≡ room.old) × (len.new ≡ len.old) }
 {
-    match notes_written(alloc, notes, most, most_bytes, room) {
+    match notes_written(alloc, notes, MOST_NOTES, MOST_BYTES, room) {
         Ok(n) => {
             *len = n;
             0

@@ -1,48 +1,58 @@
-//! Where a store is, which profile it has, and which file a line of that means.
-ghost use Rattle.std.specs.Prelude.{◌≡◌, ◌≢◌, List, IsTrue, None, Some, false, map};
-ghost use Rattle.dconf_model.specs.Profiles.{Database, has_writable};
-ghost use Rattle.dconf_places.specs.Numbers.{base_number, candidate_number, candidate_numbered, giver_numbered, kind_numbered, step_number, telling_number};
-ghost use Rattle.dconf_places.specs.Places.{database_path, is_beside, path_at, spot_for};
-ghost use Rattle.dconf_places.specs.ProfileSteps.{candidate_path, first_candidate, found_by, profile_step, told_as};
-ghost use Rattle.dconf_places.specs.Told.{spot_at, text_of, variables_of};
-ghost use Rattle.dconfdb_calls.specs.Named.{named, told};
+//! Which kind of store is found and where, which profile it has, and which file a line of that means.
+ghost use Rattle.std.specs.Prelude.{◌≡◌, ◌≢◌, IsTrue, [], None, Some, false};
+ghost use Rattle.dconf_model.specs.Profiles.{is_user};
+ghost use Rattle.dconf_places.specs.Numbers.{base_number, giver_numbered, kind_numbered, telling_number};
+ghost use Rattle.dconf_places.specs.Places.{path_at};
+ghost use Rattle.dconf_places.specs.ProfileSteps.{found_by};
+ghost use Rattle.dconf_places.specs.Told.{spot_at, text_of};
+ghost use Rattle.dconf_homes.specs.Homes.{file_in, flag_in, kind_for, spot_in};
+ghost use Rattle.dconf_homes.specs.Numbers.{dir_of, dir_of_step, kind_number, sought_number, sought_numbered, step_number, what_numbered};
+ghost use Rattle.dconf_homes.specs.Sought.{first_sought, said_as, sought_path, sought_step};
+ghost use Rattle.dconf_homes.specs.Told.{home_of, surroundings_of};
 
-use dconf_places::{
-    Candidate, Environment, Found, Given, Location, PathParts, database_path, is_beside,
-    kind_of_number, profile_step, told_as,
-};
-use dconfdb_calls::DconfdbName;
+use dconf_homes::{Around, Place, Sought, Wanted, is_users};
+use dconf_places::{Found, Given, Location, PathParts, kind_of_number};
 
-/// What has to be asked to know the path of a store's folder, or of the profile that the environment names (`is_profile`): 0 nothing, 1 the
-/// current folder, 2 the home that the system has for the user; 3 there is none. `giver` is 0 where nobody gives the folder, 1 where a
-/// program does that calls the library, and else a user.
+/// Which kind of store is found: 0 our own, a folder that has all; 1 dconf's, in dconf's places; 2 nobody knows. `giver` is 0 where nobody gives the
+/// folder, 1 where a program does that calls the library, and else a user.
+#[unsafe(no_mangle)]
+pub extern "C" fn dconfdb_place_kind(around: &Around<'_>, giver: u32) -> u32
+    ensures { result ≡ kind_number (kind_for (surroundings_of around.now) (giver_numbered giver [])) }
+{
+    around.kind(Given::of_number(giver, b"")).number()
+}
+
+/// What has to be asked to know the path of what is wanted (0 the store's folder, 1 the profile that the environment names, and else the user's
+/// runtime folder): 0 nothing, 1 the current folder, 2 the home that the system has for the user; 3 there is none.
 #[unsafe(no_mangle)]
 pub extern "C" fn dconfdb_place_base<'a>(
-    environment: &Environment<'a>,
+    around: &Around<'a>,
     giver: u32,
     folder: &'a [u8],
-    is_profile: bool,
+    wanted: u32,
 ) -> u32
-    ensures { result ≡ base_number (spot_for is_profile (variables_of environment.now) (giver_numbered giver folder.entry.now)) }
+    ensures { result ≡ base_number (spot_in (what_numbered wanted) (surroundings_of around.now) (giver_numbered giver folder.entry.now)) }
 {
-    Location::of(environment, Given::of_number(giver, folder), is_profile).base_number()
+    around
+        .location(Given::of_number(giver, folder), Wanted::of_number(wanted))
+        .base_number()
 }
 
 /// That path, by what was asked. Without one nothing is written.
 #[unsafe(no_mangle)]
 pub extern "C" fn dconfdb_place<'a>(
-    environment: &Environment<'a>,
+    around: &Around<'a>,
     giver: u32,
     folder: &'a [u8],
-    is_profile: bool,
+    wanted: u32,
     base: &'a [u8],
     path: &mut PathParts<'a>,
 ) -> bool
-    ensures some { IsTrue result → path_at (spot_for is_profile (variables_of environment.now) (giver_numbered giver folder.entry.now)) base.entry.now ≡ Some (text_of path.new) }
-    ensures none { result ≡ false → path_at (spot_for is_profile (variables_of environment.now) (giver_numbered giver folder.entry.now)) base.entry.now ≡ None }
+    ensures some { IsTrue result → path_at (spot_in (what_numbered wanted) (surroundings_of around.now) (giver_numbered giver folder.entry.now)) base.entry.now ≡ Some (text_of path.new) }
+    ensures none { result ≡ false → path_at (spot_in (what_numbered wanted) (surroundings_of around.now) (giver_numbered giver folder.entry.now)) base.entry.now ≡ None }
     ensures kept { result ≡ false → path.new ≡ path.old }
 {
-    let location = Location::of(environment, Given::of_number(giver, folder), is_profile);
+    let location = around.location(Given::of_number(giver, folder), Wanted::of_number(wanted));
     put_path(location, base, path)
 }
 
@@ -60,27 +70,35 @@ fn put_path<'a>(location: Location<'a>, base: &'a [u8], path: &mut PathParts<'a>
     }
 }
 
-/// The path of a profile's file, by that of the store's folder and of the one that is named.
+/// The path of a profile's file; without such a place nothing is written. `which` and `dir` are as [`dconfdb_profile_step`] says them.
 #[unsafe(no_mangle)]
 pub extern "C" fn dconfdb_profile_path<'a>(
-    candidate: u32,
-    folder: &'a [u8],
-    named: &'a [u8],
+    place: &Place<'a>,
+    which: u32,
+    dir: usize,
     path: &mut PathParts<'a>,
-)
-    ensures { text_of path.new ≡ candidate_path (candidate_numbered candidate) folder.entry.now named.entry.now }
+) -> bool
+    ensures some { IsTrue result → sought_path (home_of place.now) (sought_numbered which dir) ≡ Some (text_of path.new) }
+    ensures none { result ≡ false → sought_path (home_of place.now) (sought_numbered which dir) ≡ None }
+    ensures kept { result ≡ false → path.new ≡ path.old }
 {
-    *path = Candidate::of_number(candidate).path(folder, named);
+    match place.path(Sought::of_number(which, dir)) {
+        Some(parts) => {
+            *path = parts;
+            true
+        }
+        None => false,
+    }
 }
 
 /// What is known of a look at a profile.
 #[repr(C)]
 #[derive(Clone, Copy)]
 pub struct DconfdbProfileLook {
-    /// Which one: 0 that is named, 1 that in the store's folder, and else that of all users; 7 none was looked at.
+    /// Which one: 0 that is named, 1 that in the store's folder, 2 that of all users; of dconf's kind 8 to 12; 7 none was looked at.
     pub which: u32,
-    /// One is named.
-    pub is_named: bool,
+    /// And in which folder of `$XDG_DATA_DIRS`.
+    pub dir: usize,
     /// Reading it failed,
     pub fails: bool,
     /// by a fault of its own.
@@ -93,48 +111,55 @@ pub struct DconfdbProfileLook {
     pub has_kept: bool,
 }
 
-/// What comes first, or after a look at a profile: a look at the one of that number; 3 the line `user-db:user` counts, 4 the one that was looked at
-/// counts, 5 the store has no database, 6 it can't be opened. `telling` is as what it is told why that one isn't the profile: 0 it isn't, 1
-/// as why the store can't be opened, 2 the store keeps it.
+/// What comes first, or after a look at a profile: a look at the one of that number, and in that folder `dir`; 3 the line `user-db:user` counts, 4
+/// the one that was looked at counts, 5 the store has no database, 6 it can't be opened. `telling` is as what it is told why that one isn't the
+/// profile: 0 it isn't, 1 as why the store can't be opened, 2 the store keeps it.
 #[unsafe(no_mangle)]
-pub extern "C" fn dconfdb_profile_step(look: &DconfdbProfileLook, telling: &mut u32) -> u32
-    ensures first { look.now.which ≡ 7 → result ≡ candidate_number (first_candidate look.now.is_named) }
-    ensures step { look.now.which ≢ 7 → result ≡ step_number (profile_step (candidate_numbered look.now.which) (found_by look.now.fails look.now.is_own look.now.is_there) look.now.is_lenient) }
-    ensures telling { telling.new ≡ telling_number (told_as (candidate_numbered look.now.which) (found_by look.now.fails look.now.is_own look.now.is_there) look.now.is_lenient look.now.has_kept) }
+pub extern "C" fn dconfdb_profile_step(
+    place: &Place<'_>,
+    look: &DconfdbProfileLook,
+    dir: &mut usize,
+    telling: &mut u32,
+) -> u32
+    ensures first { look.now.which ≡ 7 → result ≡ sought_number (first_sought (home_of place.now)) }
+    ensures first_dir { look.now.which ≡ 7 → dir.new ≡ dir_of (first_sought (home_of place.now)) }
+    ensures step { look.now.which ≢ 7 → result ≡ step_number (sought_step (home_of place.now) (sought_numbered look.now.which look.now.dir) (found_by look.now.fails look.now.is_own look.now.is_there) look.now.is_lenient) }
+    ensures dir { look.now.which ≢ 7 → dir.new ≡ dir_of_step (sought_step (home_of place.now) (sought_numbered look.now.which look.now.dir) (found_by look.now.fails look.now.is_own look.now.is_there) look.now.is_lenient) }
+    ensures telling { telling.new ≡ telling_number (said_as (home_of place.now) (sought_numbered look.now.which look.now.dir) (found_by look.now.fails look.now.is_own look.now.is_there) look.now.is_lenient look.now.has_kept) }
 {
-    let candidate = Candidate::of_number(look.which);
+    let sought = Sought::of_number(look.which, look.dir);
     let found = Found::by(look.fails, look.is_own, look.is_there);
-    *telling = told_as(candidate, found, look.is_lenient, look.has_kept).number();
+    *telling = place
+        .said_as(sought, found, look.is_lenient, look.has_kept)
+        .number();
     if look.which == 7 {
-        Candidate::first(look.is_named).number()
+        let first = place.first();
+        *dir = first.dir();
+        first.number()
     } else {
-        profile_step(candidate, found, look.is_lenient).number()
+        let step = place.step(sought, found, look.is_lenient);
+        *dir = step.dir();
+        step.number()
     }
 }
 
-/// The path of a database's file, by that of the store's folder and of the profile that names it. `is_given`: whoever asks gives the folder.
+/// The path of a database's file, by the profile that names it; and whether it is the user's, which can be changed. `flag` is the path of the flag of
+/// dconf's readers, and empty where there are none.
 #[unsafe(no_mangle)]
 pub extern "C" fn dconfdb_database_path<'a>(
-    folder: &'a [u8],
+    place: &Place<'a>,
     profile: &[u8],
-    is_given: bool,
     kind: u32,
     name: &'a [u8],
     path: &mut PathParts<'a>,
-)
-    ensures { text_of path.new ≡ database_path folder.entry.now (is_beside profile.now is_given) (record { kind = kind_numbered kind; name = name.entry.now }) }
+    flag: &mut PathParts<'a>,
+) -> bool
+    ensures path { text_of path.new ≡ file_in (home_of place.now) profile.now (record { kind = kind_numbered kind; name = name.entry.now }) }
+    ensures flag { text_of flag.new ≡ flag_in (home_of place.now) (record { kind = kind_numbered kind; name = name.entry.now }) }
+    ensures users { result ≡ is_user (kind_numbered kind) }
 {
-    let beside = is_beside(profile, is_given);
-    *path = database_path(folder, beside, kind_of_number(kind), name);
-}
-
-/// Whether the first of a profile's databases is the user's, which can be changed.
-#[unsafe(no_mangle)]
-pub extern "C" fn dconfdb_has_users(names: &[DconfdbName<'_>]) -> bool
-    ensures { (databases : List Database) → map told names.now ≡ map named databases → result ≡ has_writable databases }
-{
-    match names.first() {
-        Some(name) => name.kind == 0,
-        None => false,
-    }
+    let kind = kind_of_number(kind);
+    *path = place.file(profile, kind, name);
+    *flag = place.flag(kind, name);
+    is_users(kind)
 }

@@ -1,10 +1,11 @@
-//! As what the files of a site are looked at.
+//! As what the files of a site are looked at, and what is found there.
 ghost use Rattle.std.specs.Prelude.{◌≡◌};
+ghost use Rattle.dconf_roles.specs.Findings.{finding_of, finding_number};
 ghost use Rattle.dconf_roles.specs.Numbers.{reading_number, role_number, role_numbered};
 ghost use Rattle.dconf_roles.specs.Readings.{reading};
 ghost use Rattle.dconf_roles.specs.Roles.{role_after, role_among};
 
-use dconf_roles::{reading_number, role_number};
+use dconf_roles::{FindingKnown, finding_number, reading_number, role_number};
 
 /// As what `update` takes the files of a folder, or a file, by the role of the folder in which it has that name: 1 a keyfile, 2 a file of
 /// locks, 3 hidden, 4 not read, else what its text says.
@@ -23,4 +24,13 @@ pub extern "C" fn dconfdb_read_as(role: u32, is_one_read: bool, size: u64, text:
     ensures { result ≡ reading_number (reading (role_among (role_numbered role) is_one_read) size text.now) }
 {
     reading_number(role, is_one_read, size, text)
+}
+
+/// What is found of a key that is set, or of a lock, by what the schemas have: 0 nothing, 1 no schema has the key, 2 the locked key, 3 a key
+/// below the locked directory, 4 the value is of another type, 5 the key doesn't take it.
+#[unsafe(no_mangle)]
+pub extern "C" fn dconfdb_finding(known: &FindingKnown) -> u32
+    ensures { result ≡ finding_number (finding_of known.now) }
+{
+    finding_number(known)
 }

@@ -20,7 +20,7 @@ pub extern "C" fn dconfdb_is_at_work(has_ended: bool, begun_in: u32, process: u3
 }
 
 /// What the thread that writes does next, once the first `done` tasks of a round were done, or were not due: 1 it tells, 2 watches, 3
-/// looks, 4 writes, 5 leaves the line, 6 rests, 7 ends, 8 ends and gives up what waits.
+/// looks, 4 takes its turn, 5 writes, 6 leaves the line, 7 rests, 8 ends, 9 ends and gives up what waits.
 #[unsafe(no_mangle)]
 pub extern "C" fn dconfdb_round_after(done: u32, known: &Known) -> u32
     ensures { result ≡ task_number (task_after done known.now) }

@@ -1,6 +1,7 @@
 //! What is seen of a key while an edit of it may wait, and which paths stand for which.
 ghost use Rattle.std.specs.Prelude.{◌≡◌, ◌≢◌, ℕ, List, false, true};
 ghost use Rattle.dconf_model.specs.Paths.{is_short, starts_with_slash};
+ghost use Rattle.dconf_rounds.specs.Telling.{passes_over};
 ghost use Rattle.dconf_seen.specs.Allowed.{may_be_made};
 ghost use Rattle.dconf_seen.specs.Covering.{meets};
 ghost use Rattle.dconf_seen.specs.Reading.{found_by, found_number, known_word};
@@ -13,18 +14,27 @@ ghost use Rattle.dconfdb_calls.specs.Listed.{ended};
 ghost use Rattle.dconfdb_calls.specs.Seen.{layers_of};
 
 use dconf_layers::{Layer, LentLayers};
+use dconf_rounds::passes_over;
 use dconf_seen::{Known, found_by, found_number, may_be_made, meets};
 use dconf_texts::{is_short, kind_at, number_of_kind, wanted_kind};
 use dconf_told::{DconfdbKeyAsked, may_write, relocked_texts, told_texts};
-use dconfdb_calls::{Fault, hand_out};
+use dconfdb_calls::{Fault, hand_out, is_key_writable};
 use std::alloc::Global;
 
 /// Where what is read of a key is found: 0 as it is stored, 1 without the user's value, 2 in the newest edit that waits of it, 3 in the
 /// first database, 4 nowhere. The setting is read, or the user's own value (`of_user`), or what there is without that (`of_default`).
+/// `is_odd`: who reads the setting passes over a value of another type, so that the key is to be asked for by its type.
 #[unsafe(no_mangle)]
-pub extern "C" fn dconfdb_found(of_user: bool, of_default: bool, known: &Known) -> u32
-    ensures { result ≡ found_number (found_by of_user of_default (known_word known.now) known.now.writable known.now.may_write known.now.edit_fits known.now.stored_fits) }
+pub extern "C" fn dconfdb_found(
+    of_user: bool,
+    of_default: bool,
+    known: &Known,
+    is_odd: &mut bool,
+) -> u32
+    ensures odd { is_odd.new ≡ passes_over (known_word known.now) known.now.writable known.now.may_write known.now.edit_fits known.now.stored_fits }
+    ensures found { result ≡ found_number (found_by of_user of_default (known_word known.now) known.now.writable known.now.may_write known.now.edit_fits known.now.stored_fits) }
 {
+    *is_odd = passes_over(known);
     found_number(found_by(of_user, of_default, *known))
 }
 
@@ -103,7 +113,7 @@ pub extern "C" fn dconfdb_relocked(
 }
 
 /// Whether a path may be written, a key, or all that is below a directory: the first layer is the user's, and no lock covers it. What
-/// doesn't start with `/` is locked by nobody.
+/// doesn't start with `/` is locked by nobody. Where memory is lacking it may not. A key that may be written takes none.
 #[unsafe(no_mangle)]
 pub extern "C" fn dconfdb_may_write(
     alloc: Global,
@@ -114,15 +124,21 @@ pub extern "C" fn dconfdb_may_write(
 ) -> u32
     ensures path { result ≡ 0 → starts_with_slash path.now ≡ true → may.new ≡ may_write (layers_of layers.now writable) path.now }
     ensures none { result ≡ 0 → starts_with_slash path.now ≡ false → may.new ≡ writable }
-    ensures refused { result ≢ 0 → result ≡ 1 }
-    ensures kept { result ≢ 0 → may.new ≡ may.old }
+    ensures refused { result ≢ 0 → (result ≡ 1) × (may.new ≡ false) }
 {
+    if is_key_writable(layers, writable, path) {
+        *may = true;
+        return 0;
+    }
     match may_write(alloc, LentLayers::new(writable, layers), path) {
         Ok(is) => {
             *may = is;
             0
         }
-        Err(_) => Fault::Memory.number(),
+        Err(_) => {
+            *may = false;
+            Fault::Memory.number()
+        }
     }
 }
 

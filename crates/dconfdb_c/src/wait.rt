@@ -1,9 +1,12 @@
-//! The wait for a lock, or for a file that others have a lease on: what comes next, and what came of it. C carries out each step, and answers.
+//! The wait for a lock, or for a file that others have a lease on, and a try to take a lock: what comes next. C carries out each step, and answers.
 ghost use Rattle.std.specs.Prelude.{◌≡◌, ◌==◌, not};
-ghost use Rattle.dconf_steps.specs.WaitRecords.{IsTimed, IsWaitTold, longest_of, passed_by, wait_answer_of, wait_of};
-ghost use Rattle.dconf_steps.specs.Waits.{IsWaitAnswered, IsWaitBegun, wait_step};
+ghost use Rattle.dconf_waits.specs.Takings.{taken};
+ghost use Rattle.dconf_waits.specs.WaitRecords.{IsTimed, IsWaitTold, longest_of, passed_by, wait_answer_of, wait_of};
+ghost use Rattle.dconf_waits.specs.Waits.{IsWaitAnswered, IsWaitBegun, wait_step};
 
-use dconf_steps::{NextStep, WaitRecord};
+use dconf_steps::NextStep;
+use dconf_verdicts::Seen;
+use dconf_waits::{TakingRecord, WaitRecord};
 
 /// A wait of which nothing is done yet, and what comes first: 0 for a lock, so many milliseconds at most, 1 for a lock, without end, or else for
 /// a file that others have a lease on. `now` is a moment of a clock of nanoseconds that nobody sets.
@@ -41,4 +44,13 @@ pub extern "C" fn dconfdb_wait_answered(
 {
     wait.answered(tried, errno, at);
     *step = wait.next();
+}
+
+/// Takes what the host says of what was done in a try to take a lock, and says what comes next in it: the tasks are those of
+/// [`TakingRecord`](dconf_waits::TakingRecord).
+#[unsafe(no_mangle)]
+pub extern "C" fn dconfdb_taking_answered(taking: &mut TakingRecord, seen: &Seen)
+    ensures { taking.new ≡ taken taking.old seen.now }
+{
+    taking.answered(seen);
 }

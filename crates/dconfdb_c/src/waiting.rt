@@ -1,11 +1,13 @@
 //! Changes that wait to be written: which edit of a key is the newest, what becomes of each change, and how
 //! long it is waited for.
-ghost use Rattle.std.specs.Prelude.{◌≡◌, ◌≤◌, ◌<◌, ◌+◌, ◌↔◌, IsTrue, false, true};
+ghost use Rattle.std.specs.Prelude.{◌≡◌, ◌≤◌, ◌<◌, ◌+◌, ◌↔◌, IsTrue, false, filter, length, map, take, true};
+ghost use Rattle.std.specs.List.Sorted.{IsPermutation};
 ghost use Rattle.dconf_waiting.specs.Newest.{IsPut, found};
-ghost use Rattle.dconf_waiting.specs.Fates.{edit_with, fate_number, fate_of, is_overtaken};
-ghost use Rattle.dconf_waiting.specs.Patiences.{renewed};
+ghost use Rattle.dconf_waiting.specs.Fates.{marked, waits};
+ghost use Rattle.dconf_waiting.specs.Patiences.{renewed_by};
 
-use dconf_waiting::{Patience, Progress, WaitingEdit, fate_number, found, is_overtaken, put};
+use dconf_files::FileTime;
+use dconf_waiting::{Patience, Progress, Waiter, found, put, settle};
 
 /// The number of the newest edit of a key that waits; 0 if none does. If `puts`, the edit of that number is the newest from then on.
 #[unsafe(no_mangle)]
@@ -24,34 +26,25 @@ pub extern "C" fn dconfdb_newest(
     found(newest, key)
 }
 
-/// What becomes of a change when it was tried to write all that waits: 0 it waits, 1 it is written,
-/// 2 refused, 3 overtaken by the newest edit of its key that goes on waiting, by their numbers: both are alone
-/// in their changes.
+/// What becomes of each change that waits, in the order in which they are written: its `fate` is 0 it waits, 1 it is written, or was there
+/// already, 2 refused, 3 overtaken by the newest edit of its key, 4 it waits behind all others. `is_written`: what was tried is written. Those of
+/// 0 are the first from then on, in their order. Gives how many they are.
 #[unsafe(no_mangle)]
-pub extern "C" fn dconfdb_waiting_fate(
-    is_written: bool,
-    is_refused: bool,
-    number: usize,
-    is_alone: bool,
-    newest: usize,
-    newest_is_alone: bool,
-) -> u32
-    ensures { result ≡ fate_number (fate_of is_written is_refused (is_overtaken (edit_with number is_alone) (edit_with newest newest_is_alone))) }
+pub extern "C" fn dconfdb_waiting_line(line: &mut [Waiter], is_written: bool) -> usize
+    ensures waiting { take result line.new ≡ filter waits (map (marked is_written) line.old) }
+    ensures all { IsPermutation (map (marked is_written) line.old) line.new }
+    ensures within { result ≤ length line.new }
 {
-    let newest = WaitingEdit {
-        number: newest,
-        is_alone: newest_is_alone,
-    };
-    let is_overtaken = is_overtaken(WaitingEdit { number, is_alone }, newest);
-    fate_number(is_written, is_refused, is_overtaken)
+    settle(line, is_written)
 }
 
-/// How long it is waited: it begins now, or another program had a turn: so long, and as long again after each turn, up to a minute.
+/// How long it is waited: it begins now, so long; or it goes on, as long again, up to a minute, if another program had a turn since: the folder
+/// changed in another moment than it had then.
 #[unsafe(no_mangle)]
-pub extern "C" fn dconfdb_patience_renew(patience: &mut Patience, now: u64)
-    ensures { patience.new ≡ renewed patience.old now }
+pub extern "C" fn dconfdb_patience_renew(patience: &mut Patience, changed: &FileTime, now: u64)
+    ensures { patience.new ≡ renewed_by patience.old changed.now now }
 {
-    patience.renew(now);
+    patience.renew(*changed, now);
 }
 
 /// Whether it is waited on: fewer changes are settled than there were when the wait began, no later try than those of then has failed

@@ -1,8 +1,8 @@
-//! What dconf's client does with changes: the rows of a set, what makes a difference to a database, where a key's newest word is found, and
-//! what becomes of a change whose caller waits for it.
+//! What dconf's client does with changes: the rows of a set, what makes a difference to a database, where a key's newest word is found, who
+//! looks at the files, what becomes of a change whose caller waits for it, and what is told.
 use dconf_changesets::{
-    Base, ChangeKnown, Effect, asked_after, change_number, differs, effect_number, effect_of,
-    is_current, shared_within,
+    Base, ChangeKnown, Effect, LookKnown, Said, Tried, asked_after, change_number, differs,
+    effect_number, effect_of, is_said, is_unmade, look_number, shared_within,
 };
 use std::test::Fail;
 
@@ -21,7 +21,7 @@ fn rows_go() -> bool {
         && effect_number(Effect::Goes) == 1
 }
 
-/// The directories of a path, from the longest on, and those of two paths.
+/// The path, its directories from the longest on, and those of two paths.
 fn are_shared() -> bool {
     shared_within(b"/a/b/c", 5, b"/a/b/c") == 5
         && shared_within(b"/a/b/c", 4, b"/a/b/c") == 3
@@ -29,8 +29,10 @@ fn are_shared() -> bool {
         && shared_within(b"/a/b/c", 0, b"/a/b/c") == 0
         && shared_within(b"/a/b/c", 6, b"/a/bc") == 3
         && shared_within(b"/a/", 3, b"/a/b") == 3
-        && shared_within(b"/a", 9, b"/a") == 1
-        && shared_within(b"b", 1, b"b") == 0
+        && shared_within(b"/a/", 2, b"/a/") == 1
+        && shared_within(b"/a", 9, b"/a") == 2
+        && shared_within(b"/a", 2, b"/ab") == 1
+        && shared_within(b"b", 1, b"c") == 0
 }
 
 const NOTHING: Base = Base {
@@ -76,15 +78,135 @@ fn are_asked() -> bool {
         && asked_after(4, 3) == 1
         && asked_after(4, 4) == 0
         && asked_after(2, 9) == 0
-        && is_current(true, false, true)
-        && !is_current(true, true, true)
-        && !is_current(true, false, false)
-        && !is_current(false, false, true)
+}
+
+/// All that happens to the files is told to this process, and nothing has been.
+const HEARD: LookKnown = LookKnown {
+    until: 0,
+    is_open: true,
+    is_watched: true,
+    is_whole: true,
+    is_told: false,
+    is_own: true,
+    is_busy: false,
+};
+
+fn look_where_it_is_due() -> bool {
+    let closed = LookKnown {
+        is_open: false,
+        ..HEARD
+    };
+    let told = LookKnown {
+        is_told: true,
+        ..HEARD
+    };
+    let part = LookKnown {
+        is_whole: false,
+        ..HEARD
+    };
+    let timed = LookKnown { until: 7, ..HEARD };
+    let child = LookKnown {
+        is_own: false,
+        ..HEARD
+    };
+    let unwatched = LookKnown {
+        is_watched: false,
+        ..HEARD
+    };
+    let busy = LookKnown {
+        is_busy: true,
+        ..told
+    };
+    look_number(0, &HEARD) == 2
+        && look_number(1, &HEARD) == 0
+        && look_number(2, &HEARD) == 0
+        && look_number(3, &unwatched) == 0
+        && look_number(3, &closed) == 1
+        && look_number(0, &closed) == 1
+        && look_number(1, &told) == 0
+        && look_number(2, &told) == 2
+        && look_number(2, &part) == 2
+        && look_number(2, &timed) == 2
+        && look_number(2, &child) == 2
+        && look_number(1, &unwatched) == 2
+        && look_number(2, &busy) == 3
+        && look_number(1, &busy) == 0
+}
+
+const SILENT: Said = Said {
+    says: false,
+    is_same: false,
+    has_below: false,
+};
+
+/// The newest word counts, and what is set below a directory stands beside its reset.
+fn say_the_same() -> bool {
+    let same = Said {
+        says: true,
+        is_same: true,
+        ..SILENT
+    };
+    let other = Said {
+        says: true,
+        ..SILENT
+    };
+    let below = Said {
+        has_below: true,
+        ..same
+    };
+    is_said(&[], true)
+        && !is_said(&[], false)
+        && is_said(&[SILENT, SILENT], true)
+        && !is_said(&[SILENT, SILENT], false)
+        && is_said(&[same, other], false)
+        && !is_said(&[other, same], true)
+        && is_said(&[SILENT, same], false)
+        && !is_said(&[below, same], true)
+        && !is_said(&[SILENT, below], true)
+        && is_said(&[same, below], false)
+}
+
+const TRIED: Tried = Tried {
+    is_written: true,
+    is_refused: false,
+    is_left_out: false,
+    is_now: false,
+    is_there: true,
+};
+
+fn tell_what_is_lost() -> bool {
+    let refused = Tried {
+        is_refused: true,
+        ..TRIED
+    };
+    let left = Tried {
+        is_left_out: true,
+        ..TRIED
+    };
+    let lost = Tried {
+        is_there: false,
+        ..TRIED
+    };
+    let now = Tried {
+        is_now: true,
+        ..lost
+    };
+    let waits = Tried {
+        is_written: false,
+        ..lost
+    };
+    !is_unmade(&TRIED)
+        && is_unmade(&refused)
+        && is_unmade(&left)
+        && is_unmade(&lost)
+        && !is_unmade(&now)
+        && !is_unmade(&waits)
 }
 
 const PLAIN: ChangeKnown = ChangeKnown {
     is_empty: false,
     is_refused: false,
+    has_store: true,
     has_user: true,
     is_there: false,
     is_left: true,
@@ -117,7 +239,10 @@ fn are_made() -> bool {
     };
     let userless = ChangeKnown {
         has_user: false,
-        is_unwritable: true,
+        ..there
+    };
+    let closed = ChangeKnown {
+        has_store: false,
         ..there
     };
     change_number(0, true, &empty) == 5
@@ -132,12 +257,13 @@ fn are_made() -> bool {
         && change_number(2, false, &there) == 3
         && change_number(1, false, &PLAIN) == 7
         && change_number(3, false, &locked) == 6
-        && change_number(1, true, &userless) == 3
-        && change_number(3, false, &userless) == 6
+        && change_number(1, true, &userless) == 6
+        && change_number(1, true, &closed) == 7
 }
 
 #[test]
 fn changes_are_kept(rt: HostRuntime) -> Result<(), Fail> {
     assert!(rt; rows_go() && are_shared() && make_differences() && are_asked() && are_made());
+    assert!(rt; look_where_it_is_due() && say_the_same() && tell_what_is_lost());
     Ok(())
 }

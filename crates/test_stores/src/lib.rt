@@ -15,6 +15,8 @@ mod examples;
 #[cfg(test)]
 mod folders;
 #[cfg(test)]
+mod homes;
+#[cfg(test)]
 mod left;
 #[cfg(test)]
 mod machines;
@@ -22,6 +24,8 @@ mod machines;
 mod made;
 #[cfg(test)]
 mod maps;
+#[cfg(test)]
+mod parts;
 #[cfg(test)]
 mod places;
 #[cfg(test)]
@@ -33,9 +37,13 @@ mod rounds;
 #[cfg(test)]
 mod seen;
 #[cfg(test)]
+mod served;
+#[cfg(test)]
 mod stores;
 #[cfg(test)]
 mod tables;
+#[cfg(test)]
+mod takings;
 #[cfg(test)]
 mod texts;
 #[cfg(test)]

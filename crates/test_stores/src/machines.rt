@@ -2,8 +2,9 @@
 use crate::questions::TableOf;
 use crate::times::{COUNTED, GUESSED, KEPT, NOTED, OVERTAKEN};
 use crate::turns::TURNS;
-use dconf_steps::{NextStep, NoticeRecord, QueueRecord, QueuedEdit, RefreshRecord, WaitRecord};
+use dconf_steps::{NextStep, NoticeRecord, QueueRecord, QueuedEdit, RefreshRecord};
 use dconf_waiting::{next_look, pause_after, sleep_until};
+use dconf_waits::WaitRecord;
 use std::alloc::AllocError;
 use std::fmt::Write;
 use std::test::Fail;

@@ -2,7 +2,7 @@
 //! what a bad file counts as.
 use crate::calls::layer;
 use dconf_layers::Layer;
-use dconf_made::{changed_file, is_made, need_number};
+use dconf_made::{Course, changed_file, course_number, is_made, need_number};
 use dconf_mended::{may_be_database, mended_file, standing_number};
 use dconfdb_calls::{DconfdbChange, Fault};
 use std::alloc::Global;
@@ -106,6 +106,45 @@ fn are_needed() -> bool {
         && need_number(3, &[]) == 2
 }
 
+/// A change of a database that is the user's.
+const OWN: Course = Course {
+    has_edits: true,
+    has_user: true,
+    is_locked: false,
+    is_unsynced: false,
+};
+
+/// What is done for a change that resets a key, of which nothing failed, after that task.
+fn comes(task: u32, users: u32, known: &Course) -> u32 {
+    course_number(task, true, users, &[resets(b"/j")], known)
+}
+
+/// What comes after which task: 1 look, 2 change, 3 turn, 4 refresh, 5 well, 6 settle, 7 done.
+fn have_their_course() -> bool {
+    let nobodys = Course {
+        has_user: false,
+        ..OWN
+    };
+    let locked = Course {
+        is_locked: true,
+        ..OWN
+    };
+    let unsynced = Course {
+        is_unsynced: true,
+        ..OWN
+    };
+    comes(0, 3, &OWN) == 1
+        && comes(1, 0, &OWN) == 2
+        && comes(1, 2, &OWN) == 2
+        && comes(1, 1, &OWN) == 4
+        && comes(0, 4, &nobodys) == 5
+        && comes(0, 3, &locked) == 3
+        && comes(4, 1, &OWN) == 5
+        && comes(5, 1, &OWN) == 6
+        && comes(5, 1, &unsynced) == 7
+        && comes(2, 3, &OWN) == 7
+}
+
 /// A database of no key, in which the kind of `/` is not set.
 const UNSET: &[u8] = b"GVariant\0\0\0\0\0\0\0\0\x18\0\0\0\x3c\0\0\0\
     \0\0\0\0\x01\0\0\0\0\0\0\0\xd4\xb5\x02\0\xff\xff\xff\xff\x3c\0\0\0\x01\0?\0\0\0\0\0\0\0\0\0/";
@@ -139,7 +178,9 @@ fn bad_files_count_as_they_are(rt: HostRuntime) -> Result<(), Fail> {
 fn what_is_there_already_is_known(rt: HostRuntime) -> Result<(), Fail> {
     let alloc = rt.alloc();
     let own = [layer(sample("plain"))?];
-    assert!(rt; are_had(alloc, &own) && are_named(alloc, &own) && are_needed());
+    assert!(rt;
+        are_had(alloc, &own) && are_named(alloc, &own) && are_needed() && have_their_course()
+    );
     let Ok(made) = changed_file(alloc, &own, true, &[sets(b"/k", FIVE)], b"") else {
         return Err(Fail::new("it is not made"));
     };

@@ -3,6 +3,7 @@ use crate::calls::opened;
 use crate::calls_rows::{fate, keyless, names, saved, stored, value_shown};
 use crate::folders::crashes::crashed;
 use crate::folders::failures::replaced;
+use crate::homes::{homed, lined, reached, sought};
 use crate::machines::{looked, noticed, queued, waited};
 use crate::places::{filed, placed, stepped};
 use crate::tables::{alike, item_shown, searched};
@@ -21,7 +22,9 @@ pub(crate) enum TableOf {
     Crash,
     Filed,
     Guessed,
+    Homed,
     Kept,
+    Lined,
     Looked,
     Noted,
     Noticed,
@@ -29,7 +32,9 @@ pub(crate) enum TableOf {
     Path,
     Placed,
     Queued,
+    Reached,
     Replaced,
+    Sought,
     Stepped,
     Steps,
     Waited,
@@ -42,7 +47,9 @@ impl Question for TableOf {
             TableOf::Crash => crashed(alloc, asked, found),
             TableOf::Filed => filed(alloc, asked, found),
             TableOf::Guessed => guessed(alloc, asked, found),
+            TableOf::Homed => homed(alloc, asked, found),
             TableOf::Kept => kept(alloc, asked, found),
+            TableOf::Lined => lined(alloc, asked, found),
             TableOf::Looked => looked(asked, found),
             TableOf::Noted => noted(alloc, asked, found),
             TableOf::Noticed => noticed(asked, found),
@@ -50,7 +57,9 @@ impl Question for TableOf {
             TableOf::Path => path_read(asked, found),
             TableOf::Placed => placed(alloc, asked, found),
             TableOf::Queued => queued(asked, found),
+            TableOf::Reached => reached(asked, found),
             TableOf::Replaced => replaced(alloc, asked, found),
+            TableOf::Sought => sought(alloc, asked, found),
             TableOf::Stepped => stepped(alloc, asked, found),
             TableOf::Steps => steps_shown(asked, found),
             TableOf::Waited => waited(asked, found),

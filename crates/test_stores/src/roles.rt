@@ -1,5 +1,5 @@
-//! As what the files of a site are looked at.
-use dconf_roles::{reading_number, role_number};
+//! As what the files of a site are looked at, and what is found there.
+use dconf_roles::{FindingKnown, finding_number, reading_number, role_number};
 use std::test::Fail;
 
 /// The role of a file's folder, by the names of two folders that it is in.
@@ -73,5 +73,72 @@ fn databases_are_read() -> bool {
 fn sources_are_read_as_update_reads_them(rt: HostRuntime) -> Result<(), Fail> {
     assert!(rt; folders_have_their_roles() && files_have_their_roles());
     assert!(rt; texts_are_read() && databases_are_read());
+    Ok(())
+}
+
+/// A key of a schema, set to a value that it takes.
+const FINE: FindingKnown = FindingKnown {
+    what: 0,
+    is_known: true,
+    has_schemas: true,
+    may_be_elsewhere: false,
+    is_slip: false,
+    has_value: true,
+    is_taken: true,
+    is_of_type: true,
+};
+
+const UNKNOWN: FindingKnown = FindingKnown {
+    is_known: false,
+    has_schemas: false,
+    has_value: false,
+    is_taken: false,
+    is_of_type: false,
+    ..FINE
+};
+
+fn values_are_judged() -> bool {
+    let wrong = FindingKnown {
+        is_taken: false,
+        ..FINE
+    };
+    let typed = FindingKnown {
+        is_of_type: false,
+        ..wrong
+    };
+    let none = FindingKnown {
+        has_value: false,
+        ..typed
+    };
+    finding_number(&FINE) == 0
+        && finding_number(&wrong) == 5
+        && finding_number(&typed) == 4
+        && finding_number(&none) == 0
+}
+
+fn names_are_judged() -> bool {
+    let elsewhere = FindingKnown {
+        may_be_elsewhere: true,
+        ..UNKNOWN
+    };
+    let slip = FindingKnown {
+        is_slip: true,
+        ..elsewhere
+    };
+    let beside = FindingKnown {
+        has_schemas: true,
+        ..elsewhere
+    };
+    finding_number(&UNKNOWN) == 1
+        && finding_number(&FindingKnown { what: 1, ..UNKNOWN }) == 2
+        && finding_number(&FindingKnown { what: 2, ..UNKNOWN }) == 3
+        && finding_number(&elsewhere) == 0
+        && finding_number(&slip) == 1
+        && finding_number(&beside) == 1
+}
+
+#[test]
+fn what_schemas_lack_is_found(rt: HostRuntime) -> Result<(), Fail> {
+    assert!(rt; values_are_judged() && names_are_judged());
     Ok(())
 }

@@ -1,8 +1,9 @@
 //! What is done in turn by who writes what waits, by who wants to know that it is on the disk, and by who looks at the files.
 use dconf_rounds::{
-    GlanceKnown, Known, SyncKnown, TellKnown, glance_number, is_at_work, sync_number, task_number,
-    telling_number,
+    GlanceKnown, Known, SyncKnown, TellKnown, glance_number, is_at_work, passes_over, sync_number,
+    task_number, telling_number,
 };
+use dconf_seen::Known as SeenKey;
 use std::test::Fail;
 
 /// Nothing is due.
@@ -15,6 +16,7 @@ const IDLE: Known = Known {
     is_let_go: false,
     waits: false,
     is_in_line: false,
+    has_turn: false,
     has_untold: false,
     is_to_watch: false,
     is_asked: false,
@@ -44,18 +46,23 @@ fn tasks_are_due() -> bool {
         is_watched: false,
         ..later
     };
+    let turn = Known {
+        has_turn: true,
+        ..busy
+    };
     let settled = Known { again: 10, ..IDLE };
-    task_number(0, &IDLE) == 6
+    task_number(0, &IDLE) == 7
         && task_number(0, &busy) == 1
         && task_number(1, &busy) == 2
         && task_number(2, &busy) == 3
         && task_number(3, &busy) == 4
-        && task_number(4, &busy) == 6
-        && task_number(0, &later) == 6
+        && task_number(4, &busy) == 7
+        && task_number(4, &turn) == 5
+        && task_number(0, &later) == 7
         && task_number(0, &in_line) == 4
         && task_number(0, &asked) == 3
-        && task_number(0, &settled) == 5
-        && task_number(5, &settled) == 6
+        && task_number(0, &settled) == 6
+        && task_number(6, &settled) == 7
 }
 
 fn threads_end() -> bool {
@@ -81,12 +88,12 @@ fn threads_end() -> bool {
         is_let_go: true,
         ..line
     };
-    task_number(0, &ending) == 7
+    task_number(0, &ending) == 8
         && task_number(0, &waiting) == 4
-        && task_number(4, &waiting) == 6
-        && task_number(4, &failed) == 8
-        && task_number(5, &line) == 7
-        && task_number(5, &left) == 6
+        && task_number(4, &waiting) == 7
+        && task_number(4, &failed) == 9
+        && task_number(6, &line) == 8
+        && task_number(6, &left) == 7
 }
 
 fn syncs_are_answered() -> bool {
@@ -128,6 +135,17 @@ fn looks_end() -> bool {
         is_other: false,
         waits: true,
         has_same_files: true,
+        is_barred: false,
+        is_amid: false,
+    };
+    let barred = GlanceKnown {
+        is_barred: true,
+        is_shown: false,
+        ..same
+    };
+    let amid = GlanceKnown {
+        is_amid: true,
+        ..barred
     };
     let unsure = GlanceKnown { second: 2, ..same };
     let other = GlanceKnown { first: 1, ..unsure };
@@ -157,6 +175,9 @@ fn looks_end() -> bool {
         && glance_number(4, &other) == 6
         && glance_number(2, &failed) == 4
         && glance_number(4, &failed) == 8
+        && glance_number(0, &barred) == 8
+        && glance_number(0, &amid) == 4
+        && glance_number(4, &amid) == 7
 }
 
 fn notices_are_told() -> bool {
@@ -216,6 +237,39 @@ fn notices_are_told() -> bool {
         && telling_number(&none) == 0
 }
 
+/// What is stored is of another type, or an edit that waits and may be made is.
+fn odd_keys_are_known() -> bool {
+    let stored = SeenKey {
+        waits: false,
+        sets: true,
+        writable: true,
+        may_write: true,
+        edit_fits: true,
+        stored_fits: true,
+    };
+    let other = SeenKey {
+        stored_fits: false,
+        ..stored
+    };
+    let edited = SeenKey {
+        waits: true,
+        ..other
+    };
+    let odd = SeenKey {
+        edit_fits: false,
+        ..edited
+    };
+    let locked = SeenKey {
+        may_write: false,
+        ..odd
+    };
+    !passes_over(&stored)
+        && passes_over(&other)
+        && !passes_over(&edited)
+        && passes_over(&odd)
+        && passes_over(&locked)
+}
+
 fn work_is_known() -> bool {
     is_at_work(false, 7, 7) && !is_at_work(true, 7, 7) && !is_at_work(false, 7, 8)
 }
@@ -223,6 +277,6 @@ fn work_is_known() -> bool {
 #[test]
 fn tasks_come_in_their_order(rt: HostRuntime) -> Result<(), Fail> {
     assert!(rt; tasks_are_due() && threads_end() && syncs_are_answered() && looks_end());
-    assert!(rt; notices_are_told() && work_is_known());
+    assert!(rt; notices_are_told() && odd_keys_are_known() && work_is_known());
     Ok(())
 }

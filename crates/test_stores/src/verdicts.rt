@@ -5,7 +5,7 @@ use dconf_verdicts::{
     verdict_number,
 };
 use dconf_waiting::{
-    Failing, Patience, Progress, WaitingEdit, fate_number, found, is_overtaken, put,
+    Failing, Patience, Progress, Waiter, WaitingEdit, fate_number, found, put, settle,
 };
 use std::test::Fail;
 
@@ -89,10 +89,12 @@ const STOOD: Seen = Seen {
     links: 1,
     size: 65_537,
     most: 65_537,
+    tried: 0,
     may_map: false,
     may_stop: false,
     is_named: true,
     is_root: true,
+    may_make: true,
 };
 
 fn failed(purpose: u32, fault: u32) -> (u32, u32) {
@@ -143,6 +145,67 @@ fn files_stand() -> bool {
         && failed(10, 39) == (5, 17)
 }
 
+/// Of EEXIST, after so many names.
+fn named_after(purpose: u32, tried: u64) -> (u32, u32) {
+    let other = Seen {
+        fault: 17,
+        tried,
+        is_named: false,
+        ..STOOD
+    };
+    standing_numbers(purpose, &other)
+}
+
+fn names_stand() -> bool {
+    failed(11, 17) == (0, 0)
+        && named_after(11, 997) == (4, 0)
+        && named_after(11, 998) == (5, 17)
+        && failed(11, 1) == (5, 1)
+        && failed(12, 17) == (4, 0)
+        && named_after(12, 998) == (5, 17)
+        && named_after(13, 98) == (4, 0)
+        && named_after(13, 99) == (5, 17)
+}
+
+fn ways_stand() -> bool {
+    let by_link = Seen {
+        fault: 2,
+        tried: 1,
+        ..STOOD
+    };
+    let found = Seen {
+        fault: 2,
+        may_make: false,
+        ..STOOD
+    };
+    let last = Seen { tried: 40, ..STOOD };
+    let moved = Seen {
+        is_named: false,
+        ..STOOD
+    };
+    let users = Seen {
+        user: 7,
+        is_root: false,
+        is_named: false,
+        ..STOOD
+    };
+    let others = Seen { user: 7, ..STOOD };
+    standing_numbers(5, &last) == (5, 40)
+        && failed(14, 2) == (1, 0)
+        && standing_numbers(14, &by_link) == (5, 2)
+        && standing_numbers(14, &found) == (5, 2)
+        && failed(14, 20) == (4, 0)
+        && of_mode(15, 0o120_777) == (0, 0)
+        && of_mode(15, 0o100_600) == (5, 20)
+        && standing_numbers(16, &STOOD) == (0, 0)
+        && standing_numbers(16, &others) == (4, 0)
+        && standing_numbers(16, &users) == (0, 0)
+        && standing_numbers(17, &STOOD) == (0, 0)
+        && standing_numbers(17, &moved) == (4, 0)
+        && failed(17, 13) == (4, 0)
+        && standing_numbers(17, &users) == (0, 0)
+}
+
 fn the_newest_is_found() -> bool {
     let mut newest = [0, 0];
     put(&mut newest, 1, 1) == 0
@@ -155,16 +218,69 @@ fn the_newest_is_found() -> bool {
 }
 
 fn fates_are_told() -> bool {
+    let tried = waiter(3, 1, 1);
+    let untried = Waiter {
+        is_tried: false,
+        ..tried
+    };
+    let refused = Waiter {
+        is_refused: true,
+        ..tried
+    };
+    let there = Waiter {
+        asks: true,
+        is_there: true,
+        ..untried
+    };
+    let renewed = Waiter {
+        is_renewed: true,
+        ..untried
+    };
+    fate_number(false, &tried) == 0
+        && fate_number(true, &tried) == 1
+        && fate_number(true, &untried) == 0
+        && fate_number(true, &refused) == 2
+        && fate_number(false, &there) == 1
+        && fate_number(false, &waiter(3, 1, 2)) == 3
+        && fate_number(false, &renewed) == 4
+}
+
+/// A change that was tried, of one edit, and the newest edit of its key, which is alone.
+fn waiter(change: usize, number: usize, newest: usize) -> Waiter {
     let alone = |number| WaitingEdit {
         number,
         is_alone: true,
     };
-    fate_number(false, false, false) == 0
-        && fate_number(true, false, true) == 1
-        && fate_number(true, true, false) == 2
-        && fate_number(false, false, true) == 3
-        && is_overtaken(alone(1), alone(2))
-        && !is_overtaken(alone(2), alone(2))
+    Waiter {
+        change,
+        edit: alone(number),
+        newest: alone(newest),
+        fate: 0,
+        is_tried: true,
+        is_refused: false,
+        asks: false,
+        is_there: false,
+        is_renewed: false,
+    }
+}
+
+/// Of four the first is overtaken and the third refused: the others wait in their order.
+fn lines_keep_their_order() -> bool {
+    let refused = Waiter {
+        is_refused: true,
+        ..waiter(13, 3, 3)
+    };
+    let mut line = [
+        waiter(11, 1, 4),
+        waiter(12, 2, 2),
+        refused,
+        waiter(14, 4, 4),
+    ];
+    settle(&mut line, false) == 2
+        && line[0].change == 12
+        && line[1].change == 14
+        && line[2].change.wrapping_add(line[3].change) == 24
+        && line[2].fate.wrapping_add(line[3].fate) == 5
 }
 
 fn waits_end() -> bool {
@@ -191,11 +307,20 @@ fn waits_end() -> bool {
         end: 0,
         each: 10_000_000,
         latest: 0,
+        changed: FileTime {
+            seconds: 0,
+            nanoseconds: 0,
+        },
     };
-    patience.renew(5);
+    let mut changed = patience.changed;
+    patience.renew(changed, 5);
     let before = patience.end;
-    patience.renew(58_000_000);
+    patience.renew(changed, 6);
+    let same = patience.end;
+    changed.nanoseconds = 1;
+    patience.renew(changed, 58_000_000);
     before == 10_000_005
+        && same == 10_000_005
         && patience.end == 60_000_005
         && patience.goes_on(&progress, 60_000_004)
         && !patience.goes_on(&progress, 60_000_005)
@@ -311,12 +436,19 @@ fn files_are_told_apart(rt: HostRuntime) -> Result<(), Fail> {
 
 #[test]
 fn changes_and_faults_are_judged(rt: HostRuntime) -> Result<(), Fail> {
-    assert!(rt; are_entered() && are_dropped() && are_told() && are_answered() && files_stand());
+    assert!(rt; are_entered() && are_dropped() && are_told() && are_answered());
+    assert!(rt; files_stand() && names_stand() && ways_stand());
     Ok(())
 }
 
 #[test]
 fn changes_wait(rt: HostRuntime) -> Result<(), Fail> {
-    assert!(rt; the_newest_is_found() && fates_are_told() && waits_end() && faults_are_said());
+    assert!(rt;
+        the_newest_is_found()
+            && fates_are_told()
+            && lines_keep_their_order()
+            && waits_end()
+            && faults_are_said()
+    );
     Ok(())
 }

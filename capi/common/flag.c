@@ -1,0 +1,19 @@
+/* The flag of dconf's readers, set. */
+#define _POSIX_C_SOURCE 200809L
+#include "flag.h"
+
+#include <fcntl.h>
+#include <unistd.h>
+
+/* The file is made longer first, since a reader may have made it a moment ago, and mapped nothing yet. */
+void flag_set(const char *path)
+{
+    static const char is_set = 1;
+    int file = open(path, O_RDWR | O_CLOEXEC | O_NOFOLLOW);
+    if (file < 0)
+        return; /* nobody reads */
+    ssize_t longer = pwrite(file, "", 1, 1), set = longer == 1 ? pwrite(file, &is_set, 1, 0) : 0;
+    (void)set;
+    close(file);
+    unlink(path); /* who has it mapped sees it; who comes later makes another */
+}

@@ -1,0 +1,20 @@
+/* The files that may be the profile, looked at. */
+#define _POSIX_C_SOURCE 200809L
+#include "profiles.h"
+
+#include <string.h>
+
+Profiles profiles_now(const char *names, int count)
+{
+    Profiles now = {.asked = file_clock(), .other = {.is_there = false}};
+    const char *name = names;
+    for (int i = 0; i < count && !now.other.is_there; i++, name += strlen(name) + 1)
+        file_look(name, i == 0 ? &now.first : &now.other);
+    return now;
+}
+
+void profiles_compare(const Profiles *read, const Profiles *now, DconfdbGlance *known)
+{
+    known->first = dconfdb_same_file(&read->first, &now->first, read->asked, false);
+    known->second = dconfdb_same_file(&read->other, &now->other, read->asked, false);
+}

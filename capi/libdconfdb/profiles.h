@@ -1,0 +1,19 @@
+/* The files that may be the profile of a store, as they are at a moment. */
+#ifndef PROFILES_H
+#define PROFILES_H
+
+#include "files.h"
+
+/* One that can't be looked at isn't there. */
+typedef struct {
+    uint64_t asked;
+    FileState first, other; /* the first one, and the first of the others that is there */
+} Profiles;
+
+/* `names` has so many at its start, a zero byte after each. */
+Profiles profiles_now(const char *names, int count);
+
+/* Whether they are those that were read. */
+void profiles_compare(const Profiles *read, const Profiles *now, DconfdbGlance *known);
+
+#endif

@@ -1,0 +1,163 @@
+/* Calls that keep nothing, or a few numbers: their answers are written as tables, or compared with those that are given in the model of the system. */
+#include "explore.h"
+#include "given.h"
+
+#include <stdbool.h>
+#include <stdio.h>
+
+/* ---- tables of all that may be asked */
+
+static void print_making(void)
+{
+    printf("static const uint8_t making[2][2][DCONFDB_MAKING_READY][3] = {");
+    for (uint32_t i = 0; i < 4; i++) {
+        printf(i % 2 == 0 ? "%s{{" : "%s{", i > 0 ? ", " : "");
+        for (uint32_t ask = 0; ask < DCONFDB_MAKING_READY; ask++) {
+            printf("%s{", ask > 0 ? ", " : "");
+            for (uint32_t found = 0; found < 3; found++)
+                printf("%s%u", found > 0 ? ", " : "", dconfdb_making_after(i / 2 == 1, i % 2 == 1, ask, found));
+            printf("}");
+        }
+        printf(i % 2 == 1 ? "}}" : "}");
+    }
+    printf("};\n\n");
+}
+
+static void print_endings(void)
+{
+    printf("static const DconfdbEnding endings[ENDINGS] = {");
+    for (uint32_t i = 0; i < ENDINGS; i++) {
+        uint32_t outcome, fault;
+        bool is_unsettled;
+        DconfdbEnding ending = {0};
+        ending_asked(i, &outcome, &fault, &is_unsettled);
+        dconfdb_ending(outcome, fault, is_unsettled, true, &ending);
+        if (ending.keeps_fault != (ending.newest == DCONFDB_NEWEST_NEWER))
+            fail("ending", "another fate of a fault than is given");
+        dconfdb_ending(outcome, fault, is_unsettled, false, &ending);
+        if (ending.keeps_fault)
+            fail("ending", "another fate of a fault than is given");
+        printf("%s{%u, %u, %u, %d, %d, false}", i > 0 ? ", " : "", ending.newest, ending.told, ending.outcome, ending.is_unsettled, ending.is_there);
+    }
+    printf("};\n");
+}
+
+static void print_fault_answers(void)
+{
+    printf("\nstatic const uint8_t fault_answers[CALLS][FAULTS] = {");
+    for (uint32_t call = 0; call < CALLS; call++) {
+        printf("%s{", call > 0 ? ", " : "");
+        for (uint32_t fault = 0; fault < FAULTS; fault++)
+            printf("%s%u", fault > 0 ? ", " : "", dconfdb_fault_answer(call, fault));
+        printf("}");
+    }
+    printf("};\n");
+}
+
+void print_answers(void)
+{
+    print_making();
+    print_endings();
+    print_fault_answers();
+}
+
+/* ---- compared */
+
+/* By each step that was done, with and without a fault. */
+static void compare_handing_of(const DconfdbMadeFile *file)
+{
+    for (uint32_t i = 0; i < 2U * 3 * (DCONFDB_HANDING_BITS + 1); i++) {
+        uint32_t what = i / 2 % 3, done = i / 6, fault = i % 2 * 5, number = 0, wanted = 0;
+        if (dconfdb_handing_after(what, done, fault, file, &number) != handing_given(what, done, fault, file, &wanted) || number != wanted)
+            fail("handing_after", "another step, or other bits, than are given");
+    }
+}
+
+/* Of all bits, and of users and groups that are one or another. */
+static void compare_handing(void)
+{
+    for (uint32_t i = 0; i < 512; i++) {
+        compare_handing_of(&(DconfdbMadeFile){.wanted = {1, 1, i}, .made = {1, 1, 0600}, .above = 1});
+        compare_handing_of(&(DconfdbMadeFile){.wanted = {1, 1, 0640}, .made = {1, 1, i}, .above = 1});
+        compare_handing_of(&(DconfdbMadeFile){.wanted = {1, 1, 0644}, .made = {i % 2, i / 2 % 2, i / 4 % 2 * 0644}, .above = i / 8 % 2, .gives_group = (i & 16) != 0,
+                                              .is_root = (i & 32) != 0, .is_beside = (i & 64) != 0, .is_empty = (i & 128) != 0});
+        compare_handing_of(&(DconfdbMadeFile){.wanted = {1, 1, i}, .made = {1, 0, 0600}, .above = 0});
+    }
+}
+
+static void compare_taking_of(DconfdbTaking taking, const DconfdbStood *stood)
+{
+    DconfdbTaking given = taking;
+    dconfdb_taking_answered(&taking, stood);
+    taking_given(&given, stood);
+    if (taking.task != given.task || taking.tried != given.tried || taking.fault != given.fault || taking.openings != given.openings
+        || taking.forks != given.forks || taking.has_made != given.has_made || taking.is_again != given.is_again)
+        fail("taking_answered", "another task than is given");
+}
+
+/* In each task, by each errno, and of what may be found. */
+static void compare_taking(void)
+{
+    static const uint32_t counts[] = {0, 1, 8, 9, 98, 99}, modes[] = {0100600, 0040600, 0100660, 0100602};
+    for (uint32_t i = 0; i < 18U * 6 * 6 * 4; i++) {
+        DconfdbTaking taking = {.task = i % 18, .openings = counts[i / 18 % 6], .forks = counts[i / 108 % 6], .has_made = (i / 648 & 1) != 0,
+                                .is_again = (i / 648 & 2) != 0};
+        for (uint32_t fault = 0; fault < FAULTS; fault++)
+            compare_taking_of(taking, &(DconfdbStood){.fault = fault, .mode = 0100600, .links = 1, .is_named = true});
+        for (uint32_t k = 0; k < 64; k++)
+            compare_taking_of(taking, &(DconfdbStood){.mode = modes[k % 4], .user = k / 4 % 2, .links = 1 + k / 8 % 2, .is_named = (k & 16) != 0, .is_root = (k & 32) != 0});
+    }
+}
+
+static void compare_standing(const DconfdbStood *stood)
+{
+    for (uint32_t purpose = 0; purpose <= DCONFDB_TO_OPEN_FOLDER; purpose++) {
+        uint32_t told, wanted;
+        if (dconfdb_standing(purpose, stood, &told) != standing_given(purpose, stood, &wanted) || told != wanted)
+            fail("standing", "another answer than is given");
+    }
+}
+
+/* By each errno; and of files of each kind, with all bits of the group and of others. */
+static void compare_standings(void)
+{
+    static const uint64_t sizes[] = {0, 1, 65536, 65537};
+    static const uint64_t tries[] = {0, 1, 39, 40, 98, 99, 997, 998};
+    for (uint32_t fault = 0; fault < FAULTS; fault++) {
+        for (uint32_t i = 0; i < 64; i++)
+            compare_standing(&(DconfdbStood){.fault = fault, .mode = 0100600, .links = 1, .tried = tries[i % 8], .is_named = (i & 8) != 0, .is_root = (i & 16) != 0,
+                                             .may_make = (i & 32) != 0});
+    }
+    for (uint32_t mode = 0; mode < 65536; mode++)
+        compare_standing(&(DconfdbStood){.mode = mode, .size = 1, .most = 1, .links = mode % 3, .user = mode / 8192, .is_root = true});
+    for (uint32_t i = 0; i < 128; i++)
+        compare_standing(&(DconfdbStood){.mode = 0100600, .size = sizes[i % 4], .most = sizes[i / 4 % 4], .may_map = (i & 16) != 0,
+                                         .may_stop = (i & 32) != 0, .is_named = (i & 64) != 0, .links = i % 3});
+}
+
+static void compare_error_codes(void)
+{
+    for (uint32_t fault = 0; fault < FAULTS; fault++)
+        if (dconfdb_error_code(true, fault) != error_code_given(true, fault) || dconfdb_error_code(false, fault) != error_code_given(false, fault))
+            fail("error_code", "another code than is given");
+}
+
+static void compare_settling(void)
+{
+    for (uint32_t bits = 0; bits < 128; bits++) {
+        for (uint32_t task = DCONFDB_SETTLING_BEGINS; task < DCONFDB_SETTLING_KNOWN; task++) {
+            const DconfdbSettling known = {bits & 1, bits & 2, bits & 4, bits & 8, bits & 16, bits & 64};
+            if (dconfdb_settling_after(task, bits & 32, &known) != settling_given(task, bits & 32, &known))
+                fail("settling_after", "another task than is given");
+        }
+    }
+}
+
+void compare_answers(void)
+{
+    compare_handing();
+    compare_taking();
+    compare_standings();
+    compare_error_codes();
+    compare_settling();
+}

@@ -1,0 +1,42 @@
+-- What users rely on, of a store that was found.
+use Rattle.std.specs.Prelude.{◌≡◌, ◌⊎◌, ℕ, List, ◌++◌, codes, Some, Bool, true, false}
+use Rattle.dconf_model.specs.Paths.{starts_with_slash}
+use Rattle.dconf_model.specs.Profiles.{Database, is_name}
+use Rattle.dconf_model.specs.Profiles.Kind.{user_db, system_db}
+use Rattle.dconf_places.specs.Places.{Giver, database_path, is_beside, folder_of, path_at}
+use Rattle.dconf_places.specs.Places.Giver.{nobody, program, user}
+use Rattle.dconf_places.specs.declared.profile.Found.{Found}
+use Rattle.dconf_places.specs.declared.profile.Found.TheVariants.{Missing}
+use Rattle.dconf_homes.specs.Homes.{Home, Surroundings, StoreKind, What, file_in, kind_for, spot_in}
+use Rattle.dconf_homes.specs.Homes.StoreKind.{own}
+use Rattle.dconf_homes.specs.Homes.What.{the_folder}
+use Rattle.dconf_homes.specs.Sought.{has_name, is_said, sought_step}
+use Rattle.dconf_homes.specs.declared.sought.Sought.{Sought}
+use Rattle.dconf_homes.specs.declared.sought.Sought.TheVariants.{Ours}
+use Rattle.dconf_homes.specs.declared.sought.SoughtStep.TheVariants.{Counts, UsersAlone}
+
+-- whoever gives a folder has our own kind of store in it, whatever the machine's file says
+abbrev pub GivenIsOurs : Type 0
+GivenIsOurs = (s : Surroundings) (folder : List ℕ) →
+    (spot_in the_folder s (program folder) ≡ folder_of s.variables (program folder)) × (spot_in the_folder s (user folder) ≡ folder_of s.variables (user folder))
+
+-- the path of the folder of a store is whole, of whichever kind it is
+abbrev pub FolderIsWhole : Type 0
+FolderIsWhole = (s : Surroundings) (g : Giver) (base path : List ℕ) →
+    starts_with_slash base ≡ true → path_at (spot_in the_folder s g) base ≡ Some path → starts_with_slash path ≡ true
+
+-- in dconf's places a user's file has its name of the profile, in the user's folder, and a site's has in /etc/dconf/db
+abbrev pub FilesAreDconfs : Type 0
+FilesAreDconfs = (h : Home) (profile name : List ℕ) → h.in_place ≡ true → is_name user_db name ≡ true →
+    (file_in h profile (record { kind = user_db; name = name }) ≡ h.folder ++ (codes "/" ++ name))
+    × (file_in h profile (record { kind = system_db; name = name }) ≡ codes "/etc/dconf/db" ++ (codes "/" ++ name))
+
+-- elsewhere they have the names that they have in a folder
+abbrev pub OthersAreOurs : Type 0
+OthersAreOurs = (h : Home) (profile : List ℕ) (d : Database) → h.in_place ≡ false →
+    file_in h profile d ≡ database_path h.folder (is_beside profile h.given) d
+
+-- a profile counts, or isn't there, or it is told why it doesn't count
+abbrev pub NoneIsPassedOverSilently : Type 0
+NoneIsPassedOverSilently = (h : Home) (it : Sought) (found : Found) (lenient : Bool) →
+    (sought_step h it found lenient ≡ Counts) ⊎ ((found ≡ Missing) ⊎ (is_said h it found ≡ true))

@@ -1,0 +1,5 @@
+pub mod Homes
+pub mod Sought
+pub mod Told
+pub mod Numbers
+pub mod HomeLaws

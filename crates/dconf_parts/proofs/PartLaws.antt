@@ -1,0 +1,42 @@
+-- What is kept is the same.
+use Rattle.std.proofs.Common.{◌≡◌, Bool, true, false, not, refl}
+use Rattle.std.specs.Prelude.{◌&&◌, ◌==◌, if◌then◌else◌}
+use Rattle.dconf_files.specs.declared.stamp.Sameness.{Sameness}
+use Rattle.dconf_files.specs.declared.stamp.Sameness.TheVariants as sameness
+use Rattle.dconf_parts.specs.declared.parts.Likeness.TheVariants.{Same, Other}
+use Rattle.dconf_files.specs.Stamps.{is_same_time}
+use Rattle.dconf_parts.specs.Parts.{WhatIsKeptIsTheSame, has_same_fault, is_as_read, is_kept, is_other, kept_by, said_of, taken_by}
+
+kept : (is_fault : Bool) (said : Sameness) (untouched : Bool) → is_kept (if is_fault then Other else kept_by said untouched) ≡ true → said ≡ sameness.Same
+kept true said untouched e = cc
+kept false sameness.Same untouched e = refl
+kept false sameness.Other untouched e = cc
+kept false sameness.Unsure untouched e = cc
+
+taken : (is_fault : Bool) (said : Sameness) (is : Bool) → (if is_fault then Other else taken_by said is) ≡ Same → (is ≡ true) × (is_other said ≡ false)
+taken true said is e = cc
+taken false sameness.Other is e = cc
+taken false sameness.Same true e = (refl, refl)
+taken false sameness.Same false e = cc
+taken false sameness.Unsure true e = (refl, refl)
+taken false sameness.Unsure false e = cc
+
+second : (one other : Bool) → (one && other) ≡ true → other ≡ true
+second true other e = e
+second false other e = cc
+
+by_bytes : (could before has same : Bool) → (if could then before && has else same) ≡ true → could ≡ true → has ≡ true
+by_bytes true before has same e y = second before has e
+by_bytes false before has same e y = cc
+
+by_fault : (could before has same : Bool) → (if could then before && has else same) ≡ true → could ≡ false → same ≡ true
+by_fault true before has same e y = cc
+by_fault false before has same e y = e
+
+pub what_is_kept_is_the_same : WhatIsKeptIsTheSame
+what_is_kept_is_the_same = record {
+  unread = λ old now s e. kept (not (s.fault == 0)) (said_of old now s) (is_same_time old.touched now.touched) e;
+  bytes = λ old now s e y. by_bytes (s.read_code == 0) (s.code == 0) s.has_bytes (has_same_fault s) (taken (not (s.fault == 0)) (said_of old now s) (is_as_read s) e).0 y;
+  fault = λ old now s e y. by_fault (s.read_code == 0) (s.code == 0) s.has_bytes (has_same_fault s) (taken (not (s.fault == 0)) (said_of old now s) (is_as_read s) e).0 y;
+  one = λ old now s e. (taken (not (s.fault == 0)) (said_of old now s) (is_as_read s) e).1;
+}

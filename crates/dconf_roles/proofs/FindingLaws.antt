@@ -1,0 +1,47 @@
+-- What is found is wrong, and what is wrong is found.
+use Rattle.std.proofs.Common.{ℕ, ◌≡◌, ◌⊎◌, inl, inr, Bool, true, false, not, refl}
+use Rattle.std.specs.Prelude.{◌||◌, if◌then◌else◌}
+use Rattle.dconf_roles.specs.declared.findings.Finding.{Finding}
+use Rattle.dconf_roles.specs.declared.findings.Finding.TheVariants.{Nothing, NotTaken, OtherType}
+use Rattle.dconf_roles.specs.Findings.{NoAlarmIsFalse, may_be_there, missing}
+
+-- by whether it is known, has a value, that is taken, is of the type; whether it may be there, and what is missing else
+abbrev by : Bool → Bool → Bool → Bool → Bool → Finding → Finding
+by known value taken typed there gone = if known then (if not value || taken then Nothing else if typed then NotTaken else OtherType) else if there then Nothing else gone
+
+taken_by : (k v t y m : Bool) (gone : Finding) → k ≡ true → t ≡ true → by k v t y m gone ≡ Nothing
+taken_by true true true y m gone a b = refl
+taken_by true false t y m gone a b = refl
+taken_by true true false y m gone a b = absurd (let bad : false ≡ true = b in cc)
+taken_by false v t y m gone a b = absurd (let bad : false ≡ true = a in cc)
+
+unset_by : (k v t y m : Bool) (gone : Finding) → k ≡ true → v ≡ false → by k v t y m gone ≡ Nothing
+unset_by true false t y m gone a b = refl
+unset_by true true t y m gone a b = absurd (let bad : true ≡ false = b in cc)
+unset_by false v t y m gone a b = absurd (let bad : false ≡ true = a in cc)
+
+untaken_by : (k v t y m : Bool) (gone : Finding) → k ≡ true → v ≡ true → t ≡ false → (by k v t y m gone ≡ NotTaken) ⊎ (by k v t y m gone ≡ OtherType)
+untaken_by true true false true m gone a b c = inl refl
+untaken_by true true false false m gone a b c = inr refl
+untaken_by true true true y m gone a b c = absurd (let bad : true ≡ false = c in cc)
+untaken_by true false t y m gone a b c = absurd (let bad : false ≡ true = b in cc)
+untaken_by false v t y m gone a b c = absurd (let bad : false ≡ true = a in cc)
+
+unknown_by : (k v t y m : Bool) (gone : Finding) → k ≡ false → m ≡ false → by k v t y m gone ≡ gone
+unknown_by false v t y false gone a b = refl
+unknown_by false v t y true gone a b = absurd (let bad : true ≡ false = b in cc)
+unknown_by true v t y m gone a b = absurd (let bad : true ≡ false = a in cc)
+
+elsewhere_by : (k v t y m : Bool) (gone : Finding) → k ≡ false → m ≡ true → by k v t y m gone ≡ Nothing
+elsewhere_by false v t y true gone a b = refl
+elsewhere_by false v t y false gone a b = absurd (let bad : false ≡ true = b in cc)
+elsewhere_by true v t y m gone a b = absurd (let bad : true ≡ false = a in cc)
+
+pub no_alarm_is_false : NoAlarmIsFalse
+no_alarm_is_false k = record {
+  taken = taken_by k.is_known k.has_value k.is_taken k.is_of_type (may_be_there k) (missing k.what);
+  unset = unset_by k.is_known k.has_value k.is_taken k.is_of_type (may_be_there k) (missing k.what);
+  untaken = untaken_by k.is_known k.has_value k.is_taken k.is_of_type (may_be_there k) (missing k.what);
+  unknown = unknown_by k.is_known k.has_value k.is_taken k.is_of_type (may_be_there k) (missing k.what);
+  elsewhere = elsewhere_by k.is_known k.has_value k.is_taken k.is_of_type (may_be_there k) (missing k.what);
+}

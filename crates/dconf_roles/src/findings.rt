@@ -1,0 +1,97 @@
+//! What is found wrong with a key that is set, and with a lock.
+ghost use Rattle.std.specs.Prelude.{◌≡◌};
+ghost use Rattle.dconf_roles.specs.Findings.{finding_of, finding_number, may_be_there, missing, of_value};
+
+/// What is found.
+#[derive(Clone, Copy)]
+pub enum Finding {
+    Nothing,
+    /// No schema has the key.
+    NoKey,
+    /// No schema has the locked key.
+    NoLockedKey,
+    /// No schema has a key below the locked directory.
+    NoLockedDirectory,
+    /// The value is of another type than the key.
+    OtherType,
+    /// The key doesn't take the value.
+    NotTaken,
+}
+
+/// What is known of it.
+#[repr(C)]
+#[derive(Clone, Copy)]
+pub struct FindingKnown {
+    /// What it is: 0 a key that is set, 1 a lock of a key, 2 a lock of a directory.
+    pub what: u32,
+    /// A schema has the key, or one below the directory.
+    pub is_known: bool,
+    /// A schema is at the key's directory.
+    pub has_schemas: bool,
+    /// A schema without a path has a key of that name; of a directory, there is such a schema.
+    pub may_be_elsewhere: bool,
+    /// It is a slip away from where a schema has such a key.
+    pub is_slip: bool,
+    /// It is set to a value.
+    pub has_value: bool,
+    /// One of the keys takes the value.
+    pub is_taken: bool,
+    /// The value is of the first one's type.
+    pub is_of_type: bool,
+}
+
+/// What is found of a key that is set, or of a lock. What a schema without a path may have is passed over, unless it looks like a slip.
+pub fn finding_of(known: &FindingKnown) -> Finding
+    ensures { result ≡ finding_of known.now }
+{
+    if known.is_known {
+        return of_value(known);
+    }
+    if may_be_there(known) {
+        return Finding::Nothing;
+    }
+    missing(known.what)
+}
+
+/// The same as a number: 0 nothing, 1 no schema has the key, 2 the locked key, 3 a key below the locked directory, 4 the value is of another
+/// type, 5 the key doesn't take it.
+pub fn finding_number(known: &FindingKnown) -> u32
+    ensures { result ≡ finding_number (finding_of known.now) }
+{
+    match finding_of(known) {
+        Finding::Nothing => 0,
+        Finding::NoKey => 1,
+        Finding::NoLockedKey => 2,
+        Finding::NoLockedDirectory => 3,
+        Finding::OtherType => 4,
+        Finding::NotTaken => 5,
+    }
+}
+
+fn may_be_there(known: &FindingKnown) -> bool
+    ensures { result ≡ may_be_there known.now }
+{
+    !known.has_schemas && (known.may_be_elsewhere && !known.is_slip)
+}
+
+fn of_value(known: &FindingKnown) -> Finding
+    ensures { result ≡ of_value known.now }
+{
+    if !known.has_value || known.is_taken {
+        return Finding::Nothing;
+    }
+    if known.is_of_type {
+        return Finding::NotTaken;
+    }
+    Finding::OtherType
+}
+
+fn missing(what: u32) -> Finding
+    ensures { result ≡ missing what }
+{
+    match what {
+        0 => Finding::NoKey,
+        1 => Finding::NoLockedKey,
+        _ => Finding::NoLockedDirectory,
+    }
+}

@@ -1,0 +1,153 @@
+//! What becomes of a call that changes settings.
+ghost use Rattle.std.specs.Prelude.{◌≡◌};
+ghost use Rattle.dconf_served.specs.Served.{came, has_room, is_odd, lasts, read, served_after, served_number, tried};
+
+/// A change has so many bytes at most.
+const LARGEST: u64 = 67_108_864;
+
+/// So many changes wait at most; and one more only while those that wait have fewer bytes.
+const MOST_WAITING: u64 = 10_000;
+
+const MOST_BYTES: u64 = 268_435_456;
+
+/// Each database takes a few files of the process.
+const MOST_NAMES: u64 = 64;
+
+/// To bring bytes into normal form takes GLib a time with the square of their number. Who sends more than that uses no GVariant library.
+const MOST_ODD: u64 = 32_768;
+
+/// What becomes of a change.
+#[derive(Clone, Copy)]
+pub enum Served {
+    /// It goes on: it is read, or waits to be written.
+    GoesOn,
+    /// It is acknowledged.
+    Acknowledged,
+    /// It is answered by the fault for which it isn't written.
+    Failed,
+    /// It is answered by why nobody with these rights may write there.
+    Closed,
+    /// It is refused: its bytes aren't in normal form, and too many to be brought into it.
+    Odd,
+    /// It is refused: it has too many bytes.
+    TooLarge,
+    /// It is refused: too much waits.
+    TooMuch,
+    /// It is refused: too many databases are in use.
+    TooManyNames,
+}
+
+/// What is known of a change, and of those that wait.
+#[repr(C)]
+#[derive(Clone, Copy)]
+pub struct ServedKnown {
+    /// How many bytes it was sent in.
+    pub size: u64,
+    /// How many changes wait, and how many bytes they have together.
+    pub waiting: u64,
+    pub waiting_size: u64,
+    /// How many databases are in use.
+    pub names: u64,
+    /// What is said of the fault by which it can't be written: 1 it is said, 2 it was; else it doesn't last yet.
+    pub said: u32,
+    /// Its database is in use.
+    pub is_used: bool,
+    pub is_normal: bool,
+    /// Something of it is to be made.
+    pub has_edits: bool,
+    /// What can be made of it, and of those that are written with it, is on the disk.
+    pub is_written: bool,
+    /// Nobody with the rights of this process may write there.
+    pub is_closed: bool,
+}
+
+/// What becomes of a change: 0 it came, 1 it is read, and else it was tried to write it.
+pub fn served_after(done: u32, known: &ServedKnown) -> Served
+    ensures { result ≡ served_after done known.now }
+{
+    match done {
+        0 => came(known),
+        1 => read(known),
+        _ => tried(known),
+    }
+}
+
+/// The same as a number: 0 it goes on, 1 it is acknowledged, 2 failed, 3 closed, 4 odd, 5 too large, 6 too much waits, 7 too many databases.
+pub fn served_number(done: u32, known: &ServedKnown) -> u32
+    ensures { result ≡ served_number (served_after done known.now) }
+{
+    match served_after(done, known) {
+        Served::GoesOn => 0,
+        Served::Acknowledged => 1,
+        Served::Failed => 2,
+        Served::Closed => 3,
+        Served::Odd => 4,
+        Served::TooLarge => 5,
+        Served::TooMuch => 6,
+        Served::TooManyNames => 7,
+    }
+}
+
+fn came(known: &ServedKnown) -> Served
+    ensures { result ≡ came known.now }
+{
+    if known.size > LARGEST {
+        return Served::TooLarge;
+    }
+    if !known.is_used && known.names >= MOST_NAMES {
+        return Served::TooManyNames;
+    }
+    if has_room(known) {
+        return Served::GoesOn;
+    }
+    Served::TooMuch
+}
+
+fn has_room(known: &ServedKnown) -> bool
+    ensures { result ≡ has_room known.now }
+{
+    known.waiting < MOST_WAITING && known.waiting_size < MOST_BYTES
+}
+
+fn read(known: &ServedKnown) -> Served
+    ensures { result ≡ read known.now }
+{
+    if is_odd(known) {
+        return Served::Odd;
+    }
+    Served::GoesOn
+}
+
+fn is_odd(known: &ServedKnown) -> bool
+    ensures { result ≡ is_odd known.now }
+{
+    !known.is_normal && known.size > MOST_ODD
+}
+
+/// All that are written together wait together, so that they are answered in the order in which they came.
+fn tried(known: &ServedKnown) -> Served
+    ensures { result ≡ tried known.now }
+{
+    if !known.is_written && !lasts(known) {
+        return Served::GoesOn;
+    }
+    if is_odd(known) {
+        return Served::Odd;
+    }
+    if !known.has_edits {
+        return Served::Acknowledged;
+    }
+    if !known.is_written {
+        return Served::Failed;
+    }
+    if known.is_closed {
+        return Served::Closed;
+    }
+    Served::Acknowledged
+}
+
+fn lasts(known: &ServedKnown) -> bool
+    ensures { result ≡ lasts known.now }
+{
+    known.said == 1 || known.said == 2
+}

@@ -1,5 +1,0 @@
-use Rattle.dconf_steps.proofs.WaitProofs.{however_long_it_waits}
-use Rattle.dconf_steps.proofs.however_long_it_waits.Goals as goal
-
-pub returns : goal.returns
-returns c = however_long_it_waits

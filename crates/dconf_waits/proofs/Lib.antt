@@ -1,0 +1,2 @@
+pub mod WaitProofs
+pub mod WrongWaits

@@ -1,0 +1,4 @@
+pub mod Waits
+pub mod WaitLaws
+pub mod WaitRecords
+pub mod Takings

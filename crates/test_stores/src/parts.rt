@@ -1,0 +1,110 @@
+//! What a file is, beside what was made of it.
+use dconf_files::{FileStamp, FileTime};
+use dconf_parts::{DconfdbPartSeen, beside_number};
+use std::test::Fail;
+
+const KEEP: u32 = 0;
+
+const TAKE: u32 = 1;
+
+const TELL: u32 = 2;
+
+const TRY: u32 = 3;
+
+const LATER: u64 = 2_010_000_000;
+
+/// A file of that number, touched so long after a second.
+fn file(inode: u64, nanoseconds: u64) -> FileStamp {
+    let written = FileTime {
+        seconds: 1,
+        nanoseconds: 1,
+    };
+    FileStamp {
+        device: 1,
+        inode,
+        size: 8,
+        written,
+        touched: FileTime {
+            seconds: 1,
+            nanoseconds,
+        },
+        is_there: true,
+    }
+}
+
+/// Read so late that nothing changed since, and sound.
+fn sound() -> DconfdbPartSeen {
+    DconfdbPartSeen {
+        opened: LATER,
+        fault: 0,
+        code: 0,
+        errnum: 0,
+        read_code: 0,
+        read_errnum: 0,
+        is_held: false,
+        has_bytes: true,
+    }
+}
+
+/// What a file of that number is beside the first, touched at that time: 0 the same, 1 another, 2 the same if it may be read.
+fn stands(purpose: u32, inode: u64, nanoseconds: u64, seen: DconfdbPartSeen) -> u32 {
+    beside_number(purpose, &file(1, 1), &file(inode, nanoseconds), &seen)
+}
+
+fn are_kept() -> bool {
+    let held = DconfdbPartSeen {
+        is_held: true,
+        ..sound()
+    };
+    let young = DconfdbPartSeen {
+        opened: 1,
+        ..sound()
+    };
+    let unseen = DconfdbPartSeen {
+        fault: 5,
+        ..sound()
+    };
+    stands(KEEP, 1, 1, sound()) == 0
+        && stands(KEEP, 2, 1, sound()) == 1
+        && stands(KEEP, 1, 2, sound()) == 1
+        && stands(KEEP, 1, 2, held) == 2
+        && stands(KEEP, 1, 1, young) == 1
+        && stands(TELL, 1, 1, young) == 0
+        && stands(TELL, 1, 2, young) == 1
+        && stands(KEEP, 1, 1, unseen) == 1
+}
+
+fn are_taken() -> bool {
+    let bad = DconfdbPartSeen {
+        code: 64,
+        errnum: 13,
+        ..sound()
+    };
+    let unread = DconfdbPartSeen {
+        read_code: 64,
+        read_errnum: 13,
+        ..bad
+    };
+    let other_bytes = DconfdbPartSeen {
+        has_bytes: false,
+        ..sound()
+    };
+    let other_errno = DconfdbPartSeen {
+        read_errnum: 21,
+        ..unread
+    };
+    stands(TAKE, 1, 1, sound()) == 0
+        && stands(TAKE, 1, 1, other_bytes) == 1
+        && stands(TAKE, 1, 1, bad) == 1
+        && stands(TAKE, 1, 1, unread) == 0
+        && stands(TAKE, 1, 1, other_errno) == 1
+        && stands(TRY, 1, 2, sound()) == 0
+        && stands(TRY, 2, 1, sound()) == 1
+        && stands(TRY, 1, 1, other_bytes) == 1
+}
+
+#[test]
+fn what_was_made_of_a_file_is_kept_or_not(rt: HostRuntime) -> Result<(), Fail> {
+    assert!(rt; are_kept() && are_taken());
+    Ok(())
+}

@@ -1,0 +1,112 @@
+//! What the D-Bus service answers to a call that changes settings.
+use dconf_served::{ServedKnown, served_number};
+use std::test::Fail;
+
+/// A change of a few bytes, which nothing is in the way of.
+const PLAIN: ServedKnown = ServedKnown {
+    size: 100,
+    waiting: 0,
+    waiting_size: 0,
+    names: 1,
+    said: 0,
+    is_used: true,
+    is_normal: true,
+    has_edits: true,
+    is_written: false,
+    is_closed: false,
+};
+
+const ODD: ServedKnown = ServedKnown {
+    size: 32_769,
+    is_normal: false,
+    has_edits: false,
+    ..PLAIN
+};
+
+fn too_much_is_refused() -> bool {
+    let large = ServedKnown {
+        size: 67_108_864,
+        ..PLAIN
+    };
+    let larger = ServedKnown {
+        size: 67_108_865,
+        ..PLAIN
+    };
+    let last = ServedKnown {
+        waiting: 9_999,
+        waiting_size: 268_435_455,
+        ..PLAIN
+    };
+    let one_more = ServedKnown {
+        waiting: 10_000,
+        ..PLAIN
+    };
+    let full = ServedKnown {
+        waiting_size: 268_435_456,
+        ..PLAIN
+    };
+    served_number(0, &PLAIN) == 0
+        && served_number(0, &large) == 0
+        && served_number(0, &larger) == 5
+        && served_number(0, &last) == 0
+        && served_number(0, &one_more) == 6
+        && served_number(0, &full) == 6
+}
+
+fn names_are_bounded() -> bool {
+    let used = ServedKnown { names: 64, ..PLAIN };
+    let one_more = ServedKnown {
+        is_used: false,
+        ..used
+    };
+    let last = ServedKnown {
+        names: 63,
+        ..one_more
+    };
+    served_number(0, &used) == 0 && served_number(0, &one_more) == 7 && served_number(0, &last) == 0
+}
+
+fn odd_bytes_are_refused() -> bool {
+    let small = ServedKnown {
+        size: 32_768,
+        ..ODD
+    };
+    let written = ServedKnown {
+        is_written: true,
+        ..ODD
+    };
+    served_number(1, &PLAIN) == 0
+        && served_number(1, &ODD) == 4
+        && served_number(1, &small) == 0
+        && served_number(2, &ODD) == 0
+        && served_number(2, &written) == 4
+}
+
+fn what_is_written_is_acknowledged() -> bool {
+    let written = ServedKnown {
+        is_written: true,
+        ..PLAIN
+    };
+    let closed = ServedKnown {
+        is_closed: true,
+        ..written
+    };
+    let failed = ServedKnown { said: 1, ..PLAIN };
+    let empty = ServedKnown {
+        has_edits: false,
+        ..failed
+    };
+    served_number(2, &PLAIN) == 0
+        && served_number(2, &written) == 1
+        && served_number(2, &closed) == 3
+        && served_number(2, &failed) == 2
+        && served_number(2, &ServedKnown { said: 2, ..PLAIN }) == 2
+        && served_number(2, &empty) == 1
+}
+
+#[test]
+fn calls_are_answered_once_they_are_written(rt: HostRuntime) -> Result<(), Fail> {
+    assert!(rt; too_much_is_refused() && names_are_bounded());
+    assert!(rt; odd_bytes_are_refused() && what_is_written_is_acknowledged());
+    Ok(())
+}
