@@ -98,7 +98,7 @@ static bool write_in_steps(Batch *batch, DconfdbStore *store, const Turn *turn, 
 {
     DconfdbQueue queue = {.has_marked = false};
     DconfdbNext next = {0, 0};
-    dconfdb_queue_begin(&queue, batch->queued, batch->count, &next);
+    dconfdb_queue_answered(&queue, batch->queued, batch->count, DCONFDB_QUEUE_BEGINS, 0, &next);
     for (;;) {
         uint32_t answer = DCONFDB_QUEUE_YES;
         size_t at = 0;

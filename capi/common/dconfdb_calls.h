@@ -64,7 +64,7 @@ typedef struct {
     DconfdbBytes value, type_text;
 } DconfdbPart;
 
-/* The same, with the origin that is handed in, and how many of its own first children are known to be in order: none. */
+/* The same, with the origin that is handed in, and how many of its own first children are known to be in order: of one that was put, none. */
 typedef struct {
     DconfdbBytes value, type_text;
     size_t origin, passed;
@@ -204,14 +204,13 @@ uint32_t dconfdb_parse_value(const uint8_t *text, size_t text_len, uint8_t *room
  * said as follows; then `bits` or `found` stays as it was.
  *
  * The number, if the type is the one of this letter: of `b` 0 or 1, else the bits; `i` asks for an `h`
- * too. The text of an `s`, `o` or `g`, without a zero byte. The child at an index, or, `of_variant`, of a `v` alone; `passed` is 0, or what an
- * earlier call left there for the same type and bytes. The value of the first entry with this key in an
+ * too. The text of an `s`, `o` or `g`, without a zero byte. The child at an index, or, `of_variant`, of a `v` alone; the whole's `passed` is 0, or
+ * what an earlier call left there for the same type and bytes. The value of the first entry with this key in an
  * `a{sT}` or an `a{oT}`. */
 bool dconfdb_number_in(const uint8_t *type_text, size_t type_text_len, const uint8_t *value, size_t value_len, uint8_t letter,
                        uint64_t *bits);
 bool dconfdb_text_in(const uint8_t *type_text, size_t type_text_len, const uint8_t *value, size_t value_len, DconfdbBytes *found);
-bool dconfdb_child_at(const uint8_t *type_text, size_t type_text_len, const uint8_t *value, size_t value_len, bool of_variant, size_t index,
-                      size_t *passed, DconfdbPart *found);
+bool dconfdb_child_at(DconfdbChild *whole, bool of_variant, size_t index, DconfdbPart *found);
 bool dconfdb_look_up(const uint8_t *type_text, size_t type_text_len, const uint8_t *value, size_t value_len, const uint8_t *key,
                      size_t key_len, DconfdbPart *found);
 
@@ -373,10 +372,9 @@ enum {
 /* What has to be asked to know a path: nothing; the current folder; the home that the system has for the user. Or there is none. */
 enum { DCONFDB_ASK_NOTHING, DCONFDB_ASK_CURRENT, DCONFDB_ASK_HOME, DCONFDB_ASK_NO_MORE };
 
-/* What has to be asked to know the path of what is wanted, and, by that (`base`), the path. False: there is none, and nothing is written. */
-uint32_t dconfdb_place_base(const DconfdbEnvironment *environment, uint32_t giver, const uint8_t *folder, size_t folder_len, uint32_t wanted);
-bool dconfdb_place(const DconfdbEnvironment *environment, uint32_t giver, const uint8_t *folder, size_t folder_len, uint32_t wanted,
-                   const uint8_t *base, size_t base_len, DconfdbPath *path);
+/* What has to be asked to know the path of what is wanted; NOTHING: it is written, by what was asked (`base`), if anything was. */
+uint32_t dconfdb_place(const DconfdbEnvironment *environment, uint32_t giver, const uint8_t *folder, size_t folder_len, uint32_t wanted,
+                       bool is_asked, const uint8_t *base, size_t base_len, DconfdbPath *path);
 
 /* Where a store is, once it was found. What there is none of is empty. */
 typedef struct {
@@ -796,6 +794,27 @@ typedef struct {
 /* The task that is due after that one, by its answer; of the first any will do. */
 uint32_t dconfdb_settling_after(uint32_t task, bool yes, const DconfdbSettling *known);
 
+/* What a store knows beside what it shows: all bits 0 at first. Nobody else writes its fields. */
+typedef struct {
+    uint64_t noted;    /* the time of what it noted last; 0: it noted nothing */
+    bool has_news;     /* others changed something, and nobody was told yet */
+    bool has_seen;     /* it remembers what others changed */
+    bool has_tried;    /* it keeps what its file is by a change of its own that is perhaps made */
+    bool is_unsettled; /* its last change is perhaps not on the disk */
+} DconfdbStoreKnown;
+
+/* What happened to it. */
+enum {
+    DCONFDB_STORE_FOUND,  /* a look found other files: is that news? */
+    DCONFDB_STORE_TOLD,   /* whoever asked for news was told */
+    DCONFDB_STORE_SEEN,   /* what others changed is remembered from now on */
+    DCONFDB_STORE_NOTED,  /* it noted what was set: is what was asked for in its file? `number` is the time of the last of that, or 0 */
+    DCONFDB_STORE_ENDED,  /* a change did: may it not be on the disk? `number` says which settings are the newest */
+    DCONFDB_STORE_FOLLOWS /* it was opened in the place of `old`: are they of the same user's file? */
+};
+
+void dconfdb_store_after(DconfdbStoreKnown *known, uint32_t what, bool yes, uint64_t number, const DconfdbStoreKnown *old);
+
 /* Calls to which a fault may be another thing than that the change failed. */
 enum {
     DCONFDB_CALL_OPEN,      /* of a file that is to be read, without a wait */
@@ -850,10 +869,9 @@ enum {
     DCONFDB_QUEUE_LATER,  /* nothing was written, by no fault of an edit */
     DCONFDB_QUEUE_CLOSED, /* of a write: nobody who has this program's rights may write there, so no key may be written */
     DCONFDB_QUEUE_FULL,   /* of a write: the file would be too large; the newest edit that sets something has that fault */
-    DCONFDB_QUEUE_SOON    /* as LATER, but that passes in a moment, mostly */
+    DCONFDB_QUEUE_SOON,   /* as LATER, but that passes in a moment, mostly */
+    DCONFDB_QUEUE_BEGINS  /* nothing is done yet of these edits */
 };
-
-void dconfdb_queue_begin(DconfdbQueue *queue, const DconfdbQueued *edits, size_t count, DconfdbNext *step);
 
 /* It marks edits that are left out, and changes that are refused. */
 void dconfdb_queue_answered(DconfdbQueue *queue, DconfdbQueued *edits, size_t count, uint32_t answer, size_t at, DconfdbNext *step);
@@ -946,25 +964,20 @@ enum {
     DCONFDB_NOTICE_NOTHING
 };
 
-/* The files are watched first, and then looked at. */
-void dconfdb_notice_begin(DconfdbNotice *notice);
-
-/* Gives the step; `until` is the moment of a rest, or 0. */
-uint32_t dconfdb_notice_next(const DconfdbNotice *notice, uint64_t *until);
+/* Gives the step; `until` is the moment of a rest, or 0; and `due` when the step is due: a moment that is over is at once. */
+uint32_t dconfdb_notice_next(const DconfdbNotice *notice, bool listens, uint64_t *until, uint64_t *due);
 
 /* What happened. */
 enum {
     DCONFDB_NOTICE_HEARD, /* that event was heard since the last time */
     DCONFDB_NOTICE_ASKED, /* the same, and somebody asks for a look: so the step is no rest */
     DCONFDB_NOTICE_TIME,  /* time passed: where not all is watched, only a listener minds */
-    DCONFDB_NOTICE_ANEW   /* the files are others, which were opened */
+    DCONFDB_NOTICE_ANEW,  /* the files are others, which were opened */
+    DCONFDB_NOTICE_BEGINS /* nothing yet: the files are watched first, and then looked at */
 };
 
 /* At any time, also amid a step; and that time passed. Gives the step. */
 uint32_t dconfdb_notice_told(DconfdbNotice *notice, uint32_t what, uint32_t event, bool listens, uint64_t now);
-
-/* When the next step is due: a moment that is over is at once. */
-uint64_t dconfdb_notice_due(const DconfdbNotice *notice, bool listens);
 
 /* Whether all files are watched, or whether the look succeeded. Gives when the next step is due, for who minds the time. */
 uint64_t dconfdb_notice_answered(DconfdbNotice *notice, bool yes, uint64_t now);
@@ -1018,12 +1031,13 @@ typedef struct {
     bool is_let_go;    /* nobody does, and the program goes on */
     bool waits;        /* something waits to be written */
     bool is_in_line;   /* it is in line for its turn */
-    bool has_turn;     /* that has come, or was waited for in vain */
+    bool has_asked;    /* it has asked for that in this round, */
     bool has_untold;
     bool is_to_watch; /* somebody wants to be told of what others change */
     bool is_asked;    /* somebody wants a write to be tried now */
     bool asks;        /* of something that waits nobody knows whether it changes anything */
     bool is_watched;  /* what others change is told without a look at the files */
+    bool is_others;   /* and others have theirs: who is in line goes on waiting, and who isn't has waited in vain */
 } DconfdbRound;
 
 /* Its tasks, in the order in which they come in a round. */
@@ -1046,6 +1060,7 @@ uint32_t dconfdb_round_after(uint32_t task, const DconfdbRound *known);
 /* What whoever wants to know that all is on the disk does, in this order. */
 enum {
     DCONFDB_SYNC_BEGINS,
+    DCONFDB_SYNC_ASK,    /* the thread that writes for a try now; any answer will do */
     DCONFDB_SYNC_WRITE,  /* what waits, since no other thread does */
     DCONFDB_SYNC_AWAIT,  /* that all is settled that waits now: is it? */
     DCONFDB_SYNC_TAKE,   /* the turn to look at the files: is it had? */
@@ -1058,6 +1073,7 @@ enum {
 /* What is known; the last two from when the turn is had. */
 typedef struct {
     bool has_writer;   /* another thread writes what waits */
+    bool has_failed;   /* a try has failed by a fault that lasts, and is to be made again later */
     bool has_store;
     bool has_looked;   /* the files were looked at since it was asked for */
     bool is_to_settle; /* nobody knows yet that what was there already is on the disk */
@@ -1113,17 +1129,16 @@ typedef struct {
     uint64_t moved;   /* when the thread that writes did, or was to try again; UINT64_MAX: nobody minds */
 } DconfdbProgress;
 
-/* It begins now: so long. Or it goes on: as long again, up to a minute, if another program had a turn since the last call, by when the folder was
- * changed, in which a turn makes and renames a file. */
-void dconfdb_patience_renew(DconfdbPatience *patience, const DconfdbFileTime *changed, uint64_t now);
-
 /* Whether it is waited on: not all is settled, no later try has failed by a fault that lasts, the time isn't over, and the thread moved
- * within two seconds. */
-bool dconfdb_patience_goes_on(const DconfdbPatience *patience, const DconfdbProgress *progress, uint64_t now);
+ * within two seconds. It begins now: so long. Or it goes on: as long again, up to a minute, if another program had a turn since the last call, by
+ * when the folder was changed, in which a turn makes and renames a file. */
+bool dconfdb_patience_goes_on(DconfdbPatience *patience, const DconfdbProgress *progress, const DconfdbFileTime *changed, uint64_t now);
 
-/* A fault that was met, and is there still: all bits 0 if there is none. */
+/* A fault that was met, and is there still: all bits 0, but for `tries`, if there is none. */
 typedef struct {
-    uint64_t since, pause; /* since when it is there, and the pause before what failed is tried again */
+    uint64_t since, pause, again; /* since when it is there; the pause before what failed is tried again, and when that is */
+    uint64_t due;           /* when it will be said, if it is there then; of what was said, 0 */
+    uint64_t tries, failed; /* how many tries there were, which the caller counts; and which was the last that failed by it once it lasted, or 0 */
     bool is_there, is_said;
 } DconfdbFailing;
 
@@ -1177,7 +1192,7 @@ uint32_t dconfdb_tell_next(const DconfdbTelling *known);
 
 /* What is known of a change that the D-Bus service is called for, and of those that wait. */
 typedef struct {
-    uint64_t size;                  /* how many bytes it was sent in */
+    uint64_t size;                  /* how many bytes it was sent in; of what is told, how many the paths have */
     uint64_t waiting, waiting_size; /* how many changes wait, and how many bytes they have together */
     uint64_t names;                 /* how many databases are in use */
     uint32_t said;                  /* by dconfdb_failing_met, of the fault by which it can't be written */
@@ -1192,17 +1207,18 @@ typedef struct {
 enum {
     DCONFDB_SERVED_CAME,
     DCONFDB_SERVED_READ,
-    DCONFDB_SERVED_TRIED
+    DCONFDB_SERVED_TRIED,
+    DCONFDB_SERVED_TOLD /* what is seen otherwise by it is about to be told: of that its size alone counts */
 };
 
 /* What becomes of it then. */
 enum {
-    DCONFDB_SERVED_GOES_ON, /* it is read, or waits to be written */
+    DCONFDB_SERVED_GOES_ON, /* it is read, or waits to be written; or each path is named */
     DCONFDB_SERVED_ACKNOWLEDGED,
     DCONFDB_SERVED_FAILED,  /* the fault is answered by which it isn't written */
     DCONFDB_SERVED_CLOSED,  /* .. or why nobody with these rights may write there */
     DCONFDB_SERVED_ODD,     /* its bytes aren't in normal form, and too many to be brought into it */
-    DCONFDB_SERVED_TOO_LARGE,
+    DCONFDB_SERVED_TOO_LARGE, /* of what is told: the directory is named in which all is */
     DCONFDB_SERVED_TOO_MUCH, /* too much waits */
     DCONFDB_SERVED_TOO_MANY_NAMES
 };
@@ -1223,28 +1239,33 @@ typedef struct {
 
 /* What becomes of a change that waits. */
 enum {
-    DCONFDB_FATE_WAITS,   /* in its place */
+    DCONFDB_FATE_WAITS,
     DCONFDB_FATE_WRITTEN, /* or there already */
     DCONFDB_FATE_REFUSED,
-    DCONFDB_FATE_OVERTAKEN, /* a later one sets its key, and goes on waiting: nobody sees that it goes */
-    DCONFDB_FATE_RENEWED    /* it waits behind all others */
+    DCONFDB_FATE_OVERTAKEN /* a later one sets its key, and goes on waiting: nobody sees that it goes */
 };
 
-/* A change in its place in the line, where what was set first is the first, and what is known of it. A new one is put behind all others. */
+/* A change that waits, and what is known of it. */
 typedef struct {
     uintptr_t change;                /* the caller's */
+    uint64_t set;                    /* which of all sets it was: the number of one that was set later, or once more, is greater */
     DconfdbWaitingEdit edit, newest; /* its first edit, and the newest of the same key; 0 where there is none */
     uint32_t fate;                   /* it is written here */
     bool is_tried;                   /* it was tried to write it */
     bool is_refused;                 /* that was, for a fault of its own */
     bool asks;                       /* when it was set nobody knew whether it changes anything */
     bool is_there;                   /* all of it is there by the newest files, and nothing else waits for its keys */
-    bool is_renewed;                 /* it was set once more, and nobody writes it: it counts as set now */
 } DconfdbWaiter;
 
-/* What becomes of each. `is_written`: what was tried is written, but for what is refused. Those that wait in their places are the first of the
- * line from then on, in their order, and it gives how many they are. Behind them the others are in any order. */
-size_t dconfdb_waiting_line(DconfdbWaiter *line, size_t count, bool is_written);
+/* How many changes no longer wait. */
+typedef struct {
+    uint64_t settled;   /* they are written, refused, or were there already; or one that overtook them is */
+    uint64_t overtaken; /* what overtook them isn't settled yet */
+} DconfdbTally;
+
+/* What becomes of each. `is_written`: what was tried is written, but for what is refused. Those that wait are the first of the line from then on,
+ * in the order in which they were set, wherever they stood, and it gives how many they are. Behind them the others are in any order. */
+size_t dconfdb_waiting_line(DconfdbWaiter *line, size_t count, bool is_written, DconfdbTally *tally);
 
 /* ---- which paths were set last */
 
@@ -1278,35 +1299,32 @@ uint32_t dconfdb_note_seen(const DconfdbTime *notes, size_t n, const DconfdbSeen
 uint32_t dconfdb_note_made(const DconfdbTime *notes, size_t n, const DconfdbTime *made, size_t made_n, uint64_t now, DconfdbTime *room,
                            size_t room_len, size_t *len);
 
-/* The moment in which a change counts as made that was asked for in this one, beside all edits that wait, each with its moment; those of one
- * moment are one change. It is the same; or the turn's, which is the last of all moments, if the change resets a directory, or sets something
- * in one that is reset with it. */
-uint64_t dconfdb_moment_beside(const DconfdbTime *waiting, size_t n, uint64_t moment);
+/* The moment in which a change of these edits counts as made that was asked for in this one, beside the others that are written with it, of which
+ * only the resets of directories matter. It is the same; or the turn's, which is the last of all moments, if the change resets a directory, or sets
+ * something in one that is reset with it. */
+uint64_t dconfdb_moment_beside(const DconfdbTime *change, size_t n, const DconfdbTime *others, size_t others_n, uint64_t moment);
 
 /* The time of a moment of a clock that nobody sets, which is `boot` by that clock when it is `now` by the clock of the day. It is no
  * earlier than `noted`, what the program noted last, unless that is later than `now`. */
 uint64_t dconfdb_time_of_moment(uint64_t now, uint64_t boot, uint64_t moment, uint64_t noted);
 
-/* The time that stands for when a file was changed that nobody noted, by when it was written, and when it got its name. */
-uint64_t dconfdb_time_of_file(uint64_t written, uint64_t touched);
+/* The time that stands for when a file was changed that nobody noted: by that file, or, where it is gone, by its folder. */
+uint64_t dconfdb_time_of_file(const DconfdbFileStamp *file, const DconfdbFileStamp *folder);
 
 /* A file of notes has no more bytes. */
 enum { DCONFDB_MOST_NOTED = 1 << 20 };
 
-/* The notes that a file's bytes are. The first is of the turn in which they were written: its `value` is how many of
- * the others are of files that were left, which come next, and those that were set come after them. There is none
- * where the bytes are no such file's, or not whole, or more than DCONFDB_MOST_NOTED. They are handed out as dconfdb_list does; the paths are
- * lent from the bytes. What dconfdb_notes_written wrote is read again. MEMORY, and then nothing is written. */
-uint32_t dconfdb_notes_read(const uint8_t *bytes, size_t bytes_len, DconfdbTime *room, size_t room_len, size_t *len);
+/* What a turn noted in a file of these bytes: what was set, handed out as dconfdb_list does; and the records of the files that were left, in `left`.
+ * There is none where the bytes are no such file's, or not whole, or more than DCONFDB_MOST_NOTED. All is lent from the bytes. What
+ * dconfdb_notes_written wrote is read again. MEMORY, and then nothing is written. */
+uint32_t dconfdb_notes_read(const uint8_t *bytes, size_t bytes_len, DconfdbBytes *left, DconfdbTime *room, size_t room_len, size_t *len);
 
-/* The newest notes of what was set: as many as there is room for in a file. The oldest go, and one note says of all paths below "/" that they were
- * set by the latest of their times. They are handed out as dconfdb_list does. MEMORY, and then nothing is written. */
-uint32_t dconfdb_newest_notes(const DconfdbTime *notes, size_t n, DconfdbTime *room, size_t room_len, size_t *len);
-
-/* The bytes of a file of these notes, of which the first is of the turn. Where there are too many, or they take
- * too many bytes, one note stands for all that were set: it says of all paths below "/" that they were set
- * by the latest of their times. They are handed out as dconfdb_list does. MEMORY, and then nothing is written. */
-uint32_t dconfdb_notes_written(const DconfdbTime *notes, size_t n, uint8_t *room, size_t room_len, size_t *len);
+/* The bytes of a file of what a turn notes, in that moment and at that time: the files that were left, with that of the name in front as it is left
+ * now, if it is there, as many as are kept; and the newest notes of what was set, as many as there is room for: the oldest go, and one says of all
+ * paths below "/" that they were set by the latest of their times. They are handed out as dconfdb_list does. MEMORY, and then nothing is written. */
+uint32_t dconfdb_notes_written(const DconfdbTime *notes, size_t n, uint64_t moment, uint64_t time, const uint8_t *left, size_t left_len,
+                               const uint8_t *name, size_t name_len, const DconfdbFileStamp *file, bool is_synced, uint8_t *room, size_t room_len,
+                               size_t *len);
 
 /* ---- files as those who noted what they set left them: bytes of records, the newest first, that programs share */
 
@@ -1319,11 +1337,6 @@ enum {
 
 /* The file of that name, whose first record counts. The bytes may be anybody's. */
 uint32_t dconfdb_left_state(const uint8_t *left, size_t left_len, const uint8_t *name, size_t name_len, const DconfdbFileStamp *file);
-
-/* Those that were left with this one in front, if it is there: as many as are kept, and the oldest go. Gives how many bytes they take: these
- * are written if the room has so many. */
-size_t dconfdb_with_left(const uint8_t *left, size_t left_len, const uint8_t *name, size_t name_len, const DconfdbFileStamp *file,
-                         bool is_synced, uint8_t *room, size_t room_len);
 
 /* A number for the value that a layer has at a path, locked or not: of its type and its bytes. 0: there is none, or it is no key's path. */
 uint64_t dconfdb_value_number(const DconfdbLayer *layer, const uint8_t *path, size_t path_len);
@@ -1385,9 +1398,11 @@ uint32_t dconfdb_told(const DconfdbLayer *before, size_t before_n, const Dconfdb
 uint32_t dconfdb_relocked(const DconfdbLayer *before, size_t before_n, const DconfdbLayer *after, size_t after_n, bool was_writable,
                           bool is_writable, bool same_others, uint8_t *room, size_t room_len, size_t *len);
 
-/* Whether a path may be written, a key's or all that is below a directory: `writable`, the first layer is the user's, and no lock covers it. A
- * path that doesn't start with `/` is locked by nobody. MEMORY, and then it may not; a key that may takes none. */
-uint32_t dconfdb_may_write(const DconfdbLayer *layers, size_t count, bool writable, const uint8_t *path, size_t path_len, bool *may);
+/* Whether a path may be written, a key's or all that is below a directory: somebody may write (`is_open`), `writable`, the first layer is the
+ * user's, and no lock covers it. A path that doesn't start with `/` is locked by nobody. A key that may be written takes no memory. */
+enum { DCONFDB_MAY_NOT, DCONFDB_MAY, DCONFDB_MAY_NO_MEMORY };
+
+uint32_t dconfdb_may_write(const DconfdbLayer *layers, size_t count, bool writable, bool is_open, const uint8_t *path, size_t path_len);
 
 /* Whether one of two paths is the other, or a directory above it. */
 bool dconfdb_meets(const uint8_t *one, size_t one_len, const uint8_t *other, size_t other_len);
@@ -1499,7 +1514,9 @@ enum {
     DCONFDB_CHANGING_BEFORE,  /* write what was asked for before: is it written? */
     DCONFDB_CHANGING_SETTLE,  /* all is there: is it on the disk? */
     DCONFDB_CHANGING_PUT,     /* put what is left of it: is that made? */
-    DCONFDB_CHANGING_TELL,    /* tell it */
+    DCONFDB_CHANGING_OTHERS,  /* tell what others changed, but for what the change says itself */
+    DCONFDB_CHANGING_TELL,    /* tell what is new by it */
+    DCONFDB_CHANGING_GIVE_UP, /* it isn't made: take it away, and tell what others changed */
     DCONFDB_CHANGING_MADE,    /* over */
     DCONFDB_CHANGING_REFUSED, /* over: a key may not be written */
     DCONFDB_CHANGING_FAILED   /* over, for another fault */
@@ -1600,7 +1617,6 @@ typedef struct {
     bool is_known;         /* one has the key, or a key below the directory */
     bool has_schemas;      /* one is at the key's directory */
     bool may_be_elsewhere; /* one without a path has a key of that name; of a directory, there is one */
-    bool is_slip;          /* it is a slip away from where one has such a key */
     bool has_value;        /* it is set to a value */
     bool is_taken;         /* .. which one of the keys takes */
     bool is_of_type;       /* .. and that is of the first one's type */
@@ -1622,7 +1638,9 @@ enum {
     DCONFDB_FINDING_NOT_TAKEN
 };
 
-uint32_t dconfdb_finding(const DconfdbFinding *known);
+/* What a schema without a path may have is passed over, but where the directory is a slip away from one of these, where schemas have such a key: a
+ * letter is more, less or otherwise, or two have changed places. */
+uint32_t dconfdb_finding(const DconfdbFinding *known, const uint8_t *directory, size_t directory_len, const DconfdbBytes *others, size_t count);
 
 #ifdef __cplusplus
 }

@@ -131,12 +131,11 @@ typedef struct {
 /* The same facts have the same answer, and aren't asked of again. */
 static void ask(Standing *it, const struct stat *found, int fault)
 {
-    DconfdbStood stood = file_stood(found, fault);
-    if (fault == 0 && stood.mode == it->stood.mode && stood.size == it->stood.size)
+    if (fault == 0 && found->st_mode == it->stood.mode && (uint64_t)found->st_size == it->stood.size)
         return;
-    it->stood.fault = stood.fault;
-    it->stood.mode = stood.mode;
-    it->stood.size = stood.size;
+    it->stood.fault = (uint32_t)fault;
+    it->stood.mode = fault == 0 ? found->st_mode : 0;
+    it->stood.size = fault == 0 ? (uint64_t)found->st_size : 0;
     it->kind = dconfdb_standing(DCONFDB_TO_READ, &it->stood, &it->told);
 }
 
@@ -155,11 +154,12 @@ static int take_file(int file, const Standing *it, FileWanted *is_wanted, FileBy
 /* The state of what was looked at. */
 static void note_state(FileState *state, const struct stat *found, int fault)
 {
-    *state = missing;
-    if (fault == 0)
+    if (fault == 0) {
         *state = file_state_of(found);
-    else
-        state->is_there = file_fault(DCONFDB_TO_LOOK, fault) != 0;
+        return;
+    }
+    *state = missing;
+    state->is_there = file_fault(DCONFDB_TO_LOOK, fault) != 0;
 }
 
 /* The bytes and the state of a file that was opened. */

@@ -9,7 +9,7 @@
 void flag_set(const char *path)
 {
     static const char is_set = 1;
-    int file = open(path, O_RDWR | O_CLOEXEC | O_NOFOLLOW);
+    int file = path ? open(path, O_RDWR | O_CLOEXEC | O_NOFOLLOW) : -1;
     if (file < 0)
         return; /* nobody reads */
     ssize_t longer = pwrite(file, "", 1, 1), set = longer == 1 ? pwrite(file, &is_set, 1, 0) : 0;

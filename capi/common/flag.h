@@ -2,7 +2,7 @@
 #ifndef FLAG_H
 #define FLAG_H
 
-/* Sets it, after the database was replaced. A fault of it is none of the change. */
+/* Sets it, after the database was replaced; NULL: there is none. A fault of it is none of the change. */
 void flag_set(const char *path);
 
 #endif

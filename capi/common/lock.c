@@ -333,11 +333,14 @@ static DconfdbStood does(Awaited *awaited)
 
 static uint32_t try_it(void *it, int *fault)
 {
+    static const DconfdbStood nothing = {.fault = 0};
     Awaited *awaited = it;
     DconfdbTaking *taking = &awaited->taking;
-    DconfdbStood stood = file_stood(NULL, 0);
-    for (dconfdb_taking_answered(taking, &stood); taking->task < DCONFDB_TAKING_HAD; dconfdb_taking_answered(taking, &stood))
-        stood = does(awaited);
+    dconfdb_taking_answered(taking, &nothing);
+    while (taking->task < DCONFDB_TAKING_HAD) {
+        const DconfdbStood stood = does(awaited);
+        dconfdb_taking_answered(taking, &stood);
+    }
     if (taking->task == DCONFDB_TAKING_NOT_HAD)
         close_awaited(awaited);
     *fault = (int)taking->fault;

@@ -10,9 +10,6 @@
 #include <time.h>
 #include <unistd.h>
 
-/* In front of what was set stand two notes. */
-enum { HEAD_NOTES = 2 };
-
 /* The room that is made first: for so many bytes, and times. */
 enum { FEW_BYTES = 1024, FEW_TIMES = 4 };
 
@@ -63,17 +60,6 @@ uint64_t order_time(const Order *order, uint64_t moment, uint64_t noted)
     return dconfdb_time_of_moment(order->now, order->moment, moment, noted);
 }
 
-/* A time before 1970 is the first that a note can have. */
-static uint64_t noted_time(const DconfdbFileTime *time)
-{
-    return (int64_t)time->seconds < 0 ? 0 : time->seconds * second + time->nanoseconds;
-}
-
-uint64_t order_time_of(const FileState *file)
-{
-    return dconfdb_time_of_file(noted_time(&file->written), noted_time(&file->touched));
-}
-
 /* ---- room */
 
 /* What is to be had next of something that grows. */
@@ -92,19 +78,6 @@ static bool has_bytes_for(char **bytes, size_t *most, size_t wanted)
     if (!room)
         return false;
     *bytes = room;
-    *most = next;
-    return true;
-}
-
-static bool has_notes_for(DconfdbTime **notes, size_t *most, size_t wanted)
-{
-    if (*most > 0 && wanted <= *most)
-        return true;
-    size_t next = next_of(*most, FEW_TIMES, wanted);
-    DconfdbTime *room = realloc(*notes, next * sizeof *room);
-    if (!room)
-        return false;
-    *notes = room;
     *most = next;
     return true;
 }
@@ -196,35 +169,19 @@ static bool read_text(Order *order, int lock)
     return true;
 }
 
-/* How many notes there are, in `notes`. There are few mostly, so that is tried first. False: no memory is left. */
-static bool read_notes(Order *order, size_t *count)
-{
-    *count = 0;
-    do {
-        if (!has_notes_for(&order->notes, &order->notes_most, *count))
-            return false;
-        for (size_t i = 0; i < order->notes_most; i++)
-            order->notes[i] = (DconfdbTime){DCONFDB_NOTHING, 0, 0};
-        if (dconfdb_notes_read((const uint8_t *)order->text, order->size, order->notes, order->notes_most, count) != DCONFDB_OK)
-            return false;
-    } while (*count > order->notes_most);
-    return true;
-}
-
-/* The first note is of the turn in which they were written. */
+/* There are few mostly, so that is tried first. False: no memory is left. */
 static bool take_notes(Order *order)
 {
-    size_t count;
-    if (!read_notes(order, &count))
-        return false;
-    size_t left = count > 0 ? (size_t)order->notes[0].value : 0;
-    if (left > 0)
-        order->left = order->notes[1].path;
-    order->count = count > 0 ? count - 1 - left : 0;
-    if (!has_room_for(order, order->count))
-        return false;
-    if (order->count > 0)
-        memcpy(order->times, order->notes + 1 + left, order->count * sizeof *order->times);
+    size_t count = 0;
+    do {
+        if (!has_room_for(order, count))
+            return false;
+        for (size_t i = 0; i < order->most; i++)
+            order->times[i] = (DconfdbTime){DCONFDB_NOTHING, 0, 0};
+        if (dconfdb_notes_read((const uint8_t *)order->text, order->size, &order->left, order->times, order->most, &count) != DCONFDB_OK)
+            return false;
+    } while (count > order->most);
+    order->count = count;
     return true;
 }
 
@@ -295,30 +252,8 @@ bool order_note_made(Order *order, const DconfdbTime *made, size_t count)
 
 /* ---- written anew */
 
-/* False: no memory is left. */
-static bool keep_newest(Order *order)
-{
-    size_t most, len = 0;
-    if (!begin_notes(order, 1, &most)
-        || dconfdb_newest_notes(order->times, order->count, order->others, most, &len) != DCONFDB_OK
-        || len > most)
-        return false;
-    end_notes(order, len);
-    return true;
-}
-
-/* Of the turn, of the files that were left, and of what was set. */
-static size_t all_notes(const Order *order, DconfdbTime *all, const DconfdbBytes *left)
-{
-    all[0] = (DconfdbTime){DCONFDB_NOTHING, order->moment, 1};
-    all[1] = (DconfdbTime){*left, order->now, 0};
-    if (order->count > 0)
-        memcpy(all + HEAD_NOTES, order->times, order->count * sizeof *all);
-    return HEAD_NOTES + order->count;
-}
-
 /* Who is killed amid this leaves the first moment of one writer, and the last of another. */
-static void put_in_file(const Order *order, int lock, size_t len)
+static bool put_in_file(const Order *order, int lock, size_t len)
 {
     size_t at = 0;
     while (at < len) {
@@ -327,54 +262,38 @@ static void put_in_file(const Order *order, int lock, size_t len)
             break;
         at += put > 0 ? (size_t)put : 0;
     }
+    bool is_whole = at == len;
     if (order->stood > at && ftruncate(lock, (off_t)at) != 0)
-        return; /* its end isn't its last moment: nothing counts */
+        is_whole = false; /* its end isn't its last moment: nothing counts */
+    return is_whole;
 }
 
-/* Their bytes, in `next`: how many, or 0 without memory. */
-static size_t bytes_of_notes(Order *order, const DconfdbTime *all, size_t count)
+/* What is noted, in `next`: how many bytes, or 0 without memory. */
+static size_t bytes_of_notes(Order *order, const char *name, const FileState *left, bool is_synced)
 {
     size_t len = 0;
     do {
         if (!has_bytes_for(&order->next, &order->next_room, len))
             return 0;
-        if (dconfdb_notes_written(all, count, (uint8_t *)order->next, order->next_room, &len) != DCONFDB_OK)
+        if (dconfdb_notes_written(order->times, order->count, order->moment, order->now, order->left.at, order->left.len, (const uint8_t *)name,
+                                  strlen(name), left, is_synced, (uint8_t *)order->next, order->next_room, &len)
+            != DCONFDB_OK)
             return 0;
     } while (len > order->next_room);
     return len;
 }
 
-/* Puts the file of that name in front of those that were left: their bytes, in `next_left`. False: no memory is left. */
-static bool put_left(Order *order, const char *name, const FileState *left, bool is_synced, DconfdbBytes *files)
+bool order_write(Order *order, int lock, const char *name, const FileState *left, bool is_synced)
 {
-    size_t size = 0;
-    do {
-        if (!has_bytes_for(&order->next_left, &order->left_room, size))
-            return false;
-        size = dconfdb_with_left(order->left.at, order->left.len, (const uint8_t *)name, strlen(name), left, is_synced, (uint8_t *)order->next_left,
-                                 order->left_room);
-    } while (size > order->left_room);
-    *files = (DconfdbBytes){(const uint8_t *)order->next_left, size};
-    return true;
-}
-
-void order_write(Order *order, int lock, const char *name, const FileState *left, bool is_synced)
-{
-    DconfdbBytes files;
-    if (!put_left(order, name, left, is_synced, &files) || !keep_newest(order) || !has_room_for(order, HEAD_NOTES + order->count))
-        return;
-    size_t len = bytes_of_notes(order, order->others, all_notes(order, order->others, &files));
-    if (len > 0)
-        put_in_file(order, lock, len);
+    size_t len = bytes_of_notes(order, name, left, is_synced);
+    return len > 0 && put_in_file(order, lock, len);
 }
 
 void order_end(Order *order)
 {
     forget_rooms(order);
-    free(order->notes);
     free(order->text);
     free(order->next);
-    free(order->next_left);
     free(order->own);
     free(order->times);
     free(order->others);

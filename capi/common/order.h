@@ -17,14 +17,10 @@ typedef struct {
     uint64_t now, moment;        /* the same, as a time and by order_clock() */
     DconfdbTime *times, *others; /* what is noted; room for as many */
     size_t count, most;
-    DconfdbTime *notes;          /* those of the lock's file: of its turn, of the files that were left, and of what was set */
-    size_t notes_most;
     DconfdbBytes left;           /* files that were left, as the proved calls write them */
     char *text, *next, *own;      /* the bytes of the lock's file, which lend paths; room for those that it gets; the turn's own paths */
     size_t size, room, next_room; /* how many are taken, of how many there may be */
     size_t own_len, own_room;
-    char *next_left; /* the files that are left next */
-    size_t left_room;
     size_t stood;            /* how many there are, or SIZE_MAX */
     struct OrderRoom *rooms; /* where the turn's own paths had no room */
 } Order;
@@ -37,9 +33,6 @@ bool order_read(Order *order, int lock);
 
 /* A moment of order_clock() as a time that programs note, by the clock as it is set now; `noted` is what the program noted last. */
 uint64_t order_time(const Order *order, uint64_t moment, uint64_t noted);
-
-/* The time that stands for when a file was changed that nobody noted. */
-uint64_t order_time_of(const FileState *file);
 
 /* So many bytes until the order is read again; or NULL. */
 char *order_room(Order *order, size_t size);
@@ -58,8 +51,8 @@ bool order_is_synced(const Order *order, const char *name, const FileState *file
 bool order_note_seen(Order *order, const DconfdbSeen *seen, size_t count);
 bool order_note_made(Order *order, const DconfdbTime *made, size_t count);
 
-/* Writes it, with the file of that name as it is left now, and whether it is on the disk. Where it fails, nothing is noted. */
-void order_write(Order *order, int lock, const char *name, const FileState *left, bool is_synced);
+/* Writes it, with the file of that name as it is left now, and whether it is on the disk. False: it failed, and nothing is noted. */
+bool order_write(Order *order, int lock, const char *name, const FileState *left, bool is_synced);
 
 void order_end(Order *order);
 

@@ -42,6 +42,7 @@ typedef struct Edit {
 /* Edits of which all are made, or none. */
 typedef struct Change {
     GList link; /* in the queue of those that are written, or have gone */
+    uint64_t set;    /* which of all sets it was */
     uint64_t moment; /* in which it was set, by order_clock() */
     bool asks;       /* nothing is seen otherwise by it: it is there already, unless others have changed it, and nobody noticed */
     bool is_taken;   /* to be written */
@@ -54,18 +55,15 @@ typedef struct Change {
 
 /* What waits, also while it is written. */
 typedef struct {
-    GArray *line;     /* of each change a DconfdbWaiter: they are written in that order, which is the proved call's */
+    GArray *line;     /* of each change a DconfdbWaiter: they are written in the order that the proved call puts them in */
     guint taken;      /* how many of them somebody writes: the first */
+    guint64 added;    /* how many changes ever waited */
+    guint64 sets;     /* how many sets there were, those too that counted as one that waited */
+    DconfdbTally tally; /* how many changes no longer wait */
     GHashTable *keys; /* a set of edits, one of each key, which has the number of that, by their paths */
     GPtrArray *edits; /* all but those that are left out, by their numbers less one */
     GArray *newest;   /* of each key the number of its newest edit, as the proved calls have it */
 } Waiting;
-
-/* Changes that no longer wait. */
-typedef struct {
-    GQueue changes;
-    guint overtaken; /* so many of them, by one that waits */
-} Gone;
 
 /* With room for so many edits, and so many bytes of their paths, each with a zero byte. */
 Change *change_new(size_t most, size_t paths);
@@ -95,8 +93,8 @@ const Edit *waiting_find(const Waiting *waiting, const char *path);
 bool waiting_is_any(const Waiting *waiting);
 bool waiting_asks(const Waiting *waiting);
 
-/* Forgets those of which the newest snapshot says that all is there, and that nothing else waits for. Gives how many. */
-guint waiting_settle(Waiting *waiting, const DconfdbSnapshot *now);
+/* Forgets those of which the newest snapshot says that all is there, and that nothing else waits for. False: there are none. */
+bool waiting_settle(Waiting *waiting, const DconfdbSnapshot *now);
 
 /* A key at the moment when changes are forgotten: what its newest edit said before, and what that of
  * then says, if there is one. */
@@ -109,10 +107,10 @@ typedef struct {
 /* All changes, to be written. They stay in the line, and are still found. */
 GQueue waiting_take(Waiting *waiting);
 
-/* When it was tried to write those that were taken; `taken` is empty then. Those that are not written wait on in their places, before all that
+/* When it was tried to write those that were taken; `taken` is empty then. Those that are not written wait on, before all that
  * came since, or are overtaken: so no more of them wait than there are keys, however long that takes. It says what each key's newest edit was,
- * and is now: an array of Edited, by their paths, to be freed; or NULL. */
-GArray *waiting_end_try(Waiting *waiting, GQueue *taken, bool is_written, Gone *gone);
+ * and is now: an array of Edited, by their paths, to be freed; or NULL. `gone` has those that no longer wait. */
+GArray *waiting_end_try(Waiting *waiting, GQueue *taken, bool is_written, GQueue *gone);
 
 /* Makes the changes, and marks those that are refused, each for a fault of its own. What is to be told of that is in `refusal`, if it has a
  * number; it is told too where resets were left out since nobody may write there. False: the others are not written, by no fault of theirs,
@@ -150,8 +148,6 @@ typedef struct {
     GMutex lock; /* held for moments. It guards: */
     Waiting waiting;
     GHashTable *odd; /* a set: keys that were read past a value of another type, each behind the type that was asked for and a space */
-    guint64 added, settled; /* how many changes ever waited, and how many no longer do */
-    guint64 overtaken;      /* of those that do, how many went for a later one of the same key that waits itself */
     guint64 tries, failed;  /* how often a write was tried, and which was the last that failed after others had for long; 0: none */
     guint64 last_try;       /* the program's end takes it for given if a later one fails so */
     bool is_asked;          /* a write is to be tried now */
@@ -246,7 +242,7 @@ void turn_leave(DconfdbBackend *self);
 DconfdbPatience patience_of(const DconfdbBackend *self, gint64 each);
 
 /* Whether it goes on, by what was written: `failed` and `settled` are from now, the others from when the wait began. */
-bool patience_goes_on(const DconfdbPatience *patience, guint64 settled, guint64 added, guint64 failed, guint64 tries);
+bool patience_goes_on(DconfdbPatience *patience, guint64 settled, guint64 added, guint64 failed, guint64 tries);
 
 /* To be called now and then: it is renewed if there was a turn since the last call. */
 void patience_renew(DconfdbPatience *patience, const DconfdbBackend *self);
@@ -270,7 +266,12 @@ void know_what_waits(const DconfdbBackend *self, DconfdbRound *known);
 void know_before_write(const DconfdbBackend *self, DconfdbRound *known);
 
 void worker_begin(DconfdbBackend *self);
+
+/* If there is one. */
 void worker_wake(DconfdbBackend *self);
+
+/* Whether this thread is it. */
+bool worker_is_this(const DconfdbBackend *self);
 
 /* `lock` isn't held. At the program's end: until what waits is written, five seconds at most, and as long again after each turn
  * of other programs, up to a minute. Where the disk goes on being full or failing, until one more write has failed. */
@@ -278,8 +279,6 @@ void worker_end(DconfdbBackend *self);
 
 /* The same where nobody holds the backend any longer. False: the worker holds it as long as something waits. */
 bool worker_let_go(DconfdbBackend *self);
-bool worker_is_this(DconfdbBackend *self);
-bool worker_is_another(DconfdbBackend *self);
 
 /* ---- the files that are watched (watch.c), by the worker */
 
@@ -302,7 +301,7 @@ typedef struct {
     bool is_first; /* the store was opened: nobody has seen another one */
     bool waits_again; /* what was taken could not be written */
     GQueue taken;     /* changes of ours that are being written */
-    Gone gone;        /* and those that no longer wait */
+    GQueue gone;      /* and those that no longer wait */
     GArray *edited;          /* keys that an edit of ours was for; NULL: none */
     char **odd;              /* keys that were read past a value of another type, and that type, each pair in turn; NULL: none */
     GPtrArray *faults;       /* to warn of; NULL: none */
@@ -314,7 +313,13 @@ void notice_tell(DconfdbBackend *self, Notice *notice);
 /* The same, and frees the notice. */
 void notice_tell_and_free(DconfdbBackend *self, Notice *notice);
 
+/* The same, but what is told is told by the worker, if there is one. */
+void notice_tell_elsewhere(DconfdbBackend *self, Notice *notice);
+
 /* The worker notifies, and what the notice holds is its own. */
 void worker_tells(DconfdbBackend *self, Notice *notice);
+
+/* Warns. When the program ends, what it warns by may be gone. */
+void say(DconfdbBackend *self, const char *text);
 
 #endif

@@ -30,8 +30,7 @@ static gboolean has_turned(gpointer data)
     g_mutex_lock(&self->lock);
     self->is_to_watch = true;
     worker_begin(self);
-    if (self->has_worker)
-        worker_wake(self);
+    worker_wake(self);
     g_mutex_unlock(&self->lock);
     g_object_unref(self);
     return G_SOURCE_REMOVE;
@@ -65,7 +64,7 @@ void dconfdb_backend_subscribe(GSettingsBackend *backend, const char *name)
         guint count = GPOINTER_TO_UINT(g_hash_table_lookup(self->subscribed, name));
         g_hash_table_insert(self->subscribed, g_strdup(name), GUINT_TO_POINTER(count + 1));
         worker_begin(self);
-        if (self->is_to_watch && self->has_worker)
+        if (self->is_to_watch)
             worker_wake(self);
     }
     g_mutex_unlock(&self->lock);

@@ -55,8 +55,6 @@ void hand_newest(DconfdbBackend *self, Notice *notice)
 {
     notice->edited = waiting_end_try(&self->waiting, &notice->taken, !notice->waits_again, &notice->gone);
     notice->odd = odd_keys(self);
-    self->overtaken += notice->gone.overtaken;
-    self->settled += notice->gone.changes.length - notice->gone.overtaken;
     g_cond_broadcast(&self->settles);
     notice->before = self->now;
     notice->is_first = !self->has_opened;
@@ -139,8 +137,7 @@ static void watch_anew(DconfdbBackend *self)
 {
     g_atomic_int_set(&self->is_reopened, TRUE);
     g_mutex_lock(&self->lock);
-    if (self->has_worker)
-        worker_wake(self);
+    worker_wake(self);
     g_mutex_unlock(&self->lock);
 }
 

@@ -172,28 +172,33 @@ static bool has_ended(DconfdbBackend *self)
     return has;
 }
 
-/* When the program ends, what it warns by may be gone. */
-static void warn(const char *fault, bool ends)
+void say(DconfdbBackend *self, const char *text)
 {
-    if (ends)
-        fprintf(stderr, "dconfdb: %s\n", fault);
+    if (has_ended(self))
+        fprintf(stderr, "dconfdb: %s\n", text);
     else
-        g_warning("%s", fault);
+        g_warning("%s", text);
+}
+
+/* What is known of it before anything is found. */
+static DconfdbTelling telling_of(const Notice *notice)
+{
+    return (DconfdbTelling){
+        .is_first = notice->is_first, .is_other = notice->before != notice->after, .has_edits = notice->edited != NULL};
 }
 
 void notice_tell(DconfdbBackend *self, Notice *notice)
 {
-    DconfdbTelling telling = {
-        .is_first = notice->is_first, .is_other = notice->before != notice->after, .has_edits = notice->edited != NULL};
-    telling.ends = (is_news(&telling) || notice->faults) && has_ended(self);
+    DconfdbTelling telling = telling_of(notice);
+    telling.ends = is_news(&telling) && has_ended(self);
     if (is_news(&telling))
         send(self, notice, &telling);
     for (guint i = 0; notice->faults && i < notice->faults->len; i++)
-        warn(notice->faults->pdata[i], telling.ends);
+        say(self, notice->faults->pdata[i]);
     g_clear_pointer(&notice->faults, g_ptr_array_unref);
     g_clear_pointer(&notice->edited, g_array_unref);
     g_strfreev(notice->odd);
-    changes_free(&notice->gone.changes);
+    changes_free(&notice->gone);
     dconfdb_snapshot_unref(notice->before);
     dconfdb_snapshot_unref(notice->after);
 }
@@ -202,4 +207,13 @@ void notice_tell_and_free(DconfdbBackend *self, Notice *notice)
 {
     notice_tell(self, notice);
     g_free(notice);
+}
+
+void notice_tell_elsewhere(DconfdbBackend *self, Notice *notice)
+{
+    DconfdbTelling telling = telling_of(notice);
+    if (is_news(&telling) || notice->faults)
+        worker_tells(self, notice);
+    else
+        notice_tell(self, notice);
 }

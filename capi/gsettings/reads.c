@@ -5,8 +5,6 @@
 #include "lent_value.h"
 #include "seen.h"
 
-#include <string.h>
-
 /* ---- reads */
 
 /* Where nothing is watched, since no main loop has turned, each read may look at the files. */
@@ -63,12 +61,6 @@ static void source_clear(Source *source)
     source->now = NULL;
 }
 
-/* What is read of it, which takes the reference to the snapshot. */
-static GVariant *take_lent(Source *source, Reads *reads, const char *key)
-{
-    return lent_value(g_steal_pointer(&source->now), reads, key);
-}
-
 /* Since only who reads knows the type that is asked for, it is kept which keys were read past a value of another type, as the proved call says.
  * Where their default changes, it is told. */
 static void remember_odd(DconfdbBackend *self, const char *key, const GVariantType *expected)
@@ -86,53 +78,43 @@ static bool fits(GVariant *value, const GVariantType *expected)
     return !value || g_variant_is_of_type(value, expected);
 }
 
-/* Where the setting is found, or its default (`of_default`), as the proved call has it. */
-static uint32_t found_of(const Source *source, bool of_default, bool may, bool edit_fits, bool stored_fits, bool *is_odd)
+/* What is there, where the proved call has it. */
+static GVariant *found_at(uint32_t found, Source *source, const char *key)
 {
-    DconfdbKnown known = {source->is_edited, source->value != NULL, source->has_user, may, edit_fits, stored_fits};
-    return dconfdb_found(false, of_default, &known, is_odd);
+    switch (found) {
+    case DCONFDB_FOUND_STORED:
+        return lent_value(g_steal_pointer(&source->now), dconfdb_snapshot_read, key);
+    case DCONFDB_FOUND_DEFAULT:
+        return lent_value(g_steal_pointer(&source->now), dconfdb_snapshot_read_default, key);
+    case DCONFDB_FOUND_USERS:
+        return lent_value(g_steal_pointer(&source->now), dconfdb_snapshot_read_user, key);
+    case DCONFDB_FOUND_EDIT:
+        return g_steal_pointer(&source->value);
+    default:
+        return NULL;
+    }
 }
 
-/* What is there; `stored` is what is stored, if that was read. */
-static GVariant *take_found(Source *source, uint32_t found, GVariant *stored, const char *key)
-{
-    GVariant *value = found == DCONFDB_FOUND_STORED ? g_steal_pointer(&stored)
-        : found == DCONFDB_FOUND_EDIT               ? g_steal_pointer(&source->value)
-                                                    : take_lent(source, dconfdb_snapshot_read_default, key);
-    g_clear_pointer(&stored, g_variant_unref);
-    source_clear(source);
-    return value;
-}
-
-/* What is seen beside an edit that waits, or of another type than the one that is stored. */
-static GVariant *read_beside(DconfdbBackend *self, Source *source, const char *key, const GVariantType *expected)
-{
-    GVariant *stored = lent_value(source->now ? dconfdb_snapshot_ref(source->now) : NULL, dconfdb_snapshot_read, key);
-    bool may = source->now && dconfdb_snapshot_is_writable(source->now, key);
-    bool is_odd;
-    uint32_t found = found_of(source, false, may, fits(source->value, expected), fits(stored, expected), &is_odd);
-    if (is_odd)
-        remember_odd(self, key, expected);
-    return take_found(source, found, stored, key);
-}
-
-GVariant *dconfdb_backend_read(GSettingsBackend *backend, const char *key, const GVariantType *expected,
-                                      gboolean default_value)
+/* What is stored, and whether it is of the type, is asked where that counts. */
+GVariant *dconfdb_backend_read(GSettingsBackend *backend, const char *key, const GVariantType *expected, gboolean default_value)
 {
     DconfdbBackend *self = backend_of(backend);
     Source source = source_of(self, key);
+    GVariant *stored = default_value ? NULL : lent_value(source.now ? dconfdb_snapshot_ref(source.now) : NULL, dconfdb_snapshot_read, key);
+    DconfdbKnown known = {.waits = source.is_edited,
+                          .sets = source.value != NULL,
+                          .writable = source.has_user,
+                          .may_write = source.is_edited && dconfdb_snapshot_is_writable(source.now, key),
+                          .edit_fits = fits(source.value, expected),
+                          .stored_fits = fits(stored, expected)};
     bool is_odd;
-    if (default_value)
-        return take_found(&source, found_of(&source, true, false, false, false, &is_odd), NULL, key);
-    if (G_UNLIKELY(source.is_edited))
-        return read_beside(self, &source, key, expected);
-    /* Nearly all reads end here: what is stored is seen, if it is of that type. */
-    GVariant *value = take_lent(&source, dconfdb_snapshot_read, key);
-    if (G_LIKELY(found_of(&source, false, false, true, fits(value, expected), &is_odd) == DCONFDB_FOUND_STORED))
-        return value;
-    g_variant_unref(value);
-    source = source_of(self, key);
-    return read_beside(self, &source, key, expected);
+    uint32_t found = dconfdb_found(false, default_value, &known, &is_odd);
+    if (G_UNLIKELY(is_odd))
+        remember_odd(self, key, expected);
+    GVariant *value = found == DCONFDB_FOUND_STORED ? g_steal_pointer(&stored) : found_at(found, &source, key);
+    g_clear_pointer(&stored, g_variant_unref);
+    source_clear(&source);
+    return value;
 }
 
 GVariant *dconfdb_backend_read_user_value(GSettingsBackend *backend, const char *key, const GVariantType *expected)
@@ -141,10 +123,7 @@ GVariant *dconfdb_backend_read_user_value(GSettingsBackend *backend, const char 
     Source source = source_of(backend_of(backend), key);
     DconfdbKnown known = {.waits = source.is_edited, .sets = source.value != NULL, .writable = source.has_user};
     bool is_odd;
-    uint32_t found = dconfdb_found(true, false, &known, &is_odd);
-    GVariant *value = found == DCONFDB_FOUND_USERS ? take_lent(&source, dconfdb_snapshot_read_user, key)
-        : found == DCONFDB_FOUND_EDIT              ? g_steal_pointer(&source.value)
-                                                   : NULL;
+    GVariant *value = found_at(dconfdb_found(true, false, &known, &is_odd), &source, key);
     source_clear(&source);
     return value;
 }
@@ -156,8 +135,7 @@ gboolean dconfdb_backend_get_writable(GSettingsBackend *backend, const char *nam
     DconfdbBackend *self = backend_of(backend);
     look_if_unwatched(self);
     lock_opened(self);
-    bool may = self->now && seen_is_writable(self->now, name);
-    bool is = dconfdb_may_be_made((const uint8_t *)name, strlen(name), true, is_at_work(self), may);
+    bool is = seen_is_writable(self->now, is_at_work(self), name);
     g_mutex_unlock(&self->lock);
     return is;
 }

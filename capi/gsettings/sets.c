@@ -8,20 +8,13 @@
 /* In microseconds: how long a set waits for others where no worker can be had. */
 enum { LONGEST_WRITE = 10000000 };
 
-/* `lock` is held. */
-static uint32_t entry_of(const DconfdbBackend *self, Change *change)
-{
-    return change_entry(change, &self->waiting, self->now, is_at_work(self));
-}
-
 /* `lock` is held. True: there is no worker, and it is to be written here. */
 static bool add(DconfdbBackend *self, Change *change)
 {
     bool is_first = waiting_add(&self->waiting, change);
-    self->added++;
     worker_begin(self);
     /* For those before it, it is awake, or is to try again. */
-    if (self->has_worker && is_first)
+    if (is_first)
         worker_wake(self);
     return !self->has_worker;
 }
@@ -30,20 +23,27 @@ static bool add(DconfdbBackend *self, Change *change)
  * out whether it is the newest file's. `told`, if it isn't NULL, is what is seen otherwise. */
 static uint32_t make(DconfdbBackend *self, Change *change, GTree **told)
 {
-    bool is_here = false, is_kept = false;
+    bool is_here = false;
     lock_opened(self);
-    uint32_t entry = entry_of(self, change);
-    if (entry == DCONFDB_ENTRY_WAITS && told)
-        *told = change_tree(change);
-    if (entry == DCONFDB_ENTRY_RENEWS)
+    uint32_t entry = change_entry(change, &self->waiting, self->now, is_at_work(self));
+    switch (entry) {
+    case DCONFDB_ENTRY_WAITS:
+        if (told)
+            *told = change_tree(change);
+        is_here = add(self, g_steal_pointer(&change));
+        break;
+    case DCONFDB_ENTRY_ASKS:
+        change->asks = true;
+        is_here = add(self, g_steal_pointer(&change));
+        break;
+    case DCONFDB_ENTRY_RENEWS:
         waiting_renew(&self->waiting, change);
-    is_kept = entry == DCONFDB_ENTRY_WAITS || entry == DCONFDB_ENTRY_ASKS;
-    change->asks = entry == DCONFDB_ENTRY_ASKS;
-    if (is_kept)
-        is_here = add(self, change);
+        break;
+    default:
+        break;
+    }
     g_mutex_unlock(&self->lock);
-    if (!is_kept)
-        change_free(change);
+    g_clear_pointer(&change, change_free);
     if (is_here)
         store_write_alone(self, g_get_monotonic_time() + LONGEST_WRITE);
     return entry;
@@ -95,6 +95,8 @@ gboolean dconfdb_backend_write_tree(GSettingsBackend *backend, GTree *tree, gpoi
 void dconfdb_backend_sync(GSettingsBackend *backend)
 {
     DconfdbBackend *self = backend_of(backend);
-    if (!is_forked(self) && !store_sync(self))
-        g_warning("%s: what was set is not on the disk yet; it goes on waiting", self->place.folder);
+    if (is_forked(self) || store_sync(self))
+        return;
+    g_autofree char *text = g_strdup_printf("%s: what was set is not on the disk yet; it goes on waiting", self->place.folder);
+    say(self, text);
 }

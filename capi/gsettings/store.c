@@ -87,10 +87,7 @@ static void look_quietly(DconfdbBackend *self)
     if (!look(self, &notice))
         atomic_store(&self->looks, (gint64)dconfdb_next_look(DCONFDB_LOOKER_FAILED, 0, (uint64_t)coarse_time(), true, true, true));
     g_mutex_unlock(&self->turn);
-    if (notice.before != notice.after || notice.faults)
-        worker_tells(self, &notice);
-    else
-        notice_tell(self, &notice);
+    notice_tell_elsewhere(self, &notice);
 }
 
 void store_peek(DconfdbBackend *self)
@@ -115,10 +112,7 @@ static bool shows_amid_write(DconfdbBackend *self)
     while ((task = dconfdb_glance_after(task, &known)) < DCONFDB_GLANCE_SEEN)
         hand_newest(self, &notice);
     g_mutex_unlock(&self->lock);
-    if (notice.before != notice.after)
-        worker_tells(self, &notice);
-    else
-        notice_tell(self, &notice);
+    notice_tell_elsewhere(self, &notice);
     return task == DCONFDB_GLANCE_SEEN;
 }
 

@@ -6,9 +6,6 @@
 
 #include <errno.h>
 
-/* In microseconds: when the worker is to ask whether it is warned of, and between two tries where no thread can be had. */
-enum { LONG = 10000000, PAUSE = 50000 };
-
 struct Wait {
     DconfdbBackend *backend;
     FolderLock lock;
@@ -58,16 +55,13 @@ static bool is_over(DconfdbBackend *self, Wait *wait, gint64 end)
     return wait->has_thread && is_thread_over(self, wait, end);
 }
 
-/* When the program ends, it says by itself what isn't written. */
-static void warn(DconfdbBackend *self, Wait *wait)
+static void meet_others(DconfdbBackend *self, Wait *wait)
 {
     if (dconfdb_failing_met(&wait->failing, true, true, true, (uint64_t)g_get_monotonic_time()) != DCONFDB_FAULT_SAY)
         return;
-    g_mutex_lock(&self->lock);
-    bool ends = self->has_ended;
-    g_mutex_unlock(&self->lock);
-    if (!ends)
-        g_warning("%s: others have been writing there for ten seconds; what was set goes on waiting", self->place.folder);
+    g_autofree char *text =
+        g_strdup_printf("%s: others have been writing there for ten seconds; what was set goes on waiting", self->place.folder);
+    say(self, text);
 }
 
 Turn turn_take(DconfdbBackend *self, gint64 end)
@@ -80,7 +74,7 @@ Turn turn_take(DconfdbBackend *self, gint64 end)
     }
     if (is_over(self, wait, end))
         return (Turn){&wait->lock, wait->fault};
-    warn(self, wait);
+    meet_others(self, wait);
     return (Turn){NULL, EWOULDBLOCK};
 }
 
@@ -89,9 +83,7 @@ gint64 turn_next(const DconfdbBackend *self)
     const Wait *wait = self->wait;
     if (!wait)
         return 0;
-    if (!wait->has_thread)
-        return g_get_monotonic_time() + PAUSE;
-    return wait->failing.is_said ? 0 : (gint64)wait->failing.since + LONG;
+    return (gint64)(wait->has_thread ? wait->failing.due : wait->failing.again);
 }
 
 void turn_give(DconfdbBackend *self)
@@ -117,14 +109,17 @@ DconfdbPatience patience_of(const DconfdbBackend *self, gint64 each)
     return patience;
 }
 
-bool patience_goes_on(const DconfdbPatience *patience, guint64 settled, guint64 added, guint64 failed, guint64 tries)
+/* The folder is as it was when it was looked at last. */
+bool patience_goes_on(DconfdbPatience *patience, guint64 settled, guint64 added, guint64 failed, guint64 tries)
 {
     DconfdbProgress progress = {settled, added, failed, tries, UINT64_MAX};
-    return dconfdb_patience_goes_on(patience, &progress, (uint64_t)g_get_monotonic_time());
+    DconfdbFileTime changed = patience->changed;
+    return dconfdb_patience_goes_on(patience, &progress, &changed, (uint64_t)g_get_monotonic_time());
 }
 
 void patience_renew(DconfdbPatience *patience, const DconfdbBackend *self)
 {
+    DconfdbProgress progress = {.moved = UINT64_MAX};
     DconfdbFileTime changed = folder_written(self->place.folder);
-    dconfdb_patience_renew(patience, &changed, (uint64_t)g_get_monotonic_time());
+    dconfdb_patience_goes_on(patience, &progress, &changed, (uint64_t)g_get_monotonic_time());
 }

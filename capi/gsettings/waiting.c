@@ -43,23 +43,20 @@ static bool may_be_made(const Edit *edit, const DconfdbSnapshot *now, bool is_at
     return dconfdb_may_be_made((const uint8_t *)edit->path, strlen(edit->path), edit->value != NULL, is_at_work, may);
 }
 
-/* What is known of the edit's key by the newest snapshot. */
-static DconfdbNewEdit known_by_now(const Edit *edit, const DconfdbSnapshot *now, bool is_at_work)
+static bool is_stored(const Edit *edit, const DconfdbSnapshot *now)
 {
-    return (DconfdbNewEdit){.sets = edit->value != NULL,
-                            .may = may_be_made(edit, now, is_at_work),
-                            .is_same = now && dconfdb_snapshot_has_edit(now, &edit->asked)};
+    return now && dconfdb_snapshot_has_edit(now, &edit->asked);
 }
 
-/* The same where that edit is the newest of it that waits. */
-static DconfdbNewEdit known_beside(const Edit *edit, const Edit *waits, const DconfdbSnapshot *now, bool is_at_work)
+/* What is known of an edit beside the newest one of its key that waits, or else beside the newest snapshot. */
+static DconfdbNewEdit known_of(const Edit *edit, const Edit *waits, const DconfdbSnapshot *now, bool is_at_work)
 {
     return (DconfdbNewEdit){.sets = edit->value != NULL,
                             .may = may_be_made(edit, now, is_at_work),
-                            .is_same = are_alike(&waits->asked, &edit->asked),
-                            .waits = true,
-                            .is_alone = is_alone(waits),
-                            .is_taken = waits->change->is_taken};
+                            .is_same = waits ? are_alike(&waits->asked, &edit->asked) : is_stored(edit, now),
+                            .waits = waits != NULL,
+                            .is_alone = waits && is_alone(waits),
+                            .is_taken = waits && waits->change->is_taken};
 }
 
 uint32_t change_entry(Change *change, const Waiting *waiting, const DconfdbSnapshot *now, bool is_at_work)
@@ -67,8 +64,7 @@ uint32_t change_entry(Change *change, const Waiting *waiting, const DconfdbSnaps
     for (size_t i = 0; i < change->count; i++) {
         Edit *edit = &change->edits[i];
         edit->key = key_of(waiting, edit);
-        const Edit *newest = newest_of(waiting, edit->key);
-        change->known[i] = newest ? known_beside(edit, newest, now, is_at_work) : known_by_now(edit, now, is_at_work);
+        change->known[i] = known_of(edit, newest_of(waiting, edit->key), now, is_at_work);
         edit->is_left_out = edit_is_left_out(&change->known[i]);
     }
     bool is_there;
@@ -156,14 +152,33 @@ bool waiting_is_any(const Waiting *waiting)
     return waiting->line->len > waiting->taken;
 }
 
+/* It is set now. */
+static void set_now(Waiting *waiting, Change *change)
+{
+    change->set = ++waiting->sets;
+    change->moment = order_clock();
+}
+
+/* Of which no more is known than which set it was. */
+static DconfdbWaiter waiter_of(const Change *change)
+{
+    return (DconfdbWaiter){.change = (uintptr_t)change, .set = change->set};
+}
+
 bool waiting_add(Waiting *waiting, Change *change)
 {
-    DconfdbWaiter waiter = {.change = (uintptr_t)change};
     bool is_first = !waiting_is_any(waiting);
-    change->moment = order_clock();
+    set_now(waiting, change);
+    waiting->added++;
+    DconfdbWaiter waiter = waiter_of(change);
     g_array_append_val(waiting->line, waiter);
     put_change(waiting, change);
     return is_first;
+}
+
+void waiting_renew(Waiting *waiting, const Change *change)
+{
+    set_now(waiting, newest_of(waiting, change->edits[0].key)->change);
 }
 
 const Edit *waiting_find(const Waiting *waiting, const char *path)
@@ -186,8 +201,11 @@ bool waiting_asks(const Waiting *waiting)
 GQueue waiting_take(Waiting *waiting)
 {
     GQueue taken = G_QUEUE_INIT;
-    for (waiting->taken = 0; waiting->taken < waiting->line->len; waiting->taken++) {
-        Change *change = change_at(waiting, waiting->taken);
+    for (guint at = 0; at < waiting->line->len; at++)
+        line_of(waiting)[at] = waiter_of(change_at(waiting, at));
+    waiting->taken = (guint)dconfdb_waiting_line(line_of(waiting), waiting->line->len, false, &waiting->tally);
+    for (guint at = 0; at < waiting->taken; at++) {
+        Change *change = change_at(waiting, at);
         change->is_taken = true;
         change->is_refused = false;
         change->link = (GList){.data = change};
@@ -235,7 +253,7 @@ static bool is_there_already(const Waiting *waiting, Change *change, const Dconf
 {
     for (size_t i = 0; i < change->count; i++) {
         const Edit *edit = &change->edits[i];
-        change->known[i] = known_by_now(edit, now, true);
+        change->known[i] = known_of(edit, NULL, now, true);
         change->known[i].waits = edit->before > 0 || newest_of(waiting, edit->key) != edit;
     }
     return edits_are_there(change->known, change->count);
@@ -248,55 +266,43 @@ static DconfdbWaiter known_after_try(const Waiting *waiting, const Change *chang
 {
     const Edit *edit = &change->edits[0], *newest = newest_of(waiting, edit->key);
     return (DconfdbWaiter){.change = (uintptr_t)change,
+                           .set = change->set,
                            .edit = {edit->number, is_alone(edit)},
                            .newest = {newest ? newest->number : 0, newest && is_alone(newest)},
                            .is_tried = change->is_taken,
                            .is_refused = change->is_taken && change->is_refused};
 }
 
-/* Those that wait on are the first, and the others go, but for who waits behind them now. */
-static void settle_line(Waiting *waiting, bool is_written, Gone *gone)
+/* Gives those that no longer wait. */
+static GQueue settle_line(Waiting *waiting, bool is_written)
 {
-    DconfdbWaiter *line = line_of(waiting);
-    guint count = waiting->line->len, waits = (guint)dconfdb_waiting_line(line, count, is_written);
+    GQueue gone = G_QUEUE_INIT;
+    guint count = waiting->line->len;
+    guint waits = (guint)dconfdb_waiting_line(line_of(waiting), count, is_written, &waiting->tally);
     for (guint at = waits; at < count; at++) {
-        Change *change = (Change *)line[at].change;
-        if (line[at].fate == DCONFDB_FATE_RENEWED) {
-            line[waits++] = line[at];
-            continue;
-        }
-        gone->overtaken += line[at].fate == DCONFDB_FATE_OVERTAKEN;
+        Change *change = change_at(waiting, at);
         change->link = (GList){.data = change};
-        g_queue_push_tail_link(&gone->changes, &change->link);
+        g_queue_push_tail_link(&gone, &change->link);
     }
     g_array_set_size(waiting->line, waits);
+    return gone;
 }
 
-void waiting_renew(Waiting *waiting, const Change *change)
+bool waiting_settle(Waiting *waiting, const DconfdbSnapshot *now)
 {
-    Change *waits = newest_of(waiting, change->edits[0].key)->change;
-    Gone none = {.overtaken = 0};
     for (guint at = 0; at < waiting->line->len; at++) {
-        Change *one = change_at(waiting, at);
-        line_of(waiting)[at] = (DconfdbWaiter){.change = (uintptr_t)one, .is_renewed = one == waits};
+        DconfdbWaiter *waiter = &line_of(waiting)[at];
+        Change *change = change_at(waiting, at);
+        *waiter = waiter_of(change);
+        waiter->asks = change->asks;
+        waiter->is_there = is_there_already(waiting, change, now);
     }
-    settle_line(waiting, false, &none);
-    waits->moment = order_clock();
-}
-
-guint waiting_settle(Waiting *waiting, const DconfdbSnapshot *now)
-{
-    Gone settled = {.overtaken = 0};
-    for (guint at = 0; at < waiting->line->len; at++) {
-        Change *one = change_at(waiting, at);
-        line_of(waiting)[at] = (DconfdbWaiter){.change = (uintptr_t)one, .asks = one->asks, .is_there = is_there_already(waiting, one, now)};
-    }
-    settle_line(waiting, false, &settled);
-    guint count = settled.changes.length;
-    if (count > 0)
+    GQueue settled = settle_line(waiting, false);
+    bool is_any = settled.length > 0;
+    if (is_any)
         put_again(waiting);
-    changes_free(&settled.changes);
-    return count;
+    changes_free(&settled);
+    return is_any;
 }
 
 /* Nobody writes them any longer. */
@@ -308,14 +314,14 @@ static void let_go_of_taken(Waiting *waiting, GQueue *taken)
     waiting->taken = 0;
 }
 
-GArray *waiting_end_try(Waiting *waiting, GQueue *taken, bool is_written, Gone *gone)
+GArray *waiting_end_try(Waiting *waiting, GQueue *taken, bool is_written, GQueue *gone)
 {
     GArray *all = edited_of(waiting);
     if (taken->length > 0) {
         for (guint at = 0; at < waiting->line->len; at++)
             line_of(waiting)[at] = known_after_try(waiting, change_at(waiting, at));
         let_go_of_taken(waiting, taken);
-        settle_line(waiting, is_written, gone);
+        *gone = settle_line(waiting, is_written);
         put_again(waiting);
     }
     for (guint i = 0; all && i < all->len; i++) {

@@ -69,20 +69,29 @@ void know_before_write(const DconfdbBackend *self, DconfdbRound *known)
     known->asks = known->is_watched && waiting_asks(&self->waiting);
 }
 
-/* `lock` is held. What was asked for once counts once. */
-static void know_all(DconfdbBackend *self, DconfdbRound *known)
+/* Who waits at the program's end waits on while it has something to do, or is to try again. */
+static void know_where_it_is(DconfdbBackend *self, DconfdbRound *known)
 {
-    know_before_write(self, known);
     known->again = (uint64_t)self->again;
     known->is_in_line = self->wait != NULL;
-    known->has_turn = false;
-    known->moment = (uint64_t)g_get_monotonic_time();
-    known->ends = self->has_ended;
-    known->is_let_go = g_atomic_int_get(&self->is_let_go);
-    known->has_untold = self->untold.length > 0;
-    known->is_to_watch = self->is_to_watch;
-    known->is_asked = self->is_asked;
+    g_atomic_int_set(&self->is_writing, known->waits || known->again != 0 || known->is_in_line);
+}
+
+/* What was asked for once counts once. */
+static DconfdbRound know_all(DconfdbBackend *self)
+{
+    DconfdbRound known = {.moment = (uint64_t)g_get_monotonic_time()};
+    g_mutex_lock(&self->lock);
+    know_before_write(self, &known);
+    known.ends = self->has_ended;
+    known.is_let_go = g_atomic_int_get(&self->is_let_go);
+    known.has_untold = self->untold.length > 0;
+    known.is_to_watch = self->is_to_watch;
+    known.is_asked = self->is_asked;
     self->is_asked = false;
+    g_mutex_unlock(&self->lock);
+    know_where_it_is(self, &known);
+    return known;
 }
 
 /* What comes of a look or of a write. */
@@ -91,44 +100,22 @@ static void know_anew(DconfdbBackend *self, DconfdbRound *known)
     g_mutex_lock(&self->lock);
     know_what_waits(self, known);
     g_mutex_unlock(&self->lock);
-    known->again = (uint64_t)self->again;
-    known->is_in_line = self->wait != NULL;
-}
-
-/* What waits then is written next. */
-static void look_before_write(DconfdbBackend *self, DconfdbRound *known)
-{
-    g_atomic_int_set(&self->is_writing, TRUE);
-    store_settle(self);
-    know_anew(self, known);
-    g_atomic_int_set(&self->is_writing, known->waits || known->is_in_line);
+    know_where_it_is(self, known);
 }
 
 static void take_turn(DconfdbBackend *self, DconfdbRound *known, Turn *turn)
 {
-    g_atomic_int_set(&self->is_writing, TRUE);
     *turn = turn_take(self, 0);
     self->again = turn_next(self);
-    know_anew(self, known);
-    known->has_turn = turn->fault != EWOULDBLOCK;
-}
-
-static void write_what_waits(DconfdbBackend *self, DconfdbRound *known, const Turn *turn)
-{
-    self->again = store_write(self, turn);
-    know_anew(self, known);
-    known->has_turn = false;
-    g_atomic_int_set(&self->is_writing, known->again != 0 || known->is_in_line);
+    known->has_asked = true;
+    known->is_others = turn->fault == EWOULDBLOCK;
 }
 
 /* What waited was settled without the turn: others have that. */
-static void leave_line(DconfdbBackend *self, DconfdbRound *known)
+static void leave_line(DconfdbBackend *self)
 {
     turn_leave(self);
     self->again = 0;
-    known->again = 0;
-    known->is_in_line = self->wait != NULL;
-    g_atomic_int_set(&self->is_writing, FALSE);
 }
 
 static void carry_out(DconfdbBackend *self, uint32_t task, DconfdbRound *known, Turn *turn)
@@ -136,33 +123,31 @@ static void carry_out(DconfdbBackend *self, uint32_t task, DconfdbRound *known, 
     switch (task) {
     case DCONFDB_ROUND_TELL:
         tell_untold(self);
-        break;
+        return;
     case DCONFDB_ROUND_WATCH:
         watch_turn(self);
-        break;
+        return;
     case DCONFDB_ROUND_LOOK:
-        look_before_write(self, known);
+        store_settle(self);
         break;
     case DCONFDB_ROUND_TAKE:
         take_turn(self, known, turn);
         break;
     case DCONFDB_ROUND_WRITE:
-        write_what_waits(self, known, turn);
+        self->again = store_write(self, turn);
         break;
     default:
-        leave_line(self, known);
+        leave_line(self);
     }
+    know_anew(self, known);
 }
 
 /* Does what is due, as the proved call says. False: the program ends, and nothing waits, or can be written. */
 static bool takes_turn(DconfdbBackend *self)
 {
-    DconfdbRound known;
+    DconfdbRound known = know_all(self);
     Turn turn = {NULL, 0};
     uint32_t task = DCONFDB_ROUND_BEGINS;
-    g_mutex_lock(&self->lock);
-    know_all(self, &known);
-    g_mutex_unlock(&self->lock);
     while ((task = dconfdb_round_after(task, &known)) < DCONFDB_ROUND_RESTS)
         carry_out(self, task, &known, &turn);
     if (task == DCONFDB_ROUND_GIVES_UP)
@@ -227,27 +212,16 @@ void worker_wake(DconfdbBackend *self)
 {
     uint64_t one = 1;
     /* Where that is full it is awake. */
-    while (write(self->wakes, &one, sizeof one) < 0 && errno == EINTR)
+    while (self->has_worker && write(self->wakes, &one, sizeof one) < 0 && errno == EINTR)
         ;
 }
 
+bool worker_is_this(const DconfdbBackend *self)
+{
+    return self->has_worker && pthread_equal(self->worker, pthread_self());
+}
+
 /* ---- `lock` isn't held */
-
-bool worker_is_this(DconfdbBackend *self)
-{
-    g_mutex_lock(&self->lock);
-    bool is = self->has_worker && pthread_equal(self->worker, pthread_self());
-    g_mutex_unlock(&self->lock);
-    return is;
-}
-
-bool worker_is_another(DconfdbBackend *self)
-{
-    g_mutex_lock(&self->lock);
-    bool is = self->has_worker && !pthread_equal(self->worker, pthread_self());
-    g_mutex_unlock(&self->lock);
-    return is;
-}
 
 void worker_tells(DconfdbBackend *self, Notice *notice)
 {
@@ -271,7 +245,7 @@ static bool is_settled(DconfdbBackend *self)
 {
     if (!mutex_lock_until(&self->lock, g_get_monotonic_time() + TICK))
         return false;
-    bool is = self->settled == self->added;
+    bool is = self->waiting.tally.settled == self->waiting.added;
     g_mutex_unlock(&self->lock);
     return is;
 }
@@ -322,17 +296,17 @@ void worker_end(DconfdbBackend *self)
     DconfdbPatience patience = patience_of(self, LONGEST_END);
     if (!mutex_lock_until(&self->lock, now + LONGEST_REST))
         return; /* this very thread has it */
-    bool has_worker = self->has_worker, is_this = has_worker && pthread_equal(self->worker, pthread_self());
+    bool has_worker = self->has_worker, is_this = worker_is_this(self);
     /* Without `lock` nothing more is known of the thread, if there is one, than that it moves, and that it is over. */
     DconfdbProgress progress = {.added = has_worker, .moved = (uint64_t)now};
     self->has_ended = self->is_asked = true;
     self->last_try = self->tries;
+    worker_wake(self);
     g_mutex_unlock(&self->lock);
-    if (has_worker)
-        worker_wake(self);
-    while (dconfdb_patience_goes_on(&patience, &progress, (uint64_t)now)) {
+    DconfdbFileTime changed = patience.changed;
+    while (dconfdb_patience_goes_on(&patience, &progress, &changed, (uint64_t)now)) {
         progress.settled = is_this ? has_done_here(self) : has_done(self);
-        patience_renew(&patience, self);
+        changed = folder_written(self->place.folder);
         now = g_get_monotonic_time();
         if (g_atomic_int_get(&self->is_writing))
             progress.moved = (uint64_t)now;
@@ -351,12 +325,11 @@ static void await_over(DconfdbBackend *self, guint64 tries)
 bool worker_let_go(DconfdbBackend *self)
 {
     g_mutex_lock(&self->lock);
-    bool has_worker = self->has_worker, is_this = has_worker && pthread_equal(self->worker, pthread_self());
+    bool has_worker = self->has_worker, is_this = worker_is_this(self);
     guint64 tries = self->tries;
     self->has_ended = self->is_asked = true;
     g_atomic_int_set(&self->is_let_go, TRUE);
-    if (has_worker)
-        worker_wake(self);
+    worker_wake(self);
     if (has_worker && !is_this)
         await_over(self, tries);
     self->is_left = has_worker && !self->is_over;

@@ -16,28 +16,12 @@ static void warn_of_waiting(Notice *notice, const DconfdbError *fault)
     g_free(text);
 }
 
-/* `turn` is held. What could not be written waits again. Gives when it is to be tried. */
-static gint64 wait_again(DconfdbBackend *self, Notice *notice, const DconfdbError *fault, bool tries_again)
+/* `turn` is held. It was tried: what no longer waits goes, and the rest waits again. */
+static void end_try(DconfdbBackend *self, Notice *notice)
 {
-    gint64 now = g_get_monotonic_time();
-    uint32_t said = dconfdb_failing_met(&self->failing, true, is_momentary(fault), tries_again, (uint64_t)now);
-    if (said == DCONFDB_FAULT_SAY)
-        warn_of_waiting(notice, fault);
-    notice->waits_again = true;
     g_mutex_lock(&self->lock);
-    if (said != DCONFDB_FAULT_UNSAID)
-        self->failed = self->tries;
+    self->failed = self->failing.failed;
     hand_newest(self, notice);
-    g_mutex_unlock(&self->lock);
-    return now + (gint64)self->failing.pause;
-}
-
-/* `turn` is held. Nothing fails any longer. */
-static void end_failing(DconfdbBackend *self)
-{
-    g_mutex_lock(&self->lock);
-    self->settled += self->overtaken;
-    self->overtaken = self->failed = 0;
     g_mutex_unlock(&self->lock);
 }
 
@@ -48,16 +32,16 @@ static gint64 write_it(DconfdbBackend *self, const Turn *turn, Notice *notice, b
     begin_error(&refusal);
     begin_error(&fault);
     bool done = changes_write(self->store, turn, &notice->taken, &refusal, &fault);
+    uint32_t said = dconfdb_failing_met(&self->failing, !done, is_momentary(&fault), tries_again, (uint64_t)g_get_monotonic_time());
     if (refusal.code != DCONFDB_ERROR_NONE)
         warn_of(notice, refusal.text);
-    if (!done)
-        return wait_again(self, notice, &fault, tries_again);
-    if (dconfdb_failing_met(&self->failing, false, false, false, 0) == DCONFDB_FAULT_OVER)
-        end_failing(self);
-    if (refusal.code == DCONFDB_ERROR_NONE)
+    if (said == DCONFDB_FAULT_SAY)
+        warn_of_waiting(notice, &fault);
+    if (done)
         warn_once(self, notice, NULL);
-    renew(self, notice);
-    return 0;
+    notice->waits_again = !done;
+    end_try(self, notice);
+    return (gint64)self->failing.again;
 }
 
 /* `turn` isn't held: the turn between programs is had before. */
@@ -67,7 +51,7 @@ static gint64 write_in(DconfdbBackend *self, const Turn *turn, Notice *notice, b
     g_mutex_lock(&self->turn);
     g_mutex_lock(&self->lock);
     notice->taken = waiting_take(&self->waiting);
-    self->tries++;
+    self->failing.tries = ++self->tries;
     g_mutex_unlock(&self->lock);
     if (notice->taken.length > 0)
         again = write_it(self, turn, notice, tries_again);
@@ -81,10 +65,9 @@ void store_settle(DconfdbBackend *self)
     g_mutex_lock(&self->turn);
     bool done = look(self, &notice);
     g_mutex_lock(&self->lock);
-    guint settled = done ? waiting_settle(&self->waiting, self->now) : 0;
-    self->settled += settled;
-    self->is_to_settle = self->is_to_settle || settled > 0;
-    if (settled > 0)
+    bool is_any = done && waiting_settle(&self->waiting, self->now);
+    self->is_to_settle = self->is_to_settle || is_any;
+    if (is_any)
         g_cond_broadcast(&self->settles);
     g_mutex_unlock(&self->lock);
     g_mutex_unlock(&self->turn);
@@ -111,12 +94,12 @@ gint64 store_write(DconfdbBackend *self, const Turn *turn)
 /* ---- by a sync or a set of this thread's: it is the worker, or there is none */
 
 typedef struct {
-    bool is_worker, has_turn;
+    bool is_worker;
     FolderLock lock;
-    Turn turn;
+    Turn turn; /* EWOULDBLOCK: it isn't had */
 } OwnTurn;
 
-/* It waits for others until then. Only the worker is in line from then on; what it waited for in vain else goes on waiting, and is told. */
+/* It waits for others until then. Only the worker is in line from then on. */
 static void take_own(DconfdbBackend *self, OwnTurn *own, gint64 end)
 {
     gint64 left = MAX(end - g_get_monotonic_time(), 0);
@@ -124,16 +107,15 @@ static void take_own(DconfdbBackend *self, OwnTurn *own, gint64 end)
         own->turn = turn_take(self, end);
     else
         own->turn = (Turn){&own->lock, folder_lock(self->place.folder, (int)(left / MILLISECOND), &own->lock)};
-    own->has_turn = !own->is_worker || own->turn.fault != EWOULDBLOCK;
 }
 
 static void give_own(DconfdbBackend *self, OwnTurn *own)
 {
-    if (own->has_turn && own->is_worker)
-        turn_give(self);
-    else if (own->has_turn && own->turn.fault == 0)
+    if (own->is_worker && own->turn.fault != EWOULDBLOCK)
+        turn_leave(self);
+    else if (own->turn.fault == 0)
         folder_unlock(&own->lock);
-    own->has_turn = false;
+    own->turn.fault = EWOULDBLOCK;
 }
 
 static void write_alone(DconfdbBackend *self, OwnTurn *own)
@@ -144,40 +126,50 @@ static void write_alone(DconfdbBackend *self, OwnTurn *own)
     notice_tell(self, &notice);
 }
 
+static void carry_out_alone(DconfdbBackend *self, uint32_t task, DconfdbRound *known, OwnTurn *own, gint64 end)
+{
+    switch (task) {
+    case DCONFDB_ROUND_LOOK:
+        store_settle(self);
+        break;
+    case DCONFDB_ROUND_TAKE:
+        take_own(self, own, end);
+        known->has_asked = true;
+        known->is_others = own->turn.fault == EWOULDBLOCK;
+        break;
+    case DCONFDB_ROUND_WRITE:
+        write_alone(self, own);
+        break;
+    default:
+        turn_leave(self);
+    }
+    g_mutex_lock(&self->lock);
+    know_what_waits(self, known);
+    g_mutex_unlock(&self->lock);
+    known->is_in_line = own->is_worker && self->wait;
+}
+
 void store_write_alone(DconfdbBackend *self, gint64 end)
 {
     DconfdbRound known = {.again = 0};
-    OwnTurn own = {.is_worker = worker_is_this(self)};
+    OwnTurn own = {.turn = {NULL, EWOULDBLOCK}};
     uint32_t task = DCONFDB_ROUND_BEGINS;
     g_mutex_lock(&self->lock);
+    own.is_worker = worker_is_this(self);
     know_before_write(self, &known);
     g_mutex_unlock(&self->lock);
-    while ((task = dconfdb_round_after(task, &known)) < DCONFDB_ROUND_RESTS) {
-        if (task == DCONFDB_ROUND_LOOK)
-            store_settle(self);
-        if (task == DCONFDB_ROUND_TAKE)
-            take_own(self, &own, end);
-        if (task == DCONFDB_ROUND_WRITE)
-            write_alone(self, &own);
-        g_mutex_lock(&self->lock);
-        know_what_waits(self, &known);
-        g_mutex_unlock(&self->lock);
-        known.has_turn = own.has_turn;
-    }
+    while ((task = dconfdb_round_after(task, &known)) < DCONFDB_ROUND_RESTS)
+        carry_out_alone(self, task, &known, &own, end);
     give_own(self, &own);
 }
 
-/* Asks for a write now, where one that failed is to be tried again later. Gives how many were tried so far. */
-static guint64 ask_for_a_try(DconfdbBackend *self)
+/* Where one that failed is to be made again later. */
+static void ask_for_a_try(DconfdbBackend *self)
 {
     g_mutex_lock(&self->lock);
-    guint64 tries = self->tries;
-    if (self->failed != 0 && self->has_worker) {
-        self->is_asked = true;
-        worker_wake(self);
-    }
+    self->is_asked = true;
+    worker_wake(self);
     g_mutex_unlock(&self->lock);
-    return tries;
 }
 
 /* `lock` is held, and let go of meanwhile. For so long, or until changes are settled, or a write has failed. */
@@ -195,10 +187,11 @@ static void await_news(DconfdbBackend *self, DconfdbPatience *patience)
 static bool await_settled(DconfdbBackend *self, DconfdbPatience *patience, guint64 tries)
 {
     g_mutex_lock(&self->lock);
-    guint64 added = self->added;
-    while (patience_goes_on(patience, self->settled, added, self->failed, tries))
+    const DconfdbTally *tally = &self->waiting.tally;
+    guint64 added = self->waiting.added;
+    while (patience_goes_on(patience, tally->settled, added, self->failed, tries))
         await_news(self, patience);
-    bool is_settled = self->settled >= added;
+    bool is_settled = tally->settled >= added;
     g_mutex_unlock(&self->lock);
     return is_settled;
 }
@@ -244,6 +237,9 @@ static bool take_turn(DconfdbBackend *self, Sync *sync)
 static bool carry_out(DconfdbBackend *self, uint32_t task, Sync *sync)
 {
     switch (task) {
+    case DCONFDB_SYNC_ASK:
+        ask_for_a_try(self);
+        return true;
     case DCONFDB_SYNC_WRITE:
         store_write_alone(self, (gint64)sync->patience.end);
         return true;
@@ -263,8 +259,12 @@ bool store_sync(DconfdbBackend *self)
     Sync sync = {.begun = (guint)g_atomic_int_get(&self->looks_begun), .patience = patience_of(self, LONGEST_SYNC)};
     uint32_t task = DCONFDB_SYNC_BEGINS;
     bool yes = true, has_turn = false;
-    sync.tries = ask_for_a_try(self);
-    sync.known = (DconfdbSync){.has_writer = worker_is_another(self), .has_store = self->place.folder != NULL};
+    g_mutex_lock(&self->lock);
+    sync.tries = self->tries;
+    sync.known = (DconfdbSync){.has_writer = self->has_worker && !worker_is_this(self),
+                               .has_failed = self->failed != 0,
+                               .has_store = self->place.folder != NULL};
+    g_mutex_unlock(&self->lock);
     while ((task = dconfdb_sync_after(task, yes, &sync.known)) < DCONFDB_SYNC_YES) {
         yes = carry_out(self, task, &sync);
         has_turn = has_turn || (task == DCONFDB_SYNC_TAKE && yes);

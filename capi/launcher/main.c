@@ -41,9 +41,11 @@ static Program *proved_program(void)
 {
     const DconfdbEnvironment environment = environment_now();
     const DconfdbBytes nothing = DCONFDB_NOTHING;
+    DconfdbPath path = DCONFDB_NO_PATH;
     if (!environment.counts)
         forget_environment();
-    return dconfdb_place_base(&environment, DCONFDB_GIVEN_BY_NOBODY, nothing.at, nothing.len, DCONFDB_WANT_FOLDER) == DCONFDB_ASK_HOME ? &homeless : &proved;
+    uint32_t what = dconfdb_place(&environment, DCONFDB_GIVEN_BY_NOBODY, nothing.at, nothing.len, DCONFDB_WANT_FOLDER, false, nothing.at, nothing.len, &path);
+    return what == DCONFDB_ASK_HOME ? &homeless : &proved;
 }
 
 int main(int count, char **words)

@@ -7,8 +7,7 @@
 uint32_t dconfdb_open(const void *old, bool was_mapped, const uint8_t *file, size_t len, bool is_there, void *layer, void *unsound);
 bool dconfdb_read(const void *layers, size_t n, const uint8_t *path, size_t path_len, void *found);
 bool dconfdb_fault_text(uint32_t number, void *text);
-bool dconfdb_child_at(const uint8_t *type_text, size_t type_text_len, const uint8_t *value, size_t value_len, bool of_variant, size_t index, size_t *passed,
-                      void *found);
+bool dconfdb_child_at(void *whole, bool of_variant, size_t index, void *found);
 size_t dconfdb_put_children(const uint8_t *type_text, size_t type_text_len, const uint8_t *value, size_t value_len, size_t origin, void *room,
                             size_t room_len);
 uint32_t dconfdb_profile(const uint8_t *text, size_t len, bool is_lenient, void *room, size_t room_len, size_t *names, uint32_t *fault, size_t *line);
@@ -157,10 +156,11 @@ static size_t finds_found(size_t layer_size)
 /* The one text in the value. */
 static void finds_part(void)
 {
-    Written room = room_of("DconfdbPart");
-    size_t passed = 0;
-    is_so(dconfdb_child_at(file + TYPE, TYPE_LEN, file + VALUE, VALUE_LEN, false, 0, &passed, room.bytes), "dconfdb_child_at");
-    finds_lent(&room, "type_text", file + TYPE + 1, TYPE_LEN - 1);
+    static const uint8_t type[] = "(as)";
+    Written whole = room_of("DconfdbChild"), room = room_of("DconfdbPart");
+    is_so(dconfdb_put_children(type, sizeof type - 1, file + VALUE, VALUE_LEN, 0, whole.bytes, 1) == 1, "dconfdb_put_children");
+    is_so(dconfdb_child_at(whole.bytes, false, 0, room.bytes), "dconfdb_child_at");
+    finds_lent(&room, "type_text", type + 2, TYPE_LEN - 1);
     finds_lent(&room, "value", file + VALUE, VALUE_LEN - 1);
     ends(&room);
 }

@@ -4,21 +4,22 @@
 #include <stdio.h>
 #include <string.h>
 
-void dconfdb_patience_renew(void *patience, const void *changed, uint64_t now);
-bool dconfdb_patience_goes_on(const void *patience, const void *progress, uint64_t now);
+bool dconfdb_patience_goes_on(void *patience, const void *progress, const void *changed, uint64_t now);
 uint32_t dconfdb_failing_met(void *failing, bool is_there, bool is_momentary, bool tries_again, uint64_t now);
 uint32_t dconfdb_tell_next(const void *known);
 uint32_t dconfdb_served_after(uint32_t done, const void *known);
 
-/* One that begins at moment 7, and is to take so long. */
+/* One that is to take so long, and begins at moment 7, with nothing that waits. */
 enum { PATIENCE = 5 };
+
+static const uint64_t UNCHANGED[2] = {0, 0};
 
 static void makes_patience(uint64_t patience[PATIENCE], uint64_t each)
 {
-    const uint64_t changed[2] = {0, 0};
+    const uint64_t nothing[5] = {0};
     memset(patience, 0, PATIENCE * WORD);
     patience[1] = each;
-    dconfdb_patience_renew(patience, changed, 7);
+    dconfdb_patience_goes_on(patience, nothing, UNCHANGED, 7);
 }
 
 /* What was written meanwhile is read alone. */
@@ -29,7 +30,7 @@ static bool goes_on(uint64_t settled, uint64_t added, uint64_t failed, uint64_t 
     const uint64_t progress[5] = {settled, added, failed, tries, moved};
     uint64_t patience[PATIENCE];
     makes_patience(patience, 11);
-    return dconfdb_patience_goes_on(patience, progress, now);
+    return dconfdb_patience_goes_on(patience, progress, UNCHANGED, now);
 }
 
 static void finds_progress(void)
@@ -39,7 +40,8 @@ static void finds_progress(void)
     const uint64_t old[5] = {0, 1, 0, 0, 7}, moved[5] = {0, 1, 0, 0, 8};
     uint64_t patience[PATIENCE];
     makes_patience(patience, 9000000);
-    is_so(!dconfdb_patience_goes_on(patience, old, 2000007) && dconfdb_patience_goes_on(patience, moved, 2000007), "DconfdbProgress");
+    is_so(!dconfdb_patience_goes_on(patience, old, UNCHANGED, 2000007) && dconfdb_patience_goes_on(patience, moved, UNCHANGED, 2000007),
+          "DconfdbProgress");
     lies("DconfdbProgress", "settled", SETTLED, WORD);
     lies("DconfdbProgress", "added", ADDED, WORD);
     lies("DconfdbProgress", "failed", FAILED_TRY, WORD);
@@ -48,10 +50,14 @@ static void finds_progress(void)
     printf("TAKES(DconfdbProgress, %d);\n", PROGRESS);
 }
 
-/* A fault that was met at moment 9, and is tried again by somebody, or by nobody. */
+/* A fault that was met at moment 9 by the fifth try, and is tried again by somebody, or by nobody. */
+enum { FAULT_SINCE, FAULT_PAUSE, FAULT_AGAIN, FAULT_DUE, FAULT_TRIES, FAULT_FAILED, FAULT_FLAGS, FAULT_IS_THERE = FAULT_FLAGS * WORD, FAULT_IS_SAID };
+
 static void makes_failing(Written *failing, bool tries_again)
 {
-    memset(failing->bytes, 0, 3 * WORD);
+    const uint64_t tries = 5;
+    memset(failing->bytes, 0, (FAULT_FLAGS + 1) * WORD);
+    memcpy(failing->bytes + FAULT_TRIES * WORD, &tries, WORD);
     dconfdb_failing_met(failing->bytes, true, false, tries_again, 9);
 }
 
@@ -62,13 +68,18 @@ static void finds_failing(void)
     makes_failing(&said, false);
     finds_word(&failing, "since", 9);
     finds_word(&failing, "pause", 50000);
-    is_so(failing.bytes[2 * WORD] == 1 && said.bytes[2 * WORD] == 1 && failing.bytes[2 * WORD + 1] == 0 && said.bytes[2 * WORD + 1] == 1,
+    finds_word(&failing, "again", 50009);
+    finds_word(&failing, "due", 1500009);
+    finds_word(&failing, "tries", 5);
+    is_so(said.bytes[FAULT_FAILED * WORD] == 5 && failing.bytes[FAULT_FAILED * WORD] == 0 && said.bytes[FAULT_DUE * WORD] == 0, "DconfdbFailing");
+    is_so(failing.bytes[FAULT_IS_THERE] == 1 && said.bytes[FAULT_IS_THERE] == 1 && failing.bytes[FAULT_IS_SAID] == 0 && said.bytes[FAULT_IS_SAID] == 1,
           "DconfdbFailing");
     is_so(dconfdb_failing_met(said.bytes, true, false, true, 9) == 0 && dconfdb_failing_met(said.bytes, true, false, false, 9) == 2,
           "DconfdbFailing");
-    lies("DconfdbFailing", "is_there", 2 * WORD, FLAG);
-    lies("DconfdbFailing", "is_said", 2 * WORD + 1, FLAG);
-    printf("TAKES(DconfdbFailing, %d);\n", 3 * WORD);
+    lies("DconfdbFailing", "failed", FAULT_FAILED * WORD, WORD);
+    lies("DconfdbFailing", "is_there", FAULT_IS_THERE, FLAG);
+    lies("DconfdbFailing", "is_said", FAULT_IS_SAID, FLAG);
+    printf("TAKES(DconfdbFailing, %d);\n", (FAULT_FLAGS + 1) * WORD);
 }
 
 enum { TAKEN_PATHS = 0, TELL_FLAGS = 8, TELL_IS_FIRST = 8, TELL_ENDS = 9, TELL_IS_OTHER = 10, TELL_HAS_EDITS = 11, TELL_IS_FOUND = 12,

@@ -5,35 +5,41 @@
 #include <string.h>
 
 bool dconfdb_line(bool is_of_locks, void *cursor, void *line);
-uint32_t dconfdb_finding(const void *known);
+uint32_t dconfdb_finding(const void *known, const char *directory, size_t directory_len, const void *others, size_t count);
 
 /* Of two lines, the first names the group of the second's key. */
 enum { CURSOR_GROUP = 16, CURSOR_LINE = 32, CURSOR_PLACE = 40, CURSOR = 48, GROUP_AT = 1, VALUE_AT = 6 };
 
 /* What is known of a key is read alone: what it is, and the fields of which these are so. */
-enum { FINDING_WHAT = 0, FINDING_IS_KNOWN = 4, FINDING_HAS_SCHEMAS = 5, FINDING_MAY_BE_ELSEWHERE = 6, FINDING_IS_SLIP = 7, FINDING_HAS_VALUE = 8,
-       FINDING_IS_TAKEN = 9, FINDING_IS_OF_TYPE = 10, FINDING = 12 };
+enum { FINDING_WHAT = 0, FINDING_IS_KNOWN = 4, FINDING_HAS_SCHEMAS = 5, FINDING_MAY_BE_ELSEWHERE = 6, FINDING_HAS_VALUE = 7,
+       FINDING_IS_TAKEN = 8, FINDING_IS_OF_TYPE = 9, FINDING = 12 };
 
-static bool is_found(uint32_t what, unsigned fields, uint32_t finding)
+/* Beside one directory, of which `/a/` is a slip away, and `/ab/c/` isn't. */
+static bool is_found_at(const char *directory, uint32_t what, unsigned fields, uint32_t finding)
 {
-    _Alignas(16) uint8_t known[FINDING] = {0};
+    _Alignas(16) uint8_t known[FINDING] = {0}, other[LENT];
+    lends(other, "/b/", 3);
     memcpy(known, &what, NUMBER);
     for (int i = 0; i < FINDING_IS_OF_TYPE + 1 - FINDING_IS_KNOWN; i++)
         known[FINDING_IS_KNOWN + i] = fields >> i & 1;
-    return dconfdb_finding(known) == finding;
+    return dconfdb_finding(known, directory, strlen(directory), other, 1) == finding;
+}
+
+static bool is_found(uint32_t what, unsigned fields, uint32_t finding)
+{
+    return is_found_at("/ab/c/", what, fields, finding);
 }
 
 static void finds_finding(void)
 {
-    enum { KNOWN = 1, SCHEMAS = 2, ELSEWHERE = 4, SLIP = 8, VALUE = 16, TAKEN = 32, TYPED = 64 };
+    enum { KNOWN = 1, SCHEMAS = 2, ELSEWHERE = 4, VALUE = 8, TAKEN = 16, TYPED = 32 };
     is_so(is_found(0, 0, 1) && is_found(1, 0, 2) && is_found(2, 0, 3) && is_found(0, KNOWN, 0), "DconfdbFinding");
-    is_so(is_found(0, ELSEWHERE, 0) && is_found(0, ELSEWHERE | SLIP, 1) && is_found(0, ELSEWHERE | SCHEMAS, 1), "DconfdbFinding");
+    is_so(is_found(0, ELSEWHERE, 0) && is_found_at("/a/", 0, ELSEWHERE, 1) && is_found(0, ELSEWHERE | SCHEMAS, 1), "DconfdbFinding");
     is_so(is_found(0, KNOWN | VALUE, 4) && is_found(0, KNOWN | VALUE | TYPED, 5) && is_found(0, KNOWN | VALUE | TAKEN, 0), "DconfdbFinding");
     lies("DconfdbFinding", "what", FINDING_WHAT, NUMBER);
     lies("DconfdbFinding", "is_known", FINDING_IS_KNOWN, FLAG);
     lies("DconfdbFinding", "has_schemas", FINDING_HAS_SCHEMAS, FLAG);
     lies("DconfdbFinding", "may_be_elsewhere", FINDING_MAY_BE_ELSEWHERE, FLAG);
-    lies("DconfdbFinding", "is_slip", FINDING_IS_SLIP, FLAG);
     lies("DconfdbFinding", "has_value", FINDING_HAS_VALUE, FLAG);
     lies("DconfdbFinding", "is_taken", FINDING_IS_TAKEN, FLAG);
     lies("DconfdbFinding", "is_of_type", FINDING_IS_OF_TYPE, FLAG);

@@ -4,8 +4,10 @@
 #include <stdio.h>
 #include <string.h>
 
-uint32_t dconfdb_notes_read(const uint8_t *bytes, size_t bytes_len, void *room, size_t room_len, size_t *len);
-uint32_t dconfdb_notes_written(const void *notes, size_t n, uint8_t *room, size_t room_len, size_t *len);
+uint32_t dconfdb_notes_read(const uint8_t *bytes, size_t bytes_len, void *left, void *room, size_t room_len, size_t *len);
+uint32_t dconfdb_notes_written(const void *notes, size_t n, uint64_t moment, uint64_t time, const uint8_t *left, size_t left_len, const uint8_t *name,
+                               size_t name_len, const void *file, bool is_synced, uint8_t *room, size_t room_len, size_t *len);
+void dconfdb_store_after(void *known, uint32_t what, bool yes, uint64_t number, const void *old);
 uint32_t dconfdb_told(const void *before, size_t before_n, const void *after, size_t after_n, bool was_writable, bool is_writable, bool same_others,
                       const void *asked, size_t count, uint8_t *room, size_t room_len, size_t *len);
 uint32_t dconfdb_leave_out(const void *notes, size_t n, const void *seen, size_t seen_n, const void *edits, size_t count, uint64_t now, bool *room,
@@ -20,7 +22,10 @@ uint32_t dconfdb_course_after(uint32_t task, bool yes, uint32_t users, const voi
 
 /* ---- two times, of which the second is asked for */
 
-enum { WHEN = 16, SET_VALUE = 24, TIME = 32, TITLE_AND_WHEN = 24 };
+enum { WHEN = 16, SET_VALUE = 24, TIME = 32, BEFORE_VALUE = 72, A_STAMP = 64 };
+
+/* A file that is left nowhere, and no bytes. */
+static const _Alignas(16) uint8_t no_file[A_STAMP];
 
 static void makes_time(uint8_t *time, const char *path, uint64_t when)
 {
@@ -39,34 +44,35 @@ static void tries_times(void)
     memcpy(times + SET_VALUE, &value, WORD);
     uint8_t written[128];
     size_t len = 0;
-    is_so(dconfdb_notes_written(times, 1, written, sizeof written, &len) == 0 && len <= sizeof written, "DconfdbTime");
-    is_so(memcmp(written + TITLE_AND_WHEN, &value, WORD) == 0, "DconfdbTime");
+    is_so(dconfdb_notes_written(times, 1, 0, 0, no_file, 0, no_file, 0, no_file, false, written, sizeof written, &len) == 0, "DconfdbTime");
+    is_so(len <= sizeof written && memcmp(written + BEFORE_VALUE, &value, WORD) == 0, "DconfdbTime");
     lies("DconfdbTime", "when", WHEN, WORD);
     lies("DconfdbTime", "value", SET_VALUE, WORD);
     printf("TAKES(DconfdbTime, %d);\n", TIME);
 }
 
-/* How many notes a file has of so many bytes, in which the path of the only one fills what is left. */
-static size_t notes_of(size_t size)
+/* How many bytes of files are read of a file of notes that has so many, and is full of those. */
+static size_t files_of(size_t size)
 {
     enum { LEN_AT = 56, FRAME = 72 };
     static uint8_t bytes[(1 << 20) + 8];
-    _Alignas(16) uint8_t times[2 * TIME];
+    _Alignas(16) uint8_t times[TIME], left[LENT];
     uint64_t path = size - FRAME;
     size_t len = 0;
     makes_time(times, "", 0);
-    makes_time(times + TIME, "", 0);
-    is_so(dconfdb_notes_written(times, 2, bytes, sizeof bytes, &len) == 0 && len == FRAME, "DconfdbTime");
+    lends(left, "", 0);
+    is_so(dconfdb_notes_written(times, 0, 0, 0, no_file, 0, no_file, 0, no_file, false, bytes, sizeof bytes, &len) == 0 && len == FRAME, "DconfdbTime");
     memcpy(bytes + LEN_AT, &path, WORD);
-    is_so(dconfdb_notes_read(bytes, size, times, 2, &len) == 0, "DconfdbTime");
+    is_so(dconfdb_notes_read(bytes, size, left, times, 1, &len) == 0 && len == 0, "DconfdbTime");
+    memcpy(&len, left + len_in_lent, WORD);
     return len;
 }
 
 /* The longest one that is read. */
 static void tries_most_noted(void)
 {
-    enum { MOST = 1 << 20 };
-    is_so(notes_of(MOST) == 2 && notes_of(MOST + 1) == 0, "DCONFDB_MOST_NOTED");
+    enum { MOST = 1 << 20, AROUND = 72 };
+    is_so(files_of(MOST) == MOST - AROUND && files_of(MOST + 1) == 0, "DCONFDB_MOST_NOTED");
     printf("_Static_assert(DCONFDB_MOST_NOTED == %d, \"another file of notes is the longest in the proved calls\");\n", MOST);
 }
 
@@ -153,6 +159,30 @@ static void finds_ending(void)
     takes(&unsettled, "is_unsettled", bit_of(&kept, &either, FLAGS, END, 0, 1), FLAG);
     takes(&unsettled, "keeps_fault", bit_of(&unsettled, &aside, FLAGS, END, 0, 1), FLAG);
     ends(&unsettled);
+}
+
+/* ---- what a store knows: each field is as what happened leaves it */
+
+enum { NOTED = 0, HAS_NEWS = 8, HAS_SEEN = 9, HAS_TRIED = 10, IS_UNSETTLED = 11, STORE_KNOWN = 16 };
+
+static bool knows(uint8_t *known, uint32_t what, uint64_t number, size_t field)
+{
+    static const _Alignas(16) uint8_t none[STORE_KNOWN];
+    dconfdb_store_after(known, what, true, number, none);
+    return known[field] == (field == NOTED ? number : 1);
+}
+
+static void tries_known(void)
+{
+    _Alignas(16) uint8_t known[STORE_KNOWN] = {0}, wanted[STORE_KNOWN] = {[NOTED] = 7, [HAS_NEWS] = 1, [HAS_TRIED] = 1, [IS_UNSETTLED] = 1};
+    bool are = knows(known, 0, 0, HAS_NEWS) && knows(known, 2, 0, HAS_SEEN) && knows(known, 3, 7, NOTED) && knows(known, 4, 2, HAS_TRIED);
+    is_so(are && memcmp(known, wanted, IS_UNSETTLED + 1) == 0, "DconfdbStoreKnown");
+    lies("DconfdbStoreKnown", "noted", NOTED, WORD);
+    lies("DconfdbStoreKnown", "has_news", HAS_NEWS, FLAG);
+    lies("DconfdbStoreKnown", "has_seen", HAS_SEEN, FLAG);
+    lies("DconfdbStoreKnown", "has_tried", HAS_TRIED, FLAG);
+    lies("DconfdbStoreKnown", "is_unsettled", IS_UNSETTLED, FLAG);
+    printf("TAKES(DconfdbStoreKnown, %d);\n", STORE_KNOWN);
 }
 
 /* ---- a change from its beginning to its end, of which each field in turn changes what is done next */
@@ -298,6 +328,7 @@ static void tries_file_seen(void)
 void finds_others(void)
 {
     tries_settling();
+    tries_known();
     tries_course();
     tries_file_seen();
     tries_times();

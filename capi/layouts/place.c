@@ -5,8 +5,8 @@
 #include <string.h>
 
 uint32_t dconfdb_place_kind(const void *environment, uint32_t giver);
-bool dconfdb_place(const void *environment, uint32_t giver, const uint8_t *folder, size_t folder_len, uint32_t wanted, const uint8_t *base,
-                   size_t base_len, void *path);
+uint32_t dconfdb_place(const void *environment, uint32_t giver, const uint8_t *folder, size_t folder_len, uint32_t wanted, bool is_asked,
+                       const uint8_t *base, size_t base_len, void *path);
 bool dconfdb_profile_path(const void *place, uint32_t which, size_t dir, void *path);
 bool dconfdb_database_path(const void *place, const uint8_t *profile, size_t profile_len, uint32_t kind, const uint8_t *name, size_t name_len,
                            void *path, void *flag);
@@ -105,7 +105,7 @@ static void tries_variable(uint8_t *said, const char *field, size_t at, uint32_t
     _Alignas(16) uint8_t path[PART_OF_PATH * LENT];
     const char *const text = "/a path";
     lends(said + at, text, strlen(text));
-    bool is = dconfdb_place(said, 0, file, 0, wanted, file, 0, path);
+    bool is = dconfdb_place(said, 0, file, 0, wanted, false, file, 0, path) == 0;
     is_so(is && is_lent(path + 2 * LENT, text, strlen(text)), "DconfdbEnvironment");
     lends(said + at, "", 0);
     lies("DconfdbEnvironment", field, at, LENT);
@@ -139,7 +139,7 @@ static void tries_environment(void)
     tries_variable(said, "cache", CACHE, 2);
     said[COUNTED] = 0;
     lends(said + STORE, "/s", 2);
-    is_so(!dconfdb_place(said, 0, file, 0, 0, file, 0, path), "DconfdbEnvironment");
+    is_so(dconfdb_place(said, 0, file, 0, 0, false, file, 0, path) != 0, "DconfdbEnvironment");
     lies("DconfdbEnvironment", "counts", COUNTED, FLAG);
     printf("TAKES(DconfdbEnvironment, %d);\n", ENVIRONMENT);
 }

@@ -13,8 +13,8 @@ uint32_t dconfdb_handing_after(uint32_t what, uint32_t done, uint32_t fault, con
 uint32_t dconfdb_standing(uint32_t purpose, const void *stood, uint32_t *fault);
 void dconfdb_refresh_answered(void *refresh, bool yes, uint32_t fault, void *step);
 uint32_t dconfdb_beside(uint32_t purpose, const void *old, const void *now, const void *seen);
-size_t dconfdb_with_left(const uint8_t *left, size_t left_len, const uint8_t *name, size_t name_len, const void *file, bool is_synced, uint8_t *room,
-                         size_t room_len);
+uint32_t dconfdb_notes_written(const void *notes, size_t n, uint64_t moment, uint64_t time, const uint8_t *left, size_t left_len, const uint8_t *name,
+                               size_t name_len, const void *file, bool is_synced, uint8_t *room, size_t room_len, size_t *len);
 
 /* ---- a turn, and its steps: of a new file of 7,777 bytes, of which 1,234 are written */
 
@@ -175,10 +175,14 @@ static void tries_part(void)
 static void tries_left(void)
 {
     _Alignas(16) uint8_t stamp[STAMP_SIZE] = {0};
+    enum { BEFORE_FILES = 64, NOTES = 128 };
+    uint8_t notes[NOTES];
+    size_t len = 0;
     uint64_t words[] = {1, 2, 3, 4, 5}, entry[7];
     memcpy(stamp, words, sizeof words);
     stamp[IS_THERE] = 1;
-    is_so(dconfdb_with_left(stamp, 0, stamp, 0, stamp, true, (uint8_t *)entry, sizeof entry) == sizeof entry, "DconfdbFileStamp");
+    is_so(dconfdb_notes_written(stamp, 0, 0, 0, stamp, 0, stamp, 0, stamp, true, notes, NOTES, &len) == 0 && len == NOTES, "DconfdbFileStamp");
+    memcpy(entry, notes + BEFORE_FILES, sizeof entry);
     is_so(memcmp(entry + 1, words, sizeof words) == 0 && entry[6] == 1, "DconfdbFileStamp");
 }
 

@@ -9,15 +9,13 @@ uint32_t dconfdb_found(bool of_user, bool of_default, const void *known, bool *i
 uint32_t dconfdb_round_after(uint32_t task, const void *known);
 uint32_t dconfdb_glance_after(uint32_t task, const void *known);
 uint32_t dconfdb_sync_after(uint32_t task, bool yes, const void *known);
-size_t dconfdb_waiting_line(void *line, size_t count, bool is_written);
-void dconfdb_patience_renew(void *patience, const void *changed, uint64_t now);
-void dconfdb_queue_begin(void *queue, const void *edits, size_t count, void *step);
+size_t dconfdb_waiting_line(void *line, size_t count, bool is_written, void *tally);
+bool dconfdb_patience_goes_on(void *patience, const void *progress, const void *changed, uint64_t now);
 void dconfdb_queue_answered(void *queue, void *edits, size_t count, uint32_t answer, size_t at, void *step);
 void dconfdb_wait_begin(void *wait, uint32_t what, uint32_t longest, uint64_t now, void *step);
 void dconfdb_wait_answered(void *wait, uint32_t tried, uint32_t fault, uint64_t at, void *step);
 void dconfdb_taking_answered(void *taking, const void *stood);
 void dconfdb_taking_answered(void *taking, const void *stood);
-void dconfdb_notice_begin(void *notice);
 uint32_t dconfdb_notice_told(void *notice, uint32_t what, uint32_t event, bool listens, uint64_t now);
 uint64_t dconfdb_notice_answered(void *notice, bool yes, uint64_t now);
 void dconfdb_watched_name(bool minds, const uint8_t *folder, size_t folder_len, const uint8_t *name, size_t name_len, bool is_last, uint32_t mode,
@@ -146,15 +144,16 @@ static void finds_known(void)
 
 /* What is known of a round is read alone, too: the numbers, and the fields of which these are so. */
 enum { ROUND_AGAIN = 0, ROUND_MOMENT = 8, ROUND_FAILED = 16, ROUND_LAST_TRY = 24, ROUND_FLAGS = 32, ROUND_ENDS = 32, ROUND_IS_LET_GO = 33,
-       ROUND_WAITS = 34, ROUND_IS_IN_LINE = 35, ROUND_HAS_TURN = 36, ROUND_HAS_UNTOLD = 37, ROUND_IS_TO_WATCH = 38,
-       ROUND_IS_ASKED = 39, ROUND_ASKS = 40, ROUND_IS_WATCHED = 41, ROUND = 48 };
-enum { IT_ENDS = 1, LET_GO = 2, IT_WAITS = 4, IN_LINE = 8, HAS_TURN = 16, UNTOLD = 32, TO_WATCH = 64, ASKED = 128, ASKS = 256, WATCHED = 512 };
+       ROUND_WAITS = 34, ROUND_IS_IN_LINE = 35, ROUND_HAS_ASKED = 36, ROUND_HAS_UNTOLD = 37, ROUND_IS_TO_WATCH = 38,
+       ROUND_IS_ASKED = 39, ROUND_ASKS = 40, ROUND_IS_WATCHED = 41, ROUND_IS_OTHERS = 42, ROUND = 48 };
+enum { IT_ENDS = 1, LET_GO = 2, IT_WAITS = 4, IN_LINE = 8, HAS_ASKED = 16, UNTOLD = 32, TO_WATCH = 64, ASKED = 128, ASKS = 256, WATCHED = 512,
+       OTHERS = 1024 };
 
 static bool is_after(uint32_t task, const uint64_t numbers[4], unsigned fields, uint32_t next)
 {
     _Alignas(16) uint8_t known[ROUND] = {0};
     memcpy(known, numbers, ROUND_FLAGS);
-    for (int i = 0; i < ROUND_IS_WATCHED + 1 - ROUND_FLAGS; i++)
+    for (int i = 0; i < ROUND_IS_OTHERS + 1 - ROUND_FLAGS; i++)
         known[ROUND_FLAGS + i] = fields >> i & 1;
     return dconfdb_round_after(task, known) == next;
 }
@@ -166,7 +165,8 @@ static void finds_round(void)
     is_so(is_after(0, later, IT_WAITS, 7) && is_after(0, due, IT_WAITS, 3) && is_after(0, due, IT_WAITS | WATCHED, 4), "DconfdbRound");
     is_so(is_after(0, due, IT_WAITS | WATCHED | ASKS, 3) && is_after(3, later, IT_WAITS | ASKED, 4), "DconfdbRound");
     is_so(is_after(3, later, IT_WAITS | IN_LINE, 4) && is_after(0, none, IN_LINE, 6) && is_after(4, later, 0, 6), "DconfdbRound");
-    is_so(is_after(4, later, IT_WAITS | HAS_TURN, 5) && is_after(4, later, IT_WAITS, 7), "DconfdbRound");
+    is_so(is_after(4, later, IT_WAITS | HAS_ASKED, 5) && is_after(4, later, IT_WAITS, 7), "DconfdbRound");
+    is_so(is_after(4, later, IT_WAITS | HAS_ASKED | OTHERS, 5) && is_after(4, later, IT_WAITS | HAS_ASKED | OTHERS | IN_LINE, 7), "DconfdbRound");
     is_so(is_after(6, none, IT_ENDS | IN_LINE, 8) && is_after(6, none, IT_ENDS | IN_LINE | LET_GO, 7), "DconfdbRound");
     is_so(is_after(4, old, IT_ENDS | IT_WAITS, 7) && is_after(4, failed, IT_ENDS | IT_WAITS, 9), "DconfdbRound");
     lies("DconfdbRound", "again", ROUND_AGAIN, WORD);
@@ -177,16 +177,17 @@ static void finds_round(void)
     lies("DconfdbRound", "is_let_go", ROUND_IS_LET_GO, FLAG);
     lies("DconfdbRound", "waits", ROUND_WAITS, FLAG);
     lies("DconfdbRound", "is_in_line", ROUND_IS_IN_LINE, FLAG);
-    lies("DconfdbRound", "has_turn", ROUND_HAS_TURN, FLAG);
+    lies("DconfdbRound", "has_asked", ROUND_HAS_ASKED, FLAG);
     lies("DconfdbRound", "has_untold", ROUND_HAS_UNTOLD, FLAG);
     lies("DconfdbRound", "is_to_watch", ROUND_IS_TO_WATCH, FLAG);
     lies("DconfdbRound", "is_asked", ROUND_IS_ASKED, FLAG);
     lies("DconfdbRound", "asks", ROUND_ASKS, FLAG);
     lies("DconfdbRound", "is_watched", ROUND_IS_WATCHED, FLAG);
+    lies("DconfdbRound", "is_others", ROUND_IS_OTHERS, FLAG);
     printf("TAKES(DconfdbRound, %d);\n", ROUND);
 }
 
-enum { SYNC_HAS_WRITER = 0, SYNC_HAS_STORE = 1, SYNC_HAS_LOOKED = 2, SYNC_IS_TO_SETTLE = 3, SYNC = 4 };
+enum { SYNC_HAS_WRITER = 0, SYNC_HAS_FAILED = 1, SYNC_HAS_STORE = 2, SYNC_HAS_LOOKED = 3, SYNC_IS_TO_SETTLE = 4, SYNC = 5 };
 
 static bool is_due(uint32_t task, unsigned fields, uint32_t next)
 {
@@ -198,10 +199,11 @@ static bool is_due(uint32_t task, unsigned fields, uint32_t next)
 
 static void finds_sync(void)
 {
-    enum { WRITER = 1, STORE = 2, LOOKED = 4, SETTLE = 8 };
-    is_so(is_due(0, 0, 1) && is_due(0, WRITER, 2) && is_due(3, 0, 6) && is_due(3, STORE, 4), "DconfdbSync");
-    is_so(is_due(3, STORE | LOOKED, 6) && is_due(3, SETTLE, 5), "DconfdbSync");
+    enum { WRITER = 1, HAS_FAILED = 2, STORE = 4, LOOKED = 8, SETTLE = 16 };
+    is_so(is_due(0, 0, 2) && is_due(0, WRITER, 3) && is_due(4, 0, 7) && is_due(4, STORE, 5), "DconfdbSync");
+    is_so(is_due(4, STORE | LOOKED, 7) && is_due(4, SETTLE, 6) && is_due(0, WRITER | HAS_FAILED, 1), "DconfdbSync");
     lies("DconfdbSync", "has_writer", SYNC_HAS_WRITER, FLAG);
+    lies("DconfdbSync", "has_failed", SYNC_HAS_FAILED, FLAG);
     lies("DconfdbSync", "has_store", SYNC_HAS_STORE, FLAG);
     lies("DconfdbSync", "has_looked", SYNC_HAS_LOOKED, FLAG);
     lies("DconfdbSync", "is_to_settle", SYNC_IS_TO_SETTLE, FLAG);
@@ -246,10 +248,10 @@ static void finds_glance(void)
 static void finds_patience(void)
 {
     Written patience = room_of("DconfdbPatience");
-    const uint64_t each = 11, changed[2] = {23, 29};
+    const uint64_t each = 11, changed[2] = {23, 29}, progress[5] = {0};
     memset(patience.bytes, 0, 5 * WORD);
     memcpy(patience.bytes + WORD, &each, WORD);
-    dconfdb_patience_renew(patience.bytes, changed, 7);
+    dconfdb_patience_goes_on(patience.bytes, progress, changed, 7);
     finds_word(&patience, "end", 18);
     finds_word(&patience, "each", 11);
     finds_word(&patience, "latest", 60000007);
@@ -259,43 +261,54 @@ static void finds_patience(void)
 }
 
 /* The flags of a change in the line are read alone. */
-enum { ONE_CHANGE = 0, ONE_NUMBER = 8, ONE_ALONE = 16, ONE_NEWEST = 24, ONE_NEWEST_ALONE = 32, ONE_FATE = 40, ONE_FLAGS = 44, ONE_TRIED = 44,
-       ONE_REFUSED = 45, ONE_ASKS = 46, ONE_THERE = 47, ONE_RENEWED = 48, ONE = 56 };
+enum { ONE_CHANGE = 0, ONE_SET = 8, ONE_NUMBER = 16, ONE_ALONE = 24, ONE_NEWEST = 32, ONE_NEWEST_ALONE = 40, ONE_FATE = 48, ONE_FLAGS = 52, ONE_TRIED = 52,
+       ONE_REFUSED = 53, ONE_ASKS = 54, ONE_THERE = 55, ONE = 56 };
+enum { TALLY_SETTLED, TALLY_OVERTAKEN, TALLY };
 
 /* What becomes of one of which these fields are so, by the numbers of its edit and of the newest, both alone or not. */
 static uint32_t fate_of(size_t number, size_t newest, uint8_t alone, uint8_t newest_alone, unsigned fields)
 {
     _Alignas(16) uint8_t line[ONE] = {0};
+    uint64_t tally[TALLY] = {3, 5};
     uint32_t fate = 77;
     memcpy(line + ONE_NUMBER, &number, WORD);
     memcpy(line + ONE_NEWEST, &newest, WORD);
     memcpy(line + ONE_FATE, &fate, NUMBER);
     line[ONE_ALONE] = alone;
     line[ONE_NEWEST_ALONE] = newest_alone;
-    for (int i = 0; i < ONE_RENEWED + 1 - ONE_FLAGS; i++)
+    for (int i = 0; i < ONE_THERE + 1 - ONE_FLAGS; i++)
         line[ONE_FLAGS + i] = fields >> i & 1;
-    size_t waits = dconfdb_waiting_line(line, 1, false);
+    size_t waits = dconfdb_waiting_line(line, 1, false, tally);
     memcpy(&fate, line + ONE_FATE, NUMBER);
     is_so(waits == (fate == 0), "DconfdbWaiter");
+    is_so(tally[TALLY_SETTLED] == 3u + (fate == 1 || fate == 2) && tally[TALLY_OVERTAKEN] == 5u + (fate == 3), "DconfdbTally");
     return fate;
 }
 
-/* The second of two goes on waiting, and is the first then. */
+/* The second of two goes on waiting, and is the first then; so is one that was set before the other. */
 static void finds_waiter(void)
 {
-    enum { TRIED = 1, REFUSED = 2, ASKS_IT = 4, THERE = 8, RENEWED = 16 };
+    enum { TRIED = 1, REFUSED = 2, ASKS_IT = 4, THERE = 8 };
     _Alignas(16) uint8_t line[2 * ONE] = {0};
     const size_t changes[2] = {11, 13};
+    const uint64_t sets[2] = {5, 3};
+    uint64_t tally[TALLY] = {0};
     is_so(fate_of(1, 2, 1, 1, TRIED) == 3 && fate_of(2, 2, 1, 1, TRIED) == 0 && fate_of(1, 2, 0, 1, TRIED) == 0, "DconfdbWaiter");
     is_so(fate_of(1, 2, 1, 0, TRIED) == 0 && fate_of(1, 2, 1, 1, 0) == 0 && fate_of(1, 1, 1, 1, REFUSED) == 2, "DconfdbWaiter");
     is_so(fate_of(1, 1, 1, 1, ASKS_IT | THERE) == 1 && fate_of(1, 1, 1, 1, ASKS_IT) == 0 && fate_of(1, 1, 1, 1, THERE) == 0, "DconfdbWaiter");
-    is_so(fate_of(1, 1, 1, 1, RENEWED) == 4, "DconfdbWaiter");
-    line[ONE_REFUSED] = 1;
     memcpy(line + ONE_CHANGE, &changes[0], WORD);
     memcpy(line + ONE + ONE_CHANGE, &changes[1], WORD);
-    is_so(dconfdb_waiting_line(line, 2, false) == 1 && memcmp(line + ONE_CHANGE, &changes[1], WORD) == 0, "DconfdbWaiter");
-    is_so(memcmp(line + ONE + ONE_CHANGE, &changes[0], WORD) == 0, "DconfdbWaiter");
+    memcpy(line + ONE_SET, &sets[0], WORD);
+    memcpy(line + ONE + ONE_SET, &sets[1], WORD);
+    is_so(dconfdb_waiting_line(line, 2, false, tally) == 2 && memcmp(line + ONE_CHANGE, &changes[1], WORD) == 0, "DconfdbWaiter");
+    line[ONE_REFUSED] = 1;
+    is_so(dconfdb_waiting_line(line, 2, false, tally) == 1 && memcmp(line + ONE_CHANGE, &changes[0], WORD) == 0, "DconfdbWaiter");
+    is_so(memcmp(line + ONE + ONE_CHANGE, &changes[1], WORD) == 0 && tally[TALLY_SETTLED] == 1, "DconfdbWaiter");
+    lies("DconfdbTally", "settled", TALLY_SETTLED * WORD, WORD);
+    lies("DconfdbTally", "overtaken", TALLY_OVERTAKEN * WORD, WORD);
+    printf("TAKES(DconfdbTally, %d);\n", TALLY * WORD);
     lies("DconfdbWaiter", "change", ONE_CHANGE, WORD);
+    lies("DconfdbWaiter", "set", ONE_SET, WORD);
     lies("DconfdbWaiter", "edit.number", ONE_NUMBER, WORD);
     lies("DconfdbWaiter", "edit.is_alone", ONE_ALONE, FLAG);
     lies("DconfdbWaiter", "newest.number", ONE_NEWEST, WORD);
@@ -305,14 +318,13 @@ static void finds_waiter(void)
     lies("DconfdbWaiter", "is_refused", ONE_REFUSED, FLAG);
     lies("DconfdbWaiter", "asks", ONE_ASKS, FLAG);
     lies("DconfdbWaiter", "is_there", ONE_THERE, FLAG);
-    lies("DconfdbWaiter", "is_renewed", ONE_RENEWED, FLAG);
     printf("TAKES(DconfdbWaiter, %d);\n", ONE);
 }
 
 /* A look is to come after one that failed, and other files may be the store's meanwhile. */
 static void makes_notice(Written *notice, bool is_whole)
 {
-    dconfdb_notice_begin(notice->bytes);
+    dconfdb_notice_told(notice->bytes, 4, 0, false, 0);
     dconfdb_notice_answered(notice->bytes, is_whole, 5);
     dconfdb_notice_answered(notice->bytes, false, 5);
     dconfdb_notice_told(notice->bytes, 0, 0, false, 6);
@@ -366,8 +378,7 @@ static void answers(uint8_t *queue, uint8_t *edits, uint32_t answer)
 /* A queue whose edits were all taken, and which found a key locked; then so many keys were asked about. */
 static void asks(uint8_t *queue, uint8_t *edits, size_t count)
 {
-    Written step = room_of("DconfdbNext");
-    dconfdb_queue_begin(queue, edits, EDITS, step.bytes);
+    answers(queue, edits, 7);
     for (int i = 0; i < EDITS; i++)
         answers(queue, edits, 0);
     answers(queue, edits, 1);

@@ -271,7 +271,7 @@ Engine *engine_new(DConfClient *client)
     g_mutex_init(&self->lock);
     g_cond_init(&self->looked);
     self->watched = g_hash_table_new_full(g_str_hash, g_str_equal, g_free, NULL);
-    self->moments = g_hash_table_new_full(g_str_hash, g_str_equal, g_free, g_free);
+    self->moments = g_hash_table_new_full(g_str_hash, g_str_equal, NULL, g_free);
     engine_store(self);
     return self;
 }
@@ -355,7 +355,7 @@ static uint32_t find(Engine *self, const gchar *key, DConfReadFlags flags, const
     bool of_user = (flags & DCONF_READ_USER_VALUE) != 0, of_default = (flags & DCONF_READ_DEFAULT_VALUE) != 0;
     DconfdbKnown known = {.waits = is_edited, .sets = value != NULL, .edit_fits = true, .stored_fits = true};
     known.writable = of_user && engine_has_user(self);
-    known.may_write = is_edited && seen_is_writable(now, key);
+    known.may_write = is_edited && seen_is_writable(now, true, key);
     bool is_odd;
     return dconfdb_found(of_user, of_default, &known, &is_odd);
 }

@@ -2,9 +2,9 @@
 #define _GNU_SOURCE
 #include "writes.h"
 
-#include "order.h"
-#include "seen.h"
 #include "threads.h"
+
+#include <string.h>
 
 /* Gives the pause before it is tried again; 0: it is written. */
 static guint64 flush(Engine *self, gboolean tries_again, DconfdbError *fault)
@@ -63,10 +63,11 @@ static void begin_thread(Engine *self)
 
 static gboolean is_no_value_below(const gchar *path, GVariant *value, gpointer directory)
 {
-    return !value || !paths_meet(path, directory);
+    const uint8_t *bytes = directory, *others = (const uint8_t *)path;
+    return !value || dconfdb_row_effect(bytes, strlen(directory), false, false, others, strlen(path)) != DCONFDB_ROW_GOES;
 }
 
-/* A key has nothing below it. */
+/* Whether it sets a key for which the reset of the path stands: a key's for none. */
 static bool has_value_below(DConfChangeset *set, const gchar *path)
 {
     return dconf_is_dir(path, NULL) && !dconf_changeset_all(set, is_no_value_below, (gpointer)path);
@@ -107,17 +108,6 @@ static uint32_t entry_of(Engine *self, bool has_user, const DconfdbSnapshot *now
     return dconfdb_entry(known, edits->edits->len, &is_there);
 }
 
-/* `lock` is held. They were asked for in this moment. */
-static void set_moments(Engine *self, const Edits *edits)
-{
-    uint64_t now = order_clock();
-    for (guint at = 0; at < edits->edits->len; at++) {
-        uint64_t *moment = g_new(uint64_t, 1);
-        *moment = now;
-        g_hash_table_replace(self->moments, g_strdup(edit_at(edits, at)->path), moment);
-    }
-}
-
 /* Lets the changes wait, unless they are refused, or nothing of them is left. Gives what becomes of them. */
 static uint32_t add_waiting(Engine *self, const DconfdbSnapshot *now, const Edits *edits, DConfChangeset *changes)
 {
@@ -128,7 +118,7 @@ static uint32_t add_waiting(Engine *self, const DconfdbSnapshot *now, const Edit
         if (!self->waiting)
             self->waiting = dconf_changeset_new();
         dconf_changeset_change(self->waiting, changes);
-        set_moments(self, edits);
+        ask_now(self, edits);
     }
     g_mutex_unlock(&self->lock);
     return entry;
@@ -162,9 +152,17 @@ gboolean engine_change_fast(Engine *self, DConfChangeset *changes, GError **erro
     return is_done;
 }
 
+/* A try that looks at the files by itself, and brings to the disk what was there already; a thread's own is over then. */
 void engine_sync(Engine *self)
 {
     DconfdbError fault = DCONFDB_ERROR_INIT;
-    if (flush(self, FALSE, &fault) != 0)
+    const DconfdbSync known = {.has_looked = true};
+    uint32_t task = DCONFDB_SYNC_BEGINS;
+    bool is_written = true;
+    while ((task = dconfdb_sync_after(task, is_written, &known)) < DCONFDB_SYNC_YES) {
+        if (task == DCONFDB_SYNC_WRITE)
+            is_written = flush(self, FALSE, &fault) == 0;
+    }
+    if (task == DCONFDB_SYNC_NO)
         g_warning("what was changed is not on the disk yet, and goes on waiting: %s", fault.text);
 }

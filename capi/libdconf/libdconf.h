@@ -34,7 +34,8 @@ typedef struct {
     Warned warned;           /* the faults that were logged, and are there still */
     DConfChangeset *waiting; /* fast changes that nobody writes yet; NULL: none */
     DConfChangeset *flying;  /* fast changes that a thread writes */
-    GHashTable *moments;     /* of each path in the two when it was set last, by order_clock() */
+    GHashTable *moments;     /* of each path in the two when it was asked for last */
+    GQueue line;             /* the same, what was asked for first is the first */
     DConfChangeset *writing; /* what a thread writes, fast or not */
     gboolean is_busy;        /* its file is being replaced: nobody looks at the files, which would wait for the disk */
     gboolean is_to_look;     /* somebody wanted to, meanwhile */

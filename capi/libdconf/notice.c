@@ -10,10 +10,11 @@
 
 typedef struct {
     Engine *engine;
-    gchar *path;     /* what all changed paths begin with, or what is locked or no longer */
-    gchar **changes; /* the rest of each; NULL: `writability-changed` */
+    gchar *path;     /* what all changed paths begin with */
+    gchar **changes; /* the rest of each */
     gchar *tag;
-    gboolean is_new; /* a fast change of this client, which no file has yet */
+    gboolean is_new;       /* a fast change of this client, which no file has yet */
+    gboolean is_of_rights; /* it changed whether the path may be written, too */
 } Notice;
 
 /* Who is told may read by GSettings, whose module watches the files by itself. */
@@ -31,10 +32,10 @@ static gboolean emit(gpointer data)
     DConfClient *client = g_weak_ref_get(&notice->engine->client);
     if (!notice->is_new)
         catch_up();
-    if (client && notice->changes)
-        g_signal_emit_by_name(client, "changed", notice->path, notice->changes, notice->tag);
-    else if (client)
+    if (client && notice->is_of_rights)
         g_signal_emit_by_name(client, "writability-changed", notice->path);
+    if (client)
+        g_signal_emit_by_name(client, "changed", notice->path, notice->changes, notice->tag);
     g_clear_object(&client);
     return G_SOURCE_REMOVE;
 }
@@ -49,26 +50,41 @@ static void free_notice(gpointer data)
     g_free(notice);
 }
 
-static void send(Engine *self, const gchar *path, const gchar *const *changes, const gchar *tag, gboolean may_be_now)
+static Notice *notice_new(Engine *self, const gchar *path, const gchar *const *changes, const gchar *tag)
 {
-    Notice *notice = g_new(Notice, 1);
-    *notice = (Notice){engine_ref(self), g_strdup(path), g_strdupv((gchar **)(gpointer)changes), g_strdup(tag), may_be_now};
-    if (may_be_now) {
-        g_main_context_invoke_full(self->context, G_PRIORITY_DEFAULT, emit, notice, free_notice);
-        return;
-    }
+    Notice *notice = g_new0(Notice, 1);
+    notice->engine = engine_ref(self);
+    notice->path = g_strdup(path);
+    notice->changes = g_strdupv((gchar **)(gpointer)changes);
+    notice->tag = g_strdup(tag);
+    return notice;
+}
+
+static void send_now(Notice *notice)
+{
+    notice->is_new = TRUE;
+    g_main_context_invoke_full(notice->engine->context, G_PRIORITY_DEFAULT, emit, notice, free_notice);
+}
+
+static void send_later(Notice *notice)
+{
     GSource *source = g_idle_source_new();
     g_source_set_priority(source, G_PRIORITY_DEFAULT);
     g_source_set_callback(source, emit, notice, free_notice);
-    g_source_attach(source, self->context);
+    g_source_attach(source, notice->engine->context);
     g_source_unref(source);
 }
 
 void notice_changed(Engine *self, DConfChangeset *changes, const gchar *tag, gboolean may_be_now)
 {
     const gchar *prefix, *const *paths;
-    if (dconf_changeset_describe(changes, &prefix, &paths, NULL) > 0)
-        send(self, prefix, paths, tag, may_be_now);
+    if (dconf_changeset_describe(changes, &prefix, &paths, NULL) == 0)
+        return;
+    Notice *notice = notice_new(self, prefix, paths, tag);
+    if (may_be_now)
+        send_now(notice);
+    else
+        send_later(notice);
 }
 
 /* ---- what others changed */
@@ -140,8 +156,9 @@ static bool changed_by_others(Told *told, const DconfdbSnapshot *before, const D
 static void send_writable_of(Engine *self, const char *path)
 {
     static const gchar *const itself[] = {"", NULL};
-    send(self, path, NULL, NULL, FALSE);
-    send(self, path, itself, "", FALSE);
+    Notice *notice = notice_new(self, path, itself, "");
+    notice->is_of_rights = TRUE;
+    send_later(notice);
 }
 
 /* All in one notice, if somebody listens to what they begin with. */

@@ -25,6 +25,12 @@ void set_writing(Engine *self, DConfChangeset *changes)
     g_mutex_unlock(&self->lock);
 }
 
+void end_writing(Engine *self)
+{
+    notice_others(self);
+    set_writing(self, NULL);
+}
+
 /* Waits for the turn to write, before anybody who reads is kept from the files. False: that fault. */
 bool turn_begin(Engine *self, DconfdbStore *store, FolderLock *lock, Turn *turn)
 {
@@ -82,7 +88,7 @@ typedef struct {
     Edits edits;
     DconfdbSnapshot *now; /* what was there when their turn came; NULL: no store can be opened */
     const gchar *tag;
-    bool has_turn, is_writing;
+    bool has_turn;
     DconfdbError fault;
     DconfdbChanging known;
 } Change;
@@ -119,26 +125,6 @@ static bool take_turn(Change *self)
         return false;
     learn(self);
     set_writing(self->engine, self->changes);
-    self->is_writing = true;
-    return true;
-}
-
-/* What others changed is told before what this client did. */
-static void end_writing(Change *self, bool is_made)
-{
-    if (!self->is_writing)
-        return;
-    if (!is_made)
-        set_writing(self->engine, NULL);
-    notice_others(self->engine);
-    set_writing(self->engine, NULL);
-    self->is_writing = false;
-}
-
-static bool tell(Change *self)
-{
-    end_writing(self, true);
-    notice_changed(self->engine, self->told, self->tag, FALSE);
     return true;
 }
 
@@ -151,8 +137,16 @@ static bool carry_out(Change *self, uint32_t task)
         return settle_store(engine_store(self->engine), NULL);
     case DCONFDB_CHANGING_PUT:
         return put(self->engine, &self->edits, &self->fault);
-    default:
-        return tell(self);
+    case DCONFDB_CHANGING_TELL:
+        notice_changed(self->engine, self->told, self->tag, FALSE);
+        return true;
+    case DCONFDB_CHANGING_GIVE_UP:
+        set_writing(self->engine, NULL);
+        end_writing(self->engine);
+        return true;
+    default: /* DCONFDB_CHANGING_OTHERS */
+        end_writing(self->engine);
+        return true;
     }
 }
 
@@ -175,7 +169,6 @@ static uint32_t make(Change *self)
         yes = carry_out(self, task);
         learn_outcome(self);
     }
-    end_writing(self, task == DCONFDB_CHANGING_MADE);
     if (self->has_turn)
         g_mutex_unlock(&self->engine->turn);
     return task;

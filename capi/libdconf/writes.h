@@ -43,6 +43,9 @@ gboolean refuse_locked(GError **error);
 /* `turn` is held by who calls these. */
 void set_writing(Engine *self, DConfChangeset *changes);
 
+/* Tells what others changed, but for what is being written: nothing is any more. */
+void end_writing(Engine *self);
+
 /* Waits for the turn to write, before anybody who reads is kept from the files. False: that fault. */
 bool turn_begin(Engine *self, DconfdbStore *store, FolderLock *lock, Turn *turn);
 void turn_end(Engine *self, FolderLock *lock);
@@ -50,7 +53,12 @@ void turn_end(Engine *self, FolderLock *lock);
 /* The store; or the fault that it can't be opened. */
 DconfdbStore *store_of(Engine *self, DconfdbError *fault);
 
-/* What waited (waited.c). False: it could not be written, by no fault of its own, and goes on waiting. What is refused is taken back.
+/* ---- what waits (waited.c) */
+
+/* `lock` is held. All these are asked for in this moment. */
+void ask_now(Engine *self, const Edits *edits);
+
+/* What waited. False: it could not be written, by no fault of its own, and goes on waiting. What is refused is taken back.
  * `tries_again`: a thread does. */
 gboolean write_waiting(Engine *self, gboolean tries_again, DconfdbError *fault);
 

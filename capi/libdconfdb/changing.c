@@ -123,7 +123,7 @@ static uint32_t make(Changing *it, bool makes_file)
     };
     uint32_t ask = DCONFDB_MAKING_EXPECT;
     while (ask < DCONFDB_MAKING_READY)
-        ask = dconfdb_making_after(makes_file, it->edited->store->is_unsettled, ask, answers[ask](it));
+        ask = dconfdb_making_after(makes_file, it->edited->store->known.is_unsettled, ask, answers[ask](it));
     file_release(&it->edited->file.bytes);
     return ask;
 }
@@ -151,21 +151,19 @@ static bool is_synced(const Changing *it, const Part *own)
     return task == DCONFDB_SETTLING_KNOWN;
 }
 
-/* What others are to know of it. Where it can't be told, nothing is. */
+/* What others are to know of it. Where it can't be told, nothing is, and what they changed is known still. */
 int changing_note(Changing *it)
 {
     DconfdbStore *store = it->edited->store;
     Asking *asking = it->edited->asking;
     DconfdbEnding ending = {.is_there = false};
-    dconfdb_ending(it->turn.outcome, it->turn.fault, store->is_unsettled, it->replacing.is_aside, &ending);
+    dconfdb_ending(it->turn.outcome, it->turn.fault, store->known.is_unsettled, it->replacing.is_aside, &ending);
     const DconfdbSnapshot *now = ending.newest == DCONFDB_NEWEST_NEWER ? it->edited->newer : store->now;
     const Part *own = now->parts[0];
-    if (ending.is_there && !asking_note(asking, now, it->order))
-        return 0;
-    order_write(it->order, it->edited->lock->file, store->own_name, &own->state, is_synced(it, own));
-    store_forget_seen(store);
-    if (ending.is_there && asking->count > 0)
-        store->noted = asking->asked[asking->count - 1].when;
+    bool is_noted = (!ending.is_there || asking_note(asking, now, it->order))
+                 && order_write(it->order, it->edited->lock->file, store->own_name, &own->state, is_synced(it, own));
+    if (is_noted)
+        store_after(store, DCONFDB_STORE_NOTED, ending.is_there, asking->count > 0 ? asking->asked[asking->count - 1].when : 0);
     return 0;
 }
 
@@ -192,9 +190,9 @@ static bool end(Changing *it)
 {
     DconfdbStore *store = it->edited->store;
     DconfdbEnding ending = {.is_there = false};
-    dconfdb_ending((uint32_t)it->step.number, it->step.fault, store->is_unsettled, it->replacing.is_aside, &ending);
+    dconfdb_ending((uint32_t)it->step.number, it->step.fault, store->known.is_unsettled, it->replacing.is_aside, &ending);
     renew(it, &ending);
-    store->is_unsettled = ending.is_unsettled;
+    store_after(store, DCONFDB_STORE_ENDED, ending.is_unsettled, ending.newest);
     return tell_ending(it->error, &ending, (int)it->step.fault, store->user_file);
 }
 

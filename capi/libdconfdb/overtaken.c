@@ -68,13 +68,12 @@ bool asking_is_as_expected(const DconfdbSnapshot *now, const Asking *asking, Dco
 
 /* ---- what others changed */
 
-/* When it was changed: by the file that was left, or, where that went, by the folder, in which its name went. */
-static FileState left_of(const DconfdbStore *store, const FileState *file)
+/* The time that stands for when a file was left so, without a note. */
+static uint64_t left_when(const DconfdbStore *store, const FileState *file)
 {
-    FileState left = *file;
-    if (!left.is_there && file_look(store->place.folder, &left) == 0)
-        left.is_there = false;
-    return left;
+    FileState folder;
+    (void)file_look(store->place.folder, &folder); /* of one that can't be looked at nothing is known */
+    return dconfdb_time_of_file(file, &folder);
 }
 
 /* Whether both have the same part: of itself nothing is remembered, as is proved. */
@@ -92,8 +91,10 @@ static void heed(DconfdbStore *store, const DconfdbSnapshot *before, const Dconf
         free(paths);
         return;
     }
-    *seen = (Seen){store->seen, left_of(store, &after->parts[0]->state), paths};
+    const FileState *left = &after->parts[0]->state;
+    *seen = (Seen){store->seen, *left, left_when(store, left), paths};
     store->seen = seen;
+    store_after(store, DCONFDB_STORE_SEEN, true, 0);
 }
 
 void heed_others(DconfdbStore *store, const DconfdbSnapshot *before, const DconfdbSnapshot *after)
@@ -115,15 +116,17 @@ void store_forget_seen(DconfdbStore *store)
 
 void store_take_over(DconfdbStore *store, DconfdbStore *old)
 {
-    if (!store->user_file || !old->user_file || strcmp(store->user_file, old->user_file) != 0)
-        return;
+    bool is_same = store->user_file && old->user_file && strcmp(store->user_file, old->user_file) == 0;
     pthread_mutex_lock(&old->refreshing);
-    store->seen = old->seen;
-    store->tried = old->tried;
-    store->noted = old->noted;
-    store->is_unsettled = old->is_unsettled;
-    old->seen = NULL;
-    old->tried = NULL;
+    dconfdb_store_after(&store->known, DCONFDB_STORE_FOLLOWS, is_same, 0, &old->known);
+    if (store->known.has_seen) {
+        store->seen = old->seen;
+        old->seen = NULL;
+    }
+    if (store->known.has_tried) {
+        store->tried = old->tried;
+        old->tried = NULL;
+    }
     pthread_mutex_unlock(&old->refreshing);
 }
 
@@ -153,7 +156,7 @@ static void list_seen(const DconfdbStore *store, const Order *order, Asking *ask
         bool is_noted = order_has_left(order, store->own_name, &seen->left);
         for (const char *at = seen->paths; *at; at += strlen(at) + 1) {
             DconfdbBytes own = {bytes_of(at), strlen(at)}, path = order_path(&room, store->own_name, &own);
-            asking->seen[asking->seen_count++] = (DconfdbSeen){{path, order_time_of(&seen->left), value_in(store->now, &own)}, is_noted};
+            asking->seen[asking->seen_count++] = (DconfdbSeen){{path, seen->when, value_in(store->now, &own)}, is_noted};
         }
     }
 }
@@ -250,8 +253,8 @@ static bool know_all(Asking *asking, const DconfdbStore *store, Order *order, co
         DconfdbAsked *asked = &asking->asked[i];
         const DconfdbChange *change = &asking->changes[i];
         asked->path = is_of_last_path(asking, i) ? asked[-1].path : order_path(&room, store->own_name, &change->path);
-        asked->when = order_time(order, asked->when, store->noted);
-        asked->is_own = store->is_unsettled && edit_is_made(store->now, change);
+        asked->when = order_time(order, asked->when, store->known.noted);
+        asked->is_own = store->known.is_unsettled && edit_is_made(store->now, change);
         asked->is_as_before = is_as_before(before, store->now, &change->path);
     }
     return asking->count == 0 || room;

@@ -9,7 +9,8 @@
 typedef struct Seen {
     struct Seen *next;
     FileState left;
-    char *paths; /* a zero byte after each, and one more */
+    uint64_t when; /* the time that stands for when that was */
+    char *paths;   /* a zero byte after each, and one more */
 } Seen;
 
 /* For so many edits, which mostly is enough, no memory is taken. */

@@ -17,9 +17,10 @@
 
 /* Who asks where a store is. */
 typedef struct {
-    DconfdbEnvironment environment;
+    const DconfdbEnvironment *environment; /* `own`, or that of who has none asked */
     uint32_t giver;
     DconfdbBytes folder;
+    DconfdbEnvironment own;
     FileBytes machine; /* which the environment lends */
     int fault;         /* of that; or 0 */
 } Asked;
@@ -29,19 +30,32 @@ static const char machine_file[] = "/etc/dconfdb/store";
 
 enum { LARGEST_WORD = 4096 };
 
+/* It says nothing to who is given a folder. */
+static void read_machine_file(Asked *asked)
+{
+    FileState state;
+    if (asked->giver != DCONFDB_GIVEN_BY_NOBODY)
+        return;
+    asked->fault = file_read(NO_FOLDER, machine_file, false, NULL, LARGEST_WORD, &asked->machine, &state);
+    asked->own.machine = (DconfdbBytes){bytes_of(asked->machine.at), asked->machine.len};
+    asked->own.is_unreadable = asked->fault != 0;
+}
+
 /* A program that gives a folder has its environment not asked. */
-static Asked asked_of(const char *folder, uint32_t giver)
+static void begin_asking(Asked *asked, const char *folder, uint32_t giver)
 {
     static const DconfdbEnvironment silent = {.store = DCONFDB_NOTHING, .config = DCONFDB_NOTHING, .home = DCONFDB_NOTHING, .profile = DCONFDB_NOTHING,
                                               .runtime = DCONFDB_NOTHING, .cache = DCONFDB_NOTHING, .machine = DCONFDB_NOTHING};
-    FileState state;
-    Asked asked = {giver == DCONFDB_GIVEN_BY_PROGRAM ? silent : environment_now(), giver, text_bytes(folder), {NULL, 0, false}, 0};
-    if (giver != DCONFDB_GIVEN_BY_NOBODY)
-        return asked;
-    asked.fault = file_read(NO_FOLDER, machine_file, false, NULL, LARGEST_WORD, &asked.machine, &state);
-    asked.environment.machine = (DconfdbBytes){bytes_of(asked.machine.at), asked.machine.len};
-    asked.environment.is_unreadable = asked.fault != 0;
-    return asked;
+    bool is_silent = giver == DCONFDB_GIVEN_BY_PROGRAM;
+    asked->environment = is_silent ? &silent : &asked->own;
+    asked->giver = giver;
+    asked->folder = text_bytes(folder);
+    asked->machine = (FileBytes){NULL, 0, false};
+    asked->fault = 0;
+    if (is_silent)
+        return;
+    asked->own = environment_now();
+    read_machine_file(asked);
 }
 
 /* ---- what the system is asked */
@@ -63,24 +77,30 @@ static int ask(uint32_t what, char **answer)
 
 /* ---- the paths */
 
-static uint32_t base_of(const Asked *asked, uint32_t wanted)
+/* What has to be asked to know the path of what is wanted, once that was answered, or not yet (NULL). */
+static uint32_t look_for(const Asked *asked, uint32_t wanted, const char *answer, DconfdbPath *path)
 {
-    return dconfdb_place_base(&asked->environment, asked->giver, asked->folder.at, asked->folder.len, wanted);
+    DconfdbBytes base = text_bytes(answer ? answer : "");
+    return dconfdb_place(asked->environment, asked->giver, asked->folder.at, asked->folder.len, wanted, answer != NULL, base.at, base.len, path);
 }
 
-/* Gives the path of what is wanted, or NULL if there is none; and 0, or errno. */
-static int find_path(const Asked *asked, uint32_t what, uint32_t wanted, char **text)
+/* Gives the path of what is wanted, or NULL if there is none, and what was asked for it; and 0, or errno. */
+static int find_path(const Asked *asked, uint32_t wanted, uint32_t *what, char **text)
 {
     DconfdbPath path = DCONFDB_NO_PATH;
     char *answer;
-    int fault = ask(what, &answer);
-    if (fault != 0)
-        return fault;
-    DconfdbBytes base = text_bytes(answer ? answer : "");
-    bool is = dconfdb_place(&asked->environment, asked->giver, asked->folder.at, asked->folder.len, wanted, base.at, base.len, &path);
-    *text = is ? path_text(&path) : NULL;
+    uint32_t more = look_for(asked, wanted, NULL, &path);
+    *what = more;
+    *text = NULL;
+    int fault = ask(more, &answer);
+    if (answer)
+        more = look_for(asked, wanted, answer, &path);
+    if (fault == 0 && more == DCONFDB_ASK_NOTHING) {
+        *text = path_text(&path);
+        fault = *text ? 0 : ENOMEM;
+    }
     free(answer);
-    return is && !*text ? ENOMEM : 0;
+    return fault;
 }
 
 /* Says why there is no folder. It returns false. */
@@ -101,29 +121,38 @@ static bool refuse_kind(DconfdbError *error, int fault)
 
 static bool find_kind(const Asked *asked, StorePlace *place, DconfdbError *error)
 {
-    uint32_t kind = dconfdb_place_kind(&asked->environment, asked->giver);
+    uint32_t kind = dconfdb_place_kind(asked->environment, asked->giver);
     place->is_dconfs = kind == DCONFDB_KIND_DCONFS;
     return kind != DCONFDB_KIND_UNKNOWN || refuse_kind(error, asked->fault);
 }
 
 static bool find_folder(const Asked *asked, StorePlace *place, DconfdbError *error)
 {
-    uint32_t what = base_of(asked, DCONFDB_WANT_FOLDER);
+    uint32_t what;
+    int fault = find_path(asked, DCONFDB_WANT_FOLDER, &what, &place->folder);
     const char *of = what == DCONFDB_ASK_HOME ? "the user's home" : "the folder of $DCONFDB_STORE";
-    int fault = find_path(asked, what, DCONFDB_WANT_FOLDER, &place->folder);
     return place->folder || refuse_folder(error, fault, place->is_given ? (const char *)asked->folder.at : of);
 }
 
 static bool find_profile(const Asked *asked, StorePlace *place, DconfdbError *error)
 {
-    int fault = find_path(asked, base_of(asked, DCONFDB_WANT_PROFILE), DCONFDB_WANT_PROFILE, &place->profile);
+    uint32_t what;
+    int fault = find_path(asked, DCONFDB_WANT_PROFILE, &what, &place->profile);
     return fault == 0 || refuse_file(error, fault, "the profile of $DCONFDB_PROFILE", nowhere);
 }
 
 static char *variable_copy(int variable)
 {
     const char *value = getenv(variables[variable]);
-    return joined(value ? value : "", "", "");
+    return strdup(value ? value : "");
+}
+
+/* Its digits. */
+static char *user_text(void)
+{
+    char digits[24];
+    snprintf(digits, sizeof digits, "%lu", (unsigned long)getuid());
+    return strdup(digits);
 }
 
 /* What dconf's kind asks beside that. */
@@ -131,23 +160,46 @@ static bool find_dconfs(const Asked *asked, StorePlace *place, DconfdbError *err
 {
     if (!place->is_dconfs)
         return true;
-    int fault = find_path(asked, base_of(asked, DCONFDB_WANT_RUNTIME), DCONFDB_WANT_RUNTIME, &place->runtime);
+    uint32_t what;
+    int fault = find_path(asked, DCONFDB_WANT_RUNTIME, &what, &place->runtime);
     if (fault != 0)
         return refuse_file(error, fault, "the user's runtime folder", nowhere);
     place->name = variable_copy(DCONFS_VARIABLE);
     place->data_dirs = variable_copy(DATA_VARIABLE);
-    snprintf(place->user, sizeof place->user, "%lu", (unsigned long)getuid());
-    return (place->name && place->data_dirs) || refuse_memory(error);
+    place->user = user_text();
+    return (place->name && place->data_dirs && place->user) || refuse_memory(error);
+}
+
+static DconfdbBytes lent(const char *text)
+{
+    static const DconfdbBytes nothing = DCONFDB_NOTHING;
+    return text ? text_bytes(text) : nothing;
+}
+
+/* Its texts are all there. */
+static void lend(StorePlace *place)
+{
+    place->lent = (DconfdbPlace){.folder = lent(place->folder),
+                                 .named = lent(place->profile),
+                                 .profile = lent(place->name),
+                                 .runtime = lent(place->runtime),
+                                 .data_dirs = lent(place->data_dirs),
+                                 .user = lent(place->user),
+                                 .is_given = place->is_given,
+                                 .is_dconfs = place->is_dconfs};
 }
 
 static bool find(const char *folder, uint32_t giver, StorePlace *place, DconfdbError *error)
 {
-    Asked asked = asked_of(folder ? folder : "", folder ? giver : (uint32_t)DCONFDB_GIVEN_BY_NOBODY);
+    Asked asked;
+    begin_asking(&asked, folder ? folder : "", folder ? giver : (uint32_t)DCONFDB_GIVEN_BY_NOBODY);
     *place = (StorePlace){.is_given = folder != NULL};
     bool is_found = find_kind(&asked, place, error) && find_folder(&asked, place, error) && find_profile(&asked, place, error) &&
                     find_dconfs(&asked, place, error);
     file_release(&asked.machine);
-    if (!is_found)
+    if (is_found)
+        lend(place);
+    else
         place_release(place);
     return is_found;
 }
@@ -159,42 +211,28 @@ void place_release(StorePlace *place)
     free(place->name);
     free(place->runtime);
     free(place->data_dirs);
+    free(place->user);
     *place = (StorePlace){.folder = NULL};
 }
 
 /* False: no memory is left. */
 static bool copy_text(const char *text, char **copy)
 {
-    *copy = text ? joined(text, "", "") : NULL;
+    *copy = text ? strdup(text) : NULL;
     return *copy || !text;
 }
 
 bool place_copy(const StorePlace *place, StorePlace *copy)
 {
     *copy = *place;
-    copy->folder = copy->profile = copy->name = copy->runtime = copy->data_dirs = NULL;
+    copy->folder = copy->profile = copy->name = copy->runtime = copy->data_dirs = copy->user = NULL;
     bool is_copied = copy_text(place->folder, &copy->folder) && copy_text(place->profile, &copy->profile) && copy_text(place->name, &copy->name) &&
-                     copy_text(place->runtime, &copy->runtime) && copy_text(place->data_dirs, &copy->data_dirs);
-    if (!is_copied)
+                     copy_text(place->runtime, &copy->runtime) && copy_text(place->data_dirs, &copy->data_dirs) && copy_text(place->user, &copy->user);
+    if (is_copied)
+        lend(copy);
+    else
         place_release(copy);
     return is_copied;
-}
-
-static DconfdbBytes lent(const char *text)
-{
-    return text_bytes(text ? text : "");
-}
-
-DconfdbPlace place_lent(const StorePlace *place)
-{
-    return (DconfdbPlace){.folder = lent(place->folder),
-                          .named = lent(place->profile),
-                          .profile = lent(place->name),
-                          .runtime = lent(place->runtime),
-                          .data_dirs = lent(place->data_dirs),
-                          .user = lent(place->user),
-                          .is_given = place->is_given,
-                          .is_dconfs = place->is_dconfs};
 }
 
 const char *place_profile_name(const StorePlace *place)

@@ -9,12 +9,10 @@
  * caller names the folder, and not the environment. */
 typedef struct {
     char *folder, *profile;
-    char *name, *runtime, *data_dirs; /* of dconf's kind: $DCONF_PROFILE, the runtime folder, and $XDG_DATA_DIRS */
-    char user[24];                    /* the user's number */
+    char *name, *runtime, *data_dirs, *user; /* of dconf's kind: $DCONF_PROFILE, the runtime folder, $XDG_DATA_DIRS, and the user's number */
     bool is_given, is_dconfs;
+    DconfdbPlace lent; /* the same, for the proved calls, of a place that was found or copied */
 } StorePlace;
-
-DconfdbPlace place_lent(const StorePlace *place);
 
 /* False: no memory is left, and there is nothing to release. */
 bool place_copy(const StorePlace *place, StorePlace *copy);

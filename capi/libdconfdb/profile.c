@@ -24,66 +24,84 @@ static DconfdbError *profile_fault_of(DconfdbStore *store)
 
 /* ---- the databases of a profile */
 
-/* A user's database, by its file and the flag of its readers; this takes the flag. False: no memory is left. */
-static bool has_users(DconfdbStore *store, char *file, char *flag)
+/* A user's database, by its file and the flag of its readers. False: no memory is left. */
+static bool has_users(DconfdbStore *store, char *file, const DconfdbPath *flag)
 {
+    bool has_flag = path_len(flag) > 0;
     store->user_file = file;
     store->own_name = strrchr(file, '/') + 1;
-    store->flag = flag;
-    return flag != NULL;
+    store->flag = has_flag ? path_text(flag) : NULL;
+    return store->flag || !has_flag;
 }
+
+/* Databases that a profile names, and for how many there is room: mostly there are few. */
+typedef struct {
+    size_t count, room;
+    DconfdbName names[MOST_DATABASES];
+} Named;
+
+#define FEW_NAMES (MOST_DATABASES < 4 ? MOST_DATABASES : 4)
 
 /* The databases that a profile names, where every line has to be good. Of a text that isn't UTF-8 the first bad line is told, as where bad
  * lines are passed over. */
-static uint32_t read_all_names(const uint8_t *text, size_t len, DconfdbName *names, size_t *count, size_t *line)
+static uint32_t read_all_names(const uint8_t *text, size_t len, Named *named, size_t *line)
 {
-    uint32_t fault = DCONFDB_OK, number = dconfdb_profile(text, len, false, names, MOST_DATABASES, count, &fault, line);
+    uint32_t fault = DCONFDB_OK, number = dconfdb_profile(text, len, false, named->names, named->room, &named->count, &fault, line);
     if (number != DCONFDB_NOT_TEXT)
         return number;
-    number = dconfdb_profile(text, len, true, names, MOST_DATABASES, count, &fault, line);
+    number = dconfdb_profile(text, len, true, named->names, named->room, &named->count, &fault, line);
     return number == DCONFDB_OK ? fault : number;
 }
 
 /* The databases that a profile names; of a lenient store those of its good lines, where the first bad one
  * is kept as a fault. */
-static uint32_t read_names(DconfdbStore *store, const char *profile, const uint8_t *text, size_t len, DconfdbName *names,
-                           size_t *count, size_t *line)
+static uint32_t read_names(DconfdbStore *store, const char *profile, const uint8_t *text, size_t len, Named *named, size_t *line)
 {
     uint32_t fault = DCONFDB_OK;
     if (!store->options.is_lenient)
-        return read_all_names(text, len, names, count, line);
-    uint32_t number = dconfdb_profile(text, len, true, names, MOST_DATABASES, count, &fault, line);
+        return read_all_names(text, len, named, line);
+    uint32_t number = dconfdb_profile(text, len, true, named->names, named->room, &named->count, &fault, line);
     if (number == DCONFDB_OK && fault != DCONFDB_OK)
         refuse_call(profile_fault_of(store), fault, profile, (Place){.line = *line});
     return number;
 }
 
-/* The file of one more database. */
-static bool name_file(DconfdbStore *store, const char *profile, const DconfdbName *database, DconfdbError *error)
+/* The file of one more database of the profile of that path. */
+static bool name_file(DconfdbStore *store, DconfdbBytes profile, const DconfdbName *database, DconfdbError *error)
 {
     DconfdbPath path = DCONFDB_NO_PATH, flag = DCONFDB_NO_PATH;
-    const DconfdbPlace place = place_lent(&store->place);
-    const DconfdbBytes of = text_bytes(profile), name = database->name;
-    bool is_users = dconfdb_database_path(&place, of.at, of.len, database->kind, name.at, name.len, &path, &flag);
+    const DconfdbBytes name = database->name;
+    bool is_users = dconfdb_database_path(&store->place.lent, profile.at, profile.len, database->kind, name.at, name.len, &path, &flag);
     char *file = path_text(&path);
     if (!file)
         return refuse_memory(error);
     store->files[store->count++] = file;
-    return !is_users || has_users(store, file, path_text(&flag)) || refuse_memory(error);
+    return !is_users || has_users(store, file, &flag) || refuse_memory(error);
+}
+
+/* Where there are more than the room takes, nothing is put into it. */
+static bool read_into(DconfdbStore *store, const char *profile, const uint8_t *text, size_t len, Named *named, DconfdbError *error)
+{
+    size_t line = 0;
+    for (size_t i = 0; i < named->room; i++)
+        named->names[i] = (DconfdbName){0, DCONFDB_NOTHING};
+    uint32_t number = read_names(store, profile, text, len, named, &line);
+    return number == DCONFDB_OK || refuse_call(error, number, profile, (Place){.line = line});
 }
 
 static bool name_files(DconfdbStore *store, const char *profile, const uint8_t *text, size_t len, DconfdbError *error)
 {
-    DconfdbName names[MOST_DATABASES];
-    size_t count = 0, line = 0;
-    for (size_t i = 0; i < MOST_DATABASES; i++)
-        names[i] = (DconfdbName){0, DCONFDB_NOTHING};
-    uint32_t number = read_names(store, profile, text, len, names, &count, &line);
-    if (number != DCONFDB_OK)
-        return refuse_call(error, number, profile, (Place){.line = line});
-    bool are_named = true;
-    while (are_named && store->count < count)
-        are_named = name_file(store, profile, &names[store->count], error);
+    Named named; /* as many as there is room for are written before they are read */
+    const DconfdbBytes of = text_bytes(profile);
+    named.count = 0;
+    named.room = FEW_NAMES;
+    bool are_named = read_into(store, profile, text, len, &named, error);
+    if (are_named && named.count > named.room) {
+        named.room = MOST_DATABASES;
+        are_named = read_into(store, profile, text, len, &named, error);
+    }
+    while (are_named && store->count < named.count)
+        are_named = name_file(store, of, &named.names[store->count], error);
     return are_named;
 }
 
@@ -106,8 +124,7 @@ static bool is_look(uint32_t step)
 static bool find_path(const StorePlace *place, Look *look)
 {
     DconfdbPath path = DCONFDB_NO_PATH;
-    const DconfdbPlace lent = place_lent(place);
-    bool is = dconfdb_profile_path(&lent, look->step, look->dir, &path);
+    bool is = dconfdb_profile_path(&place->lent, look->step, look->dir, &path);
     look->path = is ? path_text(&path) : NULL;
     return look->path || !is;
 }
@@ -123,8 +140,7 @@ static void look_release(Look *look)
 static uint32_t step_after(const StorePlace *place, const DconfdbProfileLook *known, Look *look)
 {
     uint32_t telling = DCONFDB_TELLING_NOTHING;
-    const DconfdbPlace lent = place_lent(place);
-    look->step = dconfdb_profile_step(&lent, known, &look->dir, &telling);
+    look->step = dconfdb_profile_step(&place->lent, known, &look->dir, &telling);
     return telling;
 }
 

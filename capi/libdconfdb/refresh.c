@@ -42,12 +42,25 @@ static bool __attribute__((noinline)) may_still_be_read(Part *old, const FileSta
     return may;
 }
 
-/* Whether the old part is of what has the file's name, as far as stat() says. */
+static bool are_same(const FileState *one, const FileState *other)
+{
+    return one->touched.nanoseconds == other->touched.nanoseconds && one->touched.seconds == other->touched.seconds &&
+           one->written.nanoseconds == other->written.nanoseconds && one->written.seconds == other->written.seconds &&
+           one->inode == other->inode && one->size == other->size && one->device == other->device && one->is_there == other->is_there;
+}
+
+/* Whether the old part is of what has the file's name, as far as stat() says. Facts that are the same have the same answer, and aren't asked of
+ * again. */
 static bool is_as_said(const Look *look, Part *old, size_t at)
 {
     FileState state;
     int fault = file_look(look->store->files[at], &state);
-    switch (part_beside(old, DCONFDB_PART_KEEP, &state, fault)) {
+    bool is_same = fault == 0 && are_same(&old->state, &state);
+    if (is_same && old->is_known)
+        return true;
+    uint32_t beside = part_beside(old, DCONFDB_PART_KEEP, &state, fault);
+    old->is_known = is_same && beside == DCONFDB_BESIDE_SAME;
+    switch (beside) {
     case DCONFDB_BESIDE_SAME: return true;
     case DCONFDB_BESIDE_IF_READABLE: return may_still_be_read(old, &state);
     default: return false;
@@ -199,9 +212,7 @@ static bool is_tried(const DconfdbStore *store, const DconfdbSnapshot *newer)
 static void __attribute__((noinline)) hear(DconfdbStore *store, DconfdbSnapshot *newer)
 {
     const DconfdbSnapshot *before = is_tried(store, newer) ? store->tried : store->now;
-    store->has_news = store->has_news || snapshot_is_news(before, newer);
-    dconfdb_snapshot_unref(store->tried);
-    store->tried = NULL;
+    store_after(store, DCONFDB_STORE_FOUND, snapshot_is_news(before, newer), 0);
     store_renew(store, newer);
 }
 
@@ -225,8 +236,8 @@ bool dconfdb_store_refresh(DconfdbStore *store, bool *changed, DconfdbError *err
     pthread_mutex_lock(&store->refreshing);
     bool done = store_refresh(store, NO_FOLDER, error);
     if (done && changed) {
-        *changed = store->has_news;
-        store->has_news = false;
+        *changed = store->known.has_news;
+        store_after(store, DCONFDB_STORE_TOLD, true, 0);
     }
     pthread_mutex_unlock(&store->refreshing);
     return done;

@@ -119,12 +119,10 @@ bool paths_meet(const char *one, const char *other)
     return dconfdb_meets(bytes_of(one), strlen(one), bytes_of(other), strlen(other));
 }
 
-bool seen_is_writable(const DconfdbSnapshot *snapshot, const char *path)
+bool seen_is_writable(const DconfdbSnapshot *snapshot, bool is_open, const char *path)
 {
     const DconfdbSnapshot *of = or_nothing(snapshot);
-    bool may = false;
-    (void)dconfdb_may_write(of->layers, of->count, of->is_writable, bytes_of(path), strlen(path), &may);
-    return may;
+    return dconfdb_may_write(of->layers, of->count, of->is_writable, is_open, bytes_of(path), strlen(path)) == DCONFDB_MAY;
 }
 
 DconfdbSnapshot *snapshot_of_user(const DconfdbSnapshot *snapshot)

@@ -30,9 +30,9 @@ bool seen_relocked(Told *told, const DconfdbSnapshot *before, const DconfdbSnaps
 
 void seen_free(Told *told);
 
-/* Whether a path may be written, a key's or all that is below a directory: there is a user's database, and no lock covers it. `snapshot` may be
- * NULL: then nothing may. Without memory it may not, but a key that may takes none. */
-bool seen_is_writable(const DconfdbSnapshot *snapshot, const char *path);
+/* Whether a path may be written, a key's or all that is below a directory: somebody may write (`is_open`), there is a user's database, and no lock
+ * covers it. `snapshot` may be NULL: then nothing may. Without memory it may not, but a key that may takes none. */
+bool seen_is_writable(const DconfdbSnapshot *snapshot, bool is_open, const char *path);
 
 /* What the user's own database holds of it, as if it were the store's only one. NULL: no memory is left. */
 DconfdbSnapshot *snapshot_of_user(const DconfdbSnapshot *snapshot);

@@ -18,7 +18,7 @@ bool store_settle_name(const DconfdbStore *store, const char *name, DconfdbError
     int fault = folder_settle(store->place.folder, name);
     if (fault == 0)
         return true;
-    dconfdb_ending(DCONFDB_TURN_UNSYNCED, (uint32_t)fault, store->is_unsettled, false, &ending);
+    dconfdb_ending(DCONFDB_TURN_UNSYNCED, (uint32_t)fault, store->known.is_unsettled, false, &ending);
     return tell_ending(error, &ending, fault, user_file_or_folder(store));
 }
 

@@ -15,7 +15,7 @@ typedef struct {
     Part *old, *new;       /* what NAME is, once it is read; what it is to be, once that is made */
     Order *order;          /* what others have set, once NAME is read */
     DconfdbError *error;   /* of what is told when it is met */
-    const char *flag;      /* of dconf's readers of it; "": there are none */
+    const char *flag;      /* of dconf's readers of it; NULL: there are none */
     struct Edited *edited; /* of the three that are no calls of the system */
     Replacing replacing;
 } Changing;

@@ -12,15 +12,16 @@
 
 static const DconfdbOptions strict = DCONFDB_OPTIONS_INIT, lenient = {sizeof lenient, true, false, DCONFDB_USUAL_WAIT};
 
-/* A store of which the place is known alone. */
-static DconfdbStore *store_at(const StorePlace *place, const DconfdbOptions *options, DconfdbError *error)
+/* A store of which the place is known alone, which it takes. */
+static DconfdbStore *store_at(StorePlace *place, const DconfdbOptions *options, DconfdbError *error)
 {
     DconfdbStore *store = calloc(1, sizeof *store);
-    if (!store || !place_copy(place, &store->place)) {
-        free(store);
+    if (!store) {
+        place_release(place);
         refuse_memory(error);
         return NULL;
     }
+    store->place = *place;
     pthread_mutex_init(&store->refreshing, NULL);
     pthread_mutex_init(&store->handing, NULL);
     notices_begin(&store->notices);
@@ -28,7 +29,7 @@ static DconfdbStore *store_at(const StorePlace *place, const DconfdbOptions *opt
     return store;
 }
 
-static DconfdbStore *open_at(const StorePlace *place, const DconfdbOptions *options, DconfdbError *error)
+static DconfdbStore *open_at(StorePlace *place, const DconfdbOptions *options, DconfdbError *error)
 {
     DconfdbStore *store = store_at(place, options, error);
     if (store && store_find_files(store, error) && files_look(store, NO_FOLDER, &store->now, error) == DCONFDB_LOOK_NEWER)
@@ -42,18 +43,23 @@ DconfdbStore *dconfdb_store_open_with(const char *folder, const DconfdbOptions *
     StorePlace place;
     DconfdbStore *store = NULL;
     int cancels = hold_cancellation();
-    if (place_of_caller(folder, &place, error)) {
+    if (place_of_caller(folder, &place, error))
         store = open_at(&place, options, error);
-        place_release(&place);
-    }
     cancel_as_before(cancels);
     return store;
 }
 
+/* False: no memory is left. */
+static bool has_copy(const StorePlace *place, StorePlace *copy, DconfdbError *error)
+{
+    return place_copy(place, copy) || refuse_memory(error);
+}
+
 DconfdbStore *place_open(const StorePlace *place, DconfdbError *error)
 {
+    StorePlace copy;
     int cancels = hold_cancellation();
-    DconfdbStore *store = open_at(place, &lenient, error);
+    DconfdbStore *store = has_copy(place, &copy, error) ? open_at(&copy, &lenient, error) : NULL;
     cancel_as_before(cancels);
     return store;
 }
@@ -76,7 +82,8 @@ bool dconfdb_store_profile_fault(const DconfdbStore *store, DconfdbError *error)
     return is;
 }
 
-static char *files_at(const StorePlace *place, int *profiles, size_t *size, bool *are_all, DconfdbError *error)
+/* It takes the place. */
+static char *files_at(StorePlace *place, int *profiles, size_t *size, bool *are_all, DconfdbError *error)
 {
     DconfdbError fault = DCONFDB_ERROR_INIT;
     DconfdbStore *store = store_at(place, &lenient, error);
@@ -92,7 +99,8 @@ static char *files_at(const StorePlace *place, int *profiles, size_t *size, bool
 
 char *place_files(const StorePlace *place, int *profiles, bool *are_all, DconfdbError *error)
 {
-    return files_at(place, profiles, NULL, are_all, error);
+    StorePlace copy;
+    return has_copy(place, &copy, error) ? files_at(&copy, profiles, NULL, are_all, error) : NULL;
 }
 
 char *dconfdb_store_files(const char *folder, size_t *size, DconfdbError *error)
@@ -101,10 +109,8 @@ char *dconfdb_store_files(const char *folder, size_t *size, DconfdbError *error)
     char *files = NULL;
     bool are_all = true;
     int profiles, cancels = hold_cancellation();
-    if (place_of_caller(folder, &place, error)) {
+    if (place_of_caller(folder, &place, error))
         files = files_at(&place, &profiles, size, &are_all, error);
-        place_release(&place);
-    }
     cancel_as_before(cancels);
     return files;
 }
@@ -155,6 +161,18 @@ DconfdbSnapshot *dconfdb_store_snapshot(DconfdbStore *store)
     DconfdbSnapshot *now = dconfdb_snapshot_ref(store->now);
     pthread_mutex_unlock(&store->handing);
     return now;
+}
+
+void store_after(DconfdbStore *store, uint32_t what, bool yes, uint64_t number)
+{
+    static const DconfdbStoreKnown none = {.noted = 0};
+    dconfdb_store_after(&store->known, what, yes, number, &none);
+    if (!store->known.has_seen)
+        store_forget_seen(store);
+    if (store->known.has_tried)
+        return;
+    dconfdb_snapshot_unref(store->tried);
+    store->tried = NULL;
 }
 
 /* `refreshing` is held. */

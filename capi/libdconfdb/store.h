@@ -16,12 +16,10 @@ struct DconfdbStore {
     DconfdbError profile_fault; /* its number is 0 where there is none */
     pthread_mutex_t refreshing; /* held while files are looked at, and put in place */
     pthread_mutex_t handing;    /* held for `now` alone */
-    bool has_news;              /* of others' changes, that no refresh has told; under `refreshing` */
-    struct Seen *seen;          /* the same, while own ones wait; under `refreshing` */
-    uint64_t noted;             /* the time of what this store noted last; under `refreshing` */
+    DconfdbStoreKnown known;    /* of others' changes, and of its own last one; under `refreshing` */
+    struct Seen *seen;          /* what others changed while own changes wait, if `known` has that; under `refreshing` */
+    DconfdbSnapshot *tried;     /* of a change of this store's that is perhaps made, if `known` has that; under `refreshing` */
     Order order;                /* of the turn that it has; under `refreshing` */
-    bool is_unsettled;          /* its last change is perhaps not on the disk; under `refreshing` */
-    DconfdbSnapshot *tried;     /* of a change of this store's that is perhaps made; under `refreshing` */
     atomic_bool is_amid;        /* in a turn, and the files were read in it: nobody else changes the user's */
     DconfdbSnapshot *now;
     Notices notices;
@@ -29,7 +27,7 @@ struct DconfdbStore {
     bool lacks_profile; /* the one that is named can't be had, so there is no database */
     char *user_file; /* absolute; NULL: no user's database */
     const char *own_name; /* of that in its folder */
-    char *flag;           /* of dconf's readers of it; "": there are none */
+    char *flag;           /* of dconf's readers of it; NULL: there are none */
     size_t count;
     char *files[MOST_DATABASES];
 };
@@ -56,6 +54,9 @@ uint32_t files_look(const DconfdbStore *store, int turn, DconfdbSnapshot **newer
 bool store_refresh(DconfdbStore *store, int turn, DconfdbError *error);
 
 void store_renew(DconfdbStore *store, DconfdbSnapshot *newer);
+
+/* Takes what happened, as dconfdb_store_after has it, and lets go of what isn't known any longer. */
+void store_after(DconfdbStore *store, uint32_t what, bool yes, uint64_t number);
 
 /* That file of the store's folder gets to the disk, if it is there, and the folder's names; or, of NULL, these alone. */
 bool store_settle_name(const DconfdbStore *store, const char *name, DconfdbError *error);

@@ -23,10 +23,15 @@ static inline char *put_bytes(char *to, const DconfdbBytes *bytes)
     return to + bytes->len;
 }
 
+static inline size_t path_len(const DconfdbPath *path)
+{
+    return path->first.len + path->second.len + path->third.len + path->fourth.len;
+}
+
 /* The path as one text, or NULL. */
 static inline char *path_text(const DconfdbPath *path)
 {
-    char *text = malloc(path->first.len + path->second.len + path->third.len + path->fourth.len + 1);
+    char *text = malloc(path_len(path) + 1);
     if (text)
         *put_bytes(put_bytes(put_bytes(put_bytes(text, &path->first), &path->second), &path->third), &path->fourth) = 0;
     return text;

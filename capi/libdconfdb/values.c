@@ -77,20 +77,6 @@ size_t dconfdb_value_n_children(const DconfdbValue *value)
     return dconfdb_count_children((const uint8_t *)value->type, value->type_size, value->data, value->size);
 }
 
-static bool child_at(DconfdbValue *value, bool of_variant, size_t index, DconfdbValue *child)
-{
-    DconfdbPart part; /* the call writes all of it, or it isn't looked at */
-    size_t passed = value->passed;
-    bool is_found = dconfdb_child_at((const uint8_t *)value->type, value->type_size, value->data, value->size, of_variant, index, &passed, &part);
-    value->passed = passed;
-    return part_of(value, is_found, &part, child);
-}
-
-bool dconfdb_value_child(DconfdbValue *value, size_t index, DconfdbValue *child)
-{
-    return child_at(value, false, index, child);
-}
-
 _Static_assert(offsetof(DconfdbValue, data) == offsetof(DconfdbChild, value.at)
                    && offsetof(DconfdbValue, size) == offsetof(DconfdbChild, value.len)
                    && offsetof(DconfdbValue, type) == offsetof(DconfdbChild, type_text.at)
@@ -98,7 +84,19 @@ _Static_assert(offsetof(DconfdbValue, data) == offsetof(DconfdbChild, value.at)
                    && offsetof(DconfdbValue, origin) == offsetof(DconfdbChild, origin)
                    && offsetof(DconfdbValue, passed) == offsetof(DconfdbChild, passed)
                    && sizeof(DconfdbValue) == sizeof(DconfdbChild),
-               "a value is what the proved call puts, so that it puts all in place");
+               "a value is what the proved calls put and take, so that they have all in place");
+
+static bool child_at(DconfdbValue *value, bool of_variant, size_t index, DconfdbValue *child)
+{
+    DconfdbPart part; /* the call writes all of it, or it isn't looked at */
+    bool is_found = dconfdb_child_at((DconfdbChild *)(void *)value, of_variant, index, &part);
+    return part_of(value, is_found, &part, child);
+}
+
+bool dconfdb_value_child(DconfdbValue *value, size_t index, DconfdbValue *child)
+{
+    return child_at(value, false, index, child);
+}
 
 size_t dconfdb_value_children(const DconfdbValue *value, DconfdbValue *children, size_t room)
 {

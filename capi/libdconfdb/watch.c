@@ -18,7 +18,7 @@ Watch *watch_new(bool minds_etc)
     if (!watch)
         return NULL;
     *watch = (Watch){.inotify = -1, .minds_etc = minds_etc};
-    dconfdb_notice_begin(&watch->notice);
+    (void)dconfdb_notice_told(&watch->notice, DCONFDB_NOTICE_BEGINS, DCONFDB_NOTICE_NOTHING, false, 0);
     return watch;
 }
 
@@ -118,8 +118,8 @@ static WatchStep step_of(uint32_t step)
 
 WatchStep watch_step(const Watch *watch, int64_t *until)
 {
-    uint64_t moment = 0;
-    uint32_t step = dconfdb_notice_next(&watch->notice, &moment);
+    uint64_t moment = 0, due = 0;
+    uint32_t step = dconfdb_notice_next(&watch->notice, false, &moment, &due);
     *until = moment_of(moment);
     return step_of(step);
 }
@@ -131,7 +131,9 @@ int64_t watch_answer(Watch *watch, bool yes)
 
 int64_t watch_due(const Watch *watch, bool listens)
 {
-    return moment_of(dconfdb_notice_due(&watch->notice, listens));
+    uint64_t until = 0, due = 0;
+    (void)dconfdb_notice_next(&watch->notice, listens, &until, &due);
+    return moment_of(due);
 }
 
 static uint32_t heard(const Watch *watch)

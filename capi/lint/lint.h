@@ -22,9 +22,6 @@ size_t findings_count(void);
 
 /* ---- nearest.c: names that are alike */
 
-/* Whether one letter more, less or otherwise, or two that change places, make a name one of these. */
-bool has_slip(const GPtrArray *names, const char *name);
-
 /* The one of these names that is the least number of letters away, which are put in, left out, replaced, or
  * swapped with the next one; NULL if none is within `most`. A run compares so much of names, in which 1,000 are
  * looked for with ease, and finds none after that: 100,000 findings take no minute. */
@@ -55,6 +52,9 @@ DconfdbFinding schemas_key(const Schemas *schemas, const char *path, uint32_t wh
 
 /* The same of a directory that is locked. */
 DconfdbFinding schemas_directory(const Schemas *schemas, const char *path);
+
+/* What is found wrong with that: beside the directories that have a key of its name, or, of a directory, all that have one. */
+uint32_t schemas_finding(const Schemas *schemas, const char *path, const DconfdbFinding *known);
 
 /* The key, or the directory, that is nearest to what is missing: to be freed; or NULL. */
 char *schemas_nearest(const Schemas *schemas, const char *path);

@@ -82,32 +82,3 @@ const char *nearest(const GPtrArray *names, const char *name, int most)
     }
     return found;
 }
-
-/* What is left of two texts once what they begin and end with alike is taken away. */
-static void take_alike(const char **one, const char **other, size_t *len, size_t *other_len)
-{
-    while (*len > 0 && *other_len > 0 && **one == **other) {
-        (*one)++, (*other)++;
-        (*len)--, (*other_len)--;
-    }
-    while (*len > 0 && *other_len > 0 && (*one)[*len - 1] == (*other)[*other_len - 1])
-        (*len)--, (*other_len)--;
-}
-
-static bool is_slip(const char *one, const char *other)
-{
-    size_t len = strlen(one), other_len = strlen(other);
-    if (len > other_len + 1 || other_len > len + 1)
-        return false;
-    take_alike(&one, &other, &len, &other_len);
-    return (len <= 1 && other_len <= 1) || (len == 2 && other_len == 2 && one[0] == other[1] && one[1] == other[0]);
-}
-
-bool has_slip(const GPtrArray *names, const char *name)
-{
-    for (guint i = 0; names && i < names->len; i++) {
-        if (is_slip(name, g_ptr_array_index(names, i)))
-            return true;
-    }
-    return false;
-}

@@ -27,7 +27,7 @@ static void check_first(const Lint *lint, Place at, const char *path)
 
 static void find_it(const Lint *lint, Place at, const char *path, const DconfdbFinding *known, const GPtrArray *keys, GVariant *value)
 {
-    switch (dconfdb_finding(known)) {
+    switch (schemas_finding(lint->schemas, path, known)) {
     case DCONFDB_FINDING_NO_KEY: find_missing(lint, at, "no schema has the key", path); break;
     case DCONFDB_FINDING_NO_LOCKED_KEY: find_missing(lint, at, "no schema has the locked key", path); break;
     case DCONFDB_FINDING_NO_LOCKED_DIRECTORY: find_missing(lint, at, "no schema has a key below the locked directory", path); break;

@@ -207,8 +207,7 @@ DconfdbFinding schemas_key(const Schemas *schemas, const char *path, uint32_t wh
     DconfdbFinding known = {.what = what,
                             .is_known = *keys != NULL,
                             .has_schemas = g_hash_table_contains(schemas->at, directory),
-                            .may_be_elsewhere = g_hash_table_contains(schemas->relocatable, name),
-                            .is_slip = has_slip(g_hash_table_lookup(schemas->with, name), directory)};
+                            .may_be_elsewhere = g_hash_table_contains(schemas->relocatable, name)};
     g_free(directory);
     return known;
 }
@@ -217,8 +216,22 @@ DconfdbFinding schemas_directory(const Schemas *schemas, const char *path)
 {
     return (DconfdbFinding){.what = DCONFDB_OF_LOCKED_DIRECTORY,
                             .is_known = g_hash_table_contains(schemas->is_directory, path),
-                            .may_be_elsewhere = g_hash_table_size(schemas->relocatable) > 0,
-                            .is_slip = has_slip(schemas->directories, path)};
+                            .may_be_elsewhere = g_hash_table_size(schemas->relocatable) > 0};
+}
+
+uint32_t schemas_finding(const Schemas *schemas, const char *path, const DconfdbFinding *known)
+{
+    const char *name = strrchr(path, '/') + 1;
+    const GPtrArray *others = *name ? g_hash_table_lookup(schemas->with, name) : schemas->directories;
+    size_t count = others ? others->len : 0;
+    DconfdbBytes *texts = g_new(DconfdbBytes, count + 1);
+    for (size_t i = 0; i < count; i++) {
+        const char *other = g_ptr_array_index(others, i);
+        texts[i] = (DconfdbBytes){(const uint8_t *)other, strlen(other)};
+    }
+    uint32_t finding = dconfdb_finding(known, (const uint8_t *)path, (size_t)(name - path), texts, count);
+    g_free(texts);
+    return finding;
 }
 
 /* ---- what is nearest */

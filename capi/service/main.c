@@ -23,19 +23,13 @@ typedef struct {
     DconfdbPatience time;
 } Ending;
 
-static void renew(Ending *ending)
-{
-    DconfdbFileTime changed = folder_written(ending->service->place.folder);
-    dconfdb_patience_renew(&ending->time, &changed, (uint64_t)g_get_monotonic_time());
-}
-
 static bool goes_on(Ending *ending)
 {
     Service *service = ending->service;
-    renew(ending);
+    DconfdbFileTime changed = folder_written(service->place.folder);
     g_mutex_lock(&service->lock);
     DconfdbProgress progress = {service->settled, service->added, 0, 0, UINT64_MAX};
-    bool is = dconfdb_patience_goes_on(&ending->time, &progress, (uint64_t)g_get_monotonic_time());
+    bool is = dconfdb_patience_goes_on(&ending->time, &progress, &changed, (uint64_t)g_get_monotonic_time());
     g_mutex_unlock(&service->lock);
     return is;
 }
@@ -58,7 +52,6 @@ static void begin_end(Service *service)
     g_clear_handle_id(&service->owner, g_bus_unown_name);
     Ending *ending = g_new(Ending, 1);
     *ending = (Ending){.service = service, .time = {.each = LONGEST_END}};
-    renew(ending);
     g_timeout_add_full(G_PRIORITY_LOW, TICK, end_when_settled, ending, g_free);
 }
 

@@ -6,20 +6,15 @@
 #include <stdlib.h>
 #include <string.h>
 
-/* So many bytes of paths are named; where there are more, the directory is told that has them all. */
-enum { MOST_NAMED = 1 << 24 };
-
 /* ---- one signal */
 
-/* How many bytes of a path can be sent as a text: all, or its directory's. */
+/* How many bytes of a path can be sent as a text: of as many as are UTF-8, all, or those of a directory. */
 static size_t sendable(const char *path)
 {
-    const char *end = NULL;
-    if (g_utf8_validate(path, -1, &end))
-        return strlen(path);
-    while (end > path && end[-1] != '/')
-        end--;
-    return (size_t)(end - path);
+    const char *end = path;
+    size_t len = strlen(path);
+    g_utf8_validate(path, (gssize)len, &end);
+    return dconfdb_shared_within((const uint8_t *)path, len, (size_t)(end - path), (const uint8_t *)path, len);
 }
 
 /* What all paths begin with, of the first one: all of it if that is the only one, and else a directory. And how many bytes they are. */
@@ -52,8 +47,10 @@ static GVariant *rests_of(const GPtrArray *paths, size_t prefix, bool are_named)
 static void notify(const Writer *writer, const GPtrArray *paths, const char *tag)
 {
     size_t size = 0, len = prefix_of(paths, &size);
+    const DconfdbServed known = {.size = size};
+    bool are_named = dconfdb_served_after(DCONFDB_SERVED_TOLD, &known) == DCONFDB_SERVED_GOES_ON;
     g_autofree char *prefix = g_strndup(g_ptr_array_index(paths, 0), len);
-    GVariant *words = g_variant_new("(s@ass)", prefix, rests_of(paths, len, size <= MOST_NAMED), tag);
+    GVariant *words = g_variant_new("(s@ass)", prefix, rests_of(paths, len, are_named), tag);
     /* It fails where the bus is gone. */
     g_dbus_connection_emit_signal(writer->service->bus, NULL, writer->object, "ca.desrt.dconf.Writer", "Notify", words, NULL);
 }

@@ -53,17 +53,16 @@ static GArray *resets_of(const Run *run)
 }
 
 /* The moment in which it counts as made: what stands in it in a directory that is reset, by it or by another, isn't lost to what others set
- * before its turn. Other edits than those by which directories are reset don't matter beside it. */
+ * before its turn. Where none is, nothing is asked. */
 static uint64_t moment_of(const Change *change, const GArray *resets)
 {
+    size_t own = change->edits->len;
     if (resets->len == 0)
         return change->moment;
-    size_t own = change->edits->len;
-    g_autofree DconfdbTime *asked = g_new(DconfdbTime, own + resets->len);
+    g_autofree DconfdbTime *asked = g_new(DconfdbTime, own + 1);
     for (size_t i = 0; i < own; i++)
         asked[i] = asked_at(change, edit_of(change, i)->path);
-    memcpy(asked + own, resets->data, resets->len * sizeof *asked);
-    return dconfdb_moment_beside(asked, own + resets->len, change->moment);
+    return dconfdb_moment_beside(asked, own, (const DconfdbTime *)(gpointer)resets->data, resets->len, change->moment);
 }
 
 /* What can't be made of a change is left out by itself: for the queue each edit is a change of its own. */
@@ -82,9 +81,12 @@ static Batch batch_of(const Run *run)
 
 /* ---- what came of it; `turn` is held */
 
+/* Of what is written. What others set since is left out, too. */
 static bool is_made(const Run *run, size_t number)
 {
-    return run->is_done && !batch_is_refused(&run->batch, number) && !batch_is_left_out(&run->batch, number);
+    const DconfdbTried tried = {
+        .is_written = true, .is_refused = batch_is_refused(&run->batch, number), .is_left_out = batch_is_left_out(&run->batch, number), .is_now = true};
+    return !dconfdb_is_unmade(&tried);
 }
 
 /* What becomes of a change that was tried. */
@@ -171,13 +173,13 @@ static void take(Service *service, Run *run)
 }
 
 /* `lock` is held. */
-static DconfdbRound known_of(const Service *service, bool has_turn)
+static DconfdbRound known_of(const Service *service, bool has_asked)
 {
     return (DconfdbRound){.again = (uint64_t)service->again,
                           .moment = (uint64_t)g_get_monotonic_time(),
                           .ends = service->ends,
                           .waits = service->taken.length + service->waiting.length > 0,
-                          .has_turn = has_turn,
+                          .has_asked = has_asked,
                           .is_watched = true};
 }
 

@@ -32,10 +32,9 @@ static void queue_tells(DconfdbNext *step)
         at_next(step);
 }
 
-void dconfdb_queue_begin(DconfdbQueue *queue, const DconfdbQueued *edits, size_t count, DconfdbNext *step)
+static void queue_begins(DconfdbQueue *queue, const DconfdbQueued *edits, size_t count, DconfdbNext *step)
 {
     GIVEN(count <= QUEUE_EDITS);
-    CHECK(count == 0 || __CPROVER_r_ok(edits, count * sizeof *edits), "memory: edits that are there");
     *queue = (DconfdbQueue){.stage = BEYOND};
     queue_state = queue_first_of(edits, count);
     queue_tells(step);
@@ -45,6 +44,10 @@ void dconfdb_queue_answered(DconfdbQueue *queue, DconfdbQueued *edits, size_t co
 {
     CHECK(count == 0 || __CPROVER_r_ok(edits, count * sizeof *edits), "memory: edits that are there");
     CHECK(__CPROVER_r_ok(queue, sizeof *queue), "memory: a queue");
+    if (answer == DCONFDB_QUEUE_BEGINS) {
+        queue_begins(queue, edits, count, step);
+        return;
+    }
     CHECK(answer <= DCONFDB_QUEUE_LATER && (answer != DCONFDB_QUEUE_FAULT || at <= count), "answer: one to a step");
     if (at_next_answer)
         at_next_answer(answer, at);

@@ -174,7 +174,7 @@ int changing_make_(void)
     CHECK(!has_bytes_read && edited.file.bytes.at == NULL, "memory: the bytes are the new part's, or released");
     CHECK((fault == 0) == is_opened, "answer: made is what was opened");
     CHECK(fault != IS_TOLD || refused > 0, "answer: what failed is told");
-    CHECK(fault != IS_NOTHING || asking.count == 0 || !store.is_unsettled, "answer: what is perhaps not on the disk is written once more");
+    CHECK(fault != IS_NOTHING || asking.count == 0 || !store.known.is_unsettled, "answer: what is perhaps not on the disk is written once more");
     if (fault == IS_NOTHING && asked == 2 && asking.count == 1)
         REACHED("all is there already");
     if (fault == 0)
@@ -213,18 +213,22 @@ bool order_is_synced(const Order *order, const char *name, const FileState *file
     return any_bool();
 }
 
-void order_write(Order *order, int file, const char *name, const FileState *left, bool is_synced)
+bool order_write(Order *order, int file, const char *name, const FileState *left, bool is_synced)
 {
     CHECK(order == &store.order && file == lock.file && name == store.user_file + 3, "step: it is noted in the lock's own file");
     CHECK(left == (is_new_noted() ? &new_parts[0].state : &old_parts[0].state), "answer: the file that is left is what the name is");
     CHECK(!(is_new_noted() ? &new_parts[0] : &old_parts[0])->is_settled || is_synced, "answer: what is known to be on the disk is noted so");
-    is_written = true;
+    is_written = any_bool();
     noted++;
+    return is_written;
 }
 
-void store_forget_seen(DconfdbStore *at)
+/* As dconfdb_store_after has it of a note. */
+void store_after(DconfdbStore *at, uint32_t what, bool yes, uint64_t number)
 {
-    CHECK(at == &store && is_written, "order: what was seen is forgotten once it is noted");
+    CHECK(at == &store && what == DCONFDB_STORE_NOTED && is_written, "order: what was seen is forgotten once it is noted");
+    if (yes && number > 0)
+        store.known.noted = number;
 }
 
 /* harness changing_note: unwind 8, with machines.c, quick */
@@ -243,11 +247,11 @@ int changing_note_(void)
         new_parts[0].is_settled = any_bool();
     }
     old_parts[0].is_settled = any_bool();
-    uint64_t before = store.noted;
+    uint64_t before = store.known.noted;
     int fault = changing_note(&it);
     CHECK(fault == 0, "answer: a note that can't be is no fault");
-    CHECK(noted <= 1 && (noted == 1 || store.noted == before), "step: one note, at most");
-    CHECK(it.turn.outcome != DCONFDB_TURN_KEPT || it.turn.fault == DCONFDB_TURN_NOTHING || store.noted == before, "answer: what was not made has no time");
+    CHECK(noted <= 1 && (is_written || store.known.noted == before), "step: one note, at most");
+    CHECK(it.turn.outcome != DCONFDB_TURN_KEPT || it.turn.fault == DCONFDB_TURN_NOTHING || store.known.noted == before, "answer: what was not made has no time");
     if (noted == 1 && is_new_noted() && asking.count == 2)
         REACHED("a note");
     return 0;

@@ -23,7 +23,7 @@ static void set_up(void)
     asking.changes = changes;
     asking.asked = asked_for;
     asking.edits = numbers;
-    store.is_unsettled = any_bool();
+    store.known = (DconfdbStoreKnown){.is_unsettled = any_bool()};
     edited = (Edited){.store = &store, .lock = &lock, .asking = &asking, .before = &old_room};
     it.edited = &edited;
     it.replacing.name = store.user_file + 3;

@@ -79,6 +79,14 @@ void changing_run(Changing *at)
     atomic_store(&store.is_amid, true);
 }
 
+/* As dconfdb_store_after has it of an end. */
+void store_after(DconfdbStore *at, uint32_t what, bool yes, uint64_t number)
+{
+    CHECK(at == &store && what == DCONFDB_STORE_ENDED && is_held(&store.refreshing), "step: how it ended is known");
+    CHECK(number <= DCONFDB_NEWEST_TRIED && (number == DCONFDB_NEWEST_TRIED) == (store.tried != NULL), "answer: what is tried is had");
+    store.known.is_unsettled = yes;
+}
+
 void store_renew(DconfdbStore *at, DconfdbSnapshot *newer)
 {
     CHECK(at == &store && is_held(&store.refreshing) && newer == made_newer, "step: the newer snapshot is handed out");
@@ -91,7 +99,7 @@ int change_end(void)
 {
     static DconfdbError error;
     set_up();
-    bool was = store.is_unsettled;
+    bool was = store.known.is_unsettled;
     store.tried = NULL;
     bool done = change_in_turn(&store, &lock, &asking, any_bool() ? &error : NULL);
     CHECK(none_is_held() && !is_signal_held && !has_begun && !atomic_load(&store.is_amid), "order: all is given back");
@@ -106,7 +114,7 @@ int change_end(void)
     CHECK(has_newer == (is_new || outcome == DCONFDB_TURN_EITHER), "memory: the newer snapshot is had, or given back");
     CHECK(!is_new || !new_parts[0].fault || new_parts[0].fault->aside, "answer: a fault that is kept has another name");
     CHECK(!is_new || !was_aside || !new_parts[0].fault || faults[1].aside, "answer: what is aside is told");
-    CHECK(store.is_unsettled == (outcome == DCONFDB_TURN_KEPT ? was : outcome != DCONFDB_TURN_MADE && outcome != DCONFDB_TURN_SAME), "answer: unsettled is as it ended");
+    CHECK(store.known.is_unsettled == (outcome == DCONFDB_TURN_KEPT ? was : outcome != DCONFDB_TURN_MADE && outcome != DCONFDB_TURN_SAME), "answer: unsettled is as it ended");
     CHECK(done == (outcome == DCONFDB_TURN_MADE || outcome == DCONFDB_TURN_SAME), "answer: yes is made, or what was to stay");
     CHECK(done || refused > 0, "answer: no is told");
     if (is_new && was_aside && new_parts[0].fault)

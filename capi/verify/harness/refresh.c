@@ -314,6 +314,14 @@ bool snapshot_is_news(const DconfdbSnapshot *before, const DconfdbSnapshot *afte
     return any_bool();
 }
 
+/* As dconfdb_store_after has it of a look, and of what is told. */
+void store_after(DconfdbStore *at, uint32_t what, bool yes, uint64_t number)
+{
+    (void)number;
+    CHECK(at == &store && (what == DCONFDB_STORE_FOUND || what == DCONFDB_STORE_TOLD) && is_held(&store.refreshing), "step: what is found is known");
+    store.known.has_news = what == DCONFDB_STORE_FOUND && (store.known.has_news || yes);
+}
+
 void store_renew(DconfdbStore *at, DconfdbSnapshot *newer)
 {
     CHECK(at == &store && newer == &newer_room && is_held(&store.refreshing), "step: the newer snapshot is the store's");
@@ -333,11 +341,11 @@ int refresh_(void)
 {
     bool changed = any_bool(), was = changed, has_asked = any_bool(), has_looked = false;
     set_up_store();
-    store.has_news = any_bool();
+    store.known = (DconfdbStoreKnown){.has_news = any_bool()};
     atomic_store(&store.is_amid, any_bool());
     store.now = &old_room;
     store.tried = NULL;
-    bool news = store.has_news;
+    bool news = store.known.has_news;
     bool is_unless = any_bool(), done;
     if (is_unless) {
         DconfdbSnapshot *now = newest_unless_amid(&store, &has_looked, NULL);
@@ -351,7 +359,7 @@ int refresh_(void)
         done = dconfdb_store_refresh(&store, has_asked ? &changed : NULL, NULL);
         CHECK(done == (look_ended != DCONFDB_LOOK_FAILED), "answer: whether the look was one");
         CHECK(done || changed == was, "answer: a fault leaves it as it was");
-        CHECK(!done || !has_asked || (!store.has_news && (changed || !news)), "answer: news are told once");
+        CHECK(!done || !has_asked || (!store.known.has_news && (changed || !news)), "answer: news are told once");
         CHECK(renewed == (look_ended == DCONFDB_LOOK_NEWER ? 1U : 0U), "step: what is newer is the store's");
         REACHED("a refresh");
     }

@@ -39,13 +39,13 @@ static bool some_part(DconfdbPart *found, const uint8_t *type, const uint8_t *va
     return is;
 }
 
-bool dconfdb_child_at(const uint8_t *type, size_t type_len, const uint8_t *value, size_t len, bool of_variant, size_t index, size_t *passed, DconfdbPart *found)
+bool dconfdb_child_at(DconfdbChild *whole, bool of_variant, size_t index, DconfdbPart *found)
 {
     (void)of_variant, (void)index;
-    CHECK(__CPROVER_w_ok(passed, sizeof *passed), "memory: how far a walk came");
-    *passed = any_size();
-    are_lent(type, type_len, value, len);
-    return some_part(found, type, value);
+    CHECK(__CPROVER_w_ok(&whole->passed, sizeof whole->passed), "memory: how far a walk came");
+    whole->passed = any_size();
+    are_lent(whole->type_text.at, whole->type_text.len, whole->value.at, whole->value.len);
+    return some_part(found, whole->type_text.at, whole->value.at);
 }
 
 bool dconfdb_look_up(const uint8_t *type, size_t type_len, const uint8_t *value, size_t len, const uint8_t *key, size_t key_len, DconfdbPart *found)

@@ -287,7 +287,7 @@ static void queue_begins(void *it, int number)
     DconfdbNext next = {0};
     Waiting *waiting = it;
     waiting->count = queue_edits((uint32_t)number, waiting->edits);
-    dconfdb_queue_begin(&waiting->queue, waiting->edits, waiting->count, &next);
+    dconfdb_queue_answered(&waiting->queue, waiting->edits, waiting->count, DCONFDB_QUEUE_BEGINS, 0, &next);
     is_at_next(&waiting->next, &next);
 }
 

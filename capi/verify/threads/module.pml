@@ -150,15 +150,20 @@ inline turn_leave() {
 inline leave_line() { turn_leave() }
 
 /* What could not be written waits again. At the program's end it counts at once; else only if it lasts. */
-inline wait_again() {
+inline end_try() {
     TAKE(LOCK);
     atomic {
-        waiting = waiting + taken; taken = 0;
         if
-        :: failed = tries
-        :: !has_ended
+        :: ok -> done = taken; taken = 0
+        :: else ->
+            waiting = waiting + taken; taken = 0;
+            if
+            :: failed = tries
+            :: !has_ended
+            fi
         fi
     };
+    hand_newest();
     GIVE(LOCK)
 }
 inline write_in() {
@@ -167,10 +172,7 @@ inline write_in() {
     if
     :: taken > 0 ->
         locked_change();
-        if
-        :: ok -> done = taken; taken = 0; renew()
-        :: else -> wait_again()
-        fi
+        end_try()
     :: else
     fi;
     GIVE(TURN)
@@ -179,8 +181,6 @@ inline store_write() { turn_take(); if :: ok -> write_in(); turn_give(); notice_
 
 inline know_what_waits() { now = waiting; has_failed = failed > last_try }
 inline know_anew() { TAKE(LOCK); atomic { know_what_waits() }; GIVE(LOCK) }
-inline look_before_write() { store_settle(); know_anew() }
-inline write_what_waits() { store_write(); know_anew() }
 
 /* In the order of the proved call. `goes` is false: the program ends, and nothing waits, or a write has failed since. A backend that is let go is kept
  * until the thread in line has come to its turn. */
@@ -188,8 +188,8 @@ inline takes_turn() {
     TAKE(LOCK); atomic { ends = has_ended; is_left = is_let_go; is_asked = false; know_what_waits() }; GIVE(LOCK);
     tell_untold();
     if :: store_look() :: skip fi;
-    if :: now > 0 -> look_before_write() :: skip fi;
-    if :: now > 0 -> write_what_waits() :: else fi;
+    if :: now > 0 -> store_settle(); know_anew() :: skip fi;
+    if :: now > 0 -> store_write(); know_anew() :: else fi;
     if :: now == 0 && waits_in_line -> leave_line() :: else fi;
     atomic {
         goes = !ends || ((now > 0 || (waits_in_line && is_left)) && !has_failed);
@@ -239,7 +239,7 @@ end_idle:
 
 inline waiting_add() { atomic { waiting++; added++ } }
 inline make() { TAKE(LOCK); waiting_add(); worker_wake(); GIVE(LOCK) }
-inline ask_for_a_try() { TAKE(LOCK); atomic { before = tries; if :: failed != 0 -> is_asked = true; worker_wake() :: else fi }; GIVE(LOCK) }
+inline ask_for_a_try() { TAKE(LOCK); atomic { is_asked = true; worker_wake() }; GIVE(LOCK) }
 
 /* The condition lets go of `lock`, and has it again. `ok`: all is settled. */
 inline await_settled() {
@@ -261,7 +261,8 @@ timed_out: skip
 inline settle() { TAKE(LOCK); GIVE(LOCK); if :: settle_store() :: skip fi }
 
 inline store_sync() {
-    ask_for_a_try();
+    TAKE(LOCK); atomic { before = tries; asks = failed != 0 }; GIVE(LOCK);
+    if :: asks -> ask_for_a_try() :: else fi;
     await_settled();
     if
     :: ok ->
@@ -276,7 +277,7 @@ inline store_sync() {
 proctype program()
 {
     byte mine = 0, done = 0, before = 0, want = 0, sets = 0;
-    bool ok = false;
+    bool ok = false, asks = false;
     do
     :: sets < SETS -> sets++; make()
     :: sets > 0 -> break
@@ -311,7 +312,7 @@ inline worker_end() {
     if
     :: TAKE(LIVING); GIVE(LIVING);
         if
-        :: TAKE(LOCK); atomic { has_ended = true; is_asked = true; last_try = tries }; GIVE(LOCK); worker_wake();
+        :: TAKE(LOCK); atomic { has_ended = true; is_asked = true; last_try = tries }; worker_wake(); GIVE(LOCK);
             if
             :: is_over
             :: gave_up

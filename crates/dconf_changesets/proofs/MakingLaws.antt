@@ -1,11 +1,11 @@
 -- What is said to who waits until a change is made.
-use Rattle.std.proofs.Common.{◌≡◌, Bool, true, false, not, refl}
-use Rattle.std.specs.Prelude.{if◌then◌else◌, ◌||◌, ◌&&◌}
+use Rattle.std.proofs.Common.{◌≡◌, ◌≢◌, Bool, true, false, not, refl, sym, ◌∙◌}
+use Rattle.std.specs.Prelude.{if◌then◌else◌, ◌||◌}
 use Rattle.dconf_changesets.specs.declared.making.ChangeKnown.{ChangeKnown}
 use Rattle.dconf_changesets.specs.declared.making.ChangeTask.{ChangeTask}
-use Rattle.dconf_changesets.specs.declared.making.ChangeTask.TheVariants.{Made, Refused, Failed}
+use Rattle.dconf_changesets.specs.declared.making.ChangeTask.TheVariants.{Before, Settle, Put, Others, Tell, GiveUp, Made, Refused, Failed}
 use Rattle.dconf_changesets.specs.declared.making.Tried.{Tried}
-use Rattle.dconf_changesets.specs.Making.{Answers, IsSo, MadeMeansOnTheDisk, WhatIsLostIsToldAgain, closed_by, fails_by, has_place, is_made, is_unmade, said_at_last}
+use Rattle.dconf_changesets.specs.Making.{Answers, IsSo, IsToldInOrder, MadeMeansOnTheDisk, OthersAreToldFirst, WhatIsLostIsToldAgain, closed_by, fails_by, given_up, has_place, is_made, is_said, is_unmade, puts, said_at_last}
 
 abbrev answers : Bool → Bool → Bool → Answers
 answers before settled put = record { before = before; settled = settled; put = put }
@@ -67,6 +67,108 @@ said_by false false true true true true true true lk uw true false true = refl
 pub made_means_on_the_disk : MadeMeansOnTheDisk
 made_means_on_the_disk a k =
     said_by k.is_empty k.is_refused k.has_store k.has_user k.is_there k.is_left k.is_news k.is_watched k.is_locked k.is_unwritable a.before a.settled a.put
+
+-- ---- what is told first
+
+abbrev is_tell : ChangeTask → Bool
+is_tell Tell = true
+is_tell _ = false
+
+-- how a change fails, or finds no place
+fails : (locked unwritable : Bool) → is_tell (if locked || unwritable then Refused else Failed) ≡ false
+fails true unwritable = refl
+fails false true = refl
+fails false false = refl
+
+closes : (has_store : Bool) → is_tell (if has_store then Refused else Failed) ≡ false
+closes true = refl
+closes false = refl
+
+gives_up : (place has_store locked unwritable : Bool) →
+    is_tell (if place then (if locked || unwritable then Refused else Failed) else if has_store then Refused else Failed) ≡ false
+gives_up true has_store locked unwritable = fails locked unwritable
+gives_up false has_store locked unwritable = closes has_store
+
+-- what comes next once all is written that was asked for before, and once what is there was settled
+abbrev begun : Bool → Bool → Bool → ChangeTask
+begun place there put = if not place then GiveUp else if there then Settle else if put then Put else Others
+
+begun_untold : (place there put : Bool) → is_tell (begun place there put) ≡ false
+begun_untold false there put = refl
+begun_untold true true put = refl
+begun_untold true false true = refl
+begun_untold true false false = refl
+
+begun_unsaid : (place there put : Bool) → is_said (begun place there put) ≡ false
+begun_unsaid false there put = refl
+begun_unsaid true true put = refl
+begun_unsaid true false true = refl
+begun_unsaid true false false = refl
+
+abbrev settled : Bool → ChangeTask
+settled put = if put then Put else Others
+
+settled_untold : (put : Bool) → is_tell (settled put) ≡ false
+settled_untold true = refl
+settled_untold false = refl
+
+settled_unsaid : (put : Bool) → is_said (settled put) ≡ false
+settled_unsaid true = refl
+settled_unsaid false = refl
+
+differ : (b : Bool) → b ≡ false → b ≢ true
+differ b f t = let bad : true ≡ false = sym t ∙ f in cc
+
+untold : (x : ChangeTask) → is_tell x ≡ false → x ≢ Tell
+untold Before f e = let bad : Before ≡ Tell = e in cc
+untold Settle f e = let bad : Settle ≡ Tell = e in cc
+untold Put f e = let bad : Put ≡ Tell = e in cc
+untold Others f e = let bad : Others ≡ Tell = e in cc
+untold Tell f e = let bad : true ≡ false = f in cc
+untold GiveUp f e = let bad : GiveUp ≡ Tell = e in cc
+untold Made f e = let bad : Made ≡ Tell = e in cc
+untold Refused f e = let bad : Refused ≡ Tell = e in cc
+untold Failed f e = let bad : Failed ≡ Tell = e in cc
+
+in_order : (task : ChangeTask) (is_so : Bool) (k : ChangeKnown) → IsToldInOrder task is_so k
+in_order Before false k = record {
+  new = λ e. absurd (untold (fails_by k) (fails k.is_locked k.is_unwritable) e);
+  own = λ e. refl;
+  over = λ e. refl;
+}
+in_order Before true k = record {
+  new = λ e. absurd (untold (begun (has_place k) k.is_there (puts 1 true k)) (begun_untold (has_place k) k.is_there (puts 1 true k)) e);
+  own = λ e. refl;
+  over = λ e. absurd (differ (is_said (begun (has_place k) k.is_there (puts 1 true k))) (begun_unsaid (has_place k) k.is_there (puts 1 true k)) e);
+}
+in_order Settle is_so k = record {
+  new = λ e. absurd (untold (settled (puts 2 is_so k)) (settled_untold (puts 2 is_so k)) e);
+  own = λ e. refl;
+  over = λ e. absurd (differ (is_said (settled (puts 2 is_so k))) (settled_unsaid (puts 2 is_so k)) e);
+}
+in_order Put true k = record {
+  new = λ e. absurd (let bad : Others ≡ Tell = e in cc);
+  own = λ e. refl;
+  over = λ e. absurd (let bad : false ≡ true = e in cc);
+}
+in_order Put false k = record {
+  new = λ e. absurd (let bad : GiveUp ≡ Tell = e in cc);
+  own = λ e. absurd (let bad : GiveUp ≡ Others = e in cc);
+  over = λ e. absurd (let bad : false ≡ true = e in cc);
+}
+in_order Others is_so k = record { new = λ e. refl; own = λ e. refl; over = λ e. refl }
+in_order Tell is_so k = record { new = λ e. absurd (let bad : Made ≡ Tell = e in cc); own = λ e. refl; over = λ e. refl }
+in_order GiveUp is_so k = record {
+  new = λ e. absurd (untold (given_up k) (gives_up (has_place k) k.has_store k.is_locked k.is_unwritable) e);
+  own = λ e. refl;
+  over = λ e. refl;
+}
+in_order Made is_so k = record { new = λ e. absurd (let bad : Made ≡ Tell = e in cc); own = λ e. refl; over = λ e. refl }
+in_order Refused is_so k = record { new = λ e. absurd (let bad : Made ≡ Tell = e in cc); own = λ e. refl; over = λ e. refl }
+in_order Failed is_so k = record { new = λ e. absurd (let bad : Made ≡ Tell = e in cc); own = λ e. refl; over = λ e. refl }
+
+pub others_are_told_first : OthersAreToldFirst
+others_are_told_first = in_order
 
 -- ---- what is told again
 

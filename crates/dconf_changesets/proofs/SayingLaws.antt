@@ -10,8 +10,7 @@ use Rattle.dconf_model.specs.Stores.{Saying, heard}
 use Rattle.dconf_model.specs.Stores.Saying.{silent, unset, sets}
 use Rattle.dconf_changesets.specs.Differences.{Values}
 use Rattle.dconf_changesets.specs.Rows.{IsRow, Row, later_word, said, said_by, word_of}
-use Rattle.dconf_changesets.specs.Saying.{AreSaying, IsSaying, TheSameIsSaid, is_said, said_by_sets}
-use Rattle.dconf_changesets.specs.declared.saying.Said.{Said}
+use Rattle.dconf_changesets.specs.Saying.{TheSameIsSaid, is_said, said_by_sets}
 use Rattle.dconf_changesets.proofs.WordLaws.{below_cut, below_from, covers_directory, covers_how, covers_twice, heard_word, over_by_word, said_apart, said_covered}
 
 -- ---- two paths that cover a third

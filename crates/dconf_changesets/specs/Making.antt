@@ -3,7 +3,7 @@ use Rattle.std.specs.Prelude.{ℕ, zero, suc, ◌≡◌, Bool, true, false, not,
 use Rattle.dconf_changesets.specs.declared.making.ChangeKnown.{ChangeKnown}
 use Rattle.dconf_changesets.specs.declared.making.Tried.{Tried}
 use Rattle.dconf_changesets.specs.declared.making.ChangeTask.{ChangeTask}
-use Rattle.dconf_changesets.specs.declared.making.ChangeTask.TheVariants.{Before, Settle, Put, Tell, Made, Refused, Failed}
+use Rattle.dconf_changesets.specs.declared.making.ChangeTask.TheVariants.{Before, Settle, Put, Others, Tell, GiveUp, Made, Refused, Failed}
 
 -- there is a user's database that it could be put into
 abbrev pub has_place : ChangeKnown → Bool
@@ -20,6 +20,10 @@ begins_with k = if k.is_empty then Made else if k.is_refused then Refused else B
 abbrev pub fails_by : ChangeKnown → ChangeTask
 fails_by k = if k.is_locked || k.is_unwritable then Refused else Failed
 
+-- there is no place for it, or it failed
+abbrev pub given_up : ChangeKnown → ChangeTask
+given_up k = if has_place k then fails_by k else closed_by k
+
 -- unless all is there, and on the disk
 abbrev pub puts : ℕ → Bool → ChangeKnown → Bool
 puts done is_so k = k.is_left && not (done == 2 && is_so)
@@ -30,21 +34,23 @@ tells k = k.is_news && k.is_watched
 -- once the first tasks were done, or were not due; and by the answer to the last one
 abbrev pub change_after : ℕ → Bool → ChangeKnown → ChangeTask
 change_after done is_so k =
-    if nat_lt done 1 then begins_with k else if (done == 1 || done == 3) && not is_so then fails_by k else
-    if nat_lt done 2 && not (has_place k) then closed_by k else
+    if nat_lt done 1 then begins_with k else if done == 1 && not is_so then fails_by k else if done == 6 then given_up k else
+    if (done == 3 && not is_so) || (nat_lt done 2 && not (has_place k)) then GiveUp else
     if nat_lt done 2 && k.is_there then Settle else if nat_lt done 3 && puts done is_so k then Put else
-    if nat_lt done 4 && tells k then Tell else Made
+    if nat_lt done 4 then Others else if nat_lt done 5 && tells k then Tell else Made
 
 abbrev pub change_number : ChangeTask → ℕ
 change_number Before = 1
 change_number Settle = 2
 change_number Put = 3
-change_number Tell = 4
-change_number Made = 5
-change_number Refused = 6
-change_number Failed = 7
+change_number Others = 4
+change_number Tell = 5
+change_number GiveUp = 6
+change_number Made = 7
+change_number Refused = 8
+change_number Failed = 9
 
--- ---- the law
+-- ---- the laws
 
 -- what each task answers
 pub record Answers : Type 0 where
@@ -56,7 +62,9 @@ abbrev pub answer_to : Answers → ChangeTask → Bool
 answer_to a Before = a.before
 answer_to a Settle = a.settled
 answer_to a Put = a.put
+answer_to a Others = true
 answer_to a Tell = true
+answer_to a GiveUp = true
 answer_to a Made = true
 answer_to a Refused = true
 answer_to a Failed = true
@@ -72,9 +80,9 @@ abbrev pub goes_on : ℕ → Answers → ChangeKnown → ChangeTask → ChangeTa
 goes_on zero a k task = task
 goes_on (suc n) a k task = if is_said task then task else goes_on n a k (change_after (change_number task) (answer_to a task) k)
 
--- what is said at last: there are four tasks at most
+-- what is said at last: there are five tasks at most
 abbrev pub said_at_last : Answers → ChangeKnown → ChangeTask
-said_at_last a k = goes_on 4 a k (change_after 0 true k)
+said_at_last a k = goes_on 5 a k (change_after 0 true k)
 
 -- what it asks for is on the disk
 abbrev pub is_made : Answers → ChangeKnown → Bool
@@ -87,6 +95,27 @@ MadeMeansOnTheDisk =
     (a : Answers) (k : ChangeKnown) →
     said_at_last a k ≡ (if k.is_empty then Made else if k.is_refused then Refused else if not a.before then fails_by k else
     if not (has_place k) then closed_by k else if is_made a k then Made else fails_by k)
+
+-- what the change says is there, or was never put
+abbrev pub is_put : ChangeTask → Bool → Bool
+is_put Put is_so = is_so
+is_put _ is_so = true
+
+-- by then what others changed is told, or nothing was begun
+abbrev pub has_told : ChangeTask → Bool → Bool
+has_told Before is_so = not is_so
+has_told Settle is_so = false
+has_told Put is_so = false
+has_told _ is_so = true
+
+-- What others changed is told before what is new, and before it is over; and what the change says is left out of that only where it is put.
+pub record IsToldInOrder (task : ChangeTask) (is_so : Bool) (k : ChangeKnown) : Type 0 where
+  pub new : change_after (change_number task) is_so k ≡ Tell → task ≡ Others
+  pub own : change_after (change_number task) is_so k ≡ Others → is_put task is_so ≡ true
+  pub over : is_said (change_after (change_number task) is_so k) ≡ true → has_told task is_so ≡ true
+
+abbrev pub OthersAreToldFirst : Type 0
+OthersAreToldFirst = (task : ChangeTask) (is_so : Bool) (k : ChangeKnown) → IsToldInOrder task is_so k
 
 -- ---- what is told again
 

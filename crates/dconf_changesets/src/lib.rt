@@ -9,7 +9,7 @@
 ghost use Rattle.dconf_changesets.specs.Above.{NoDirectoryIsPassedOver};
 ghost use Rattle.dconf_changesets.specs.Asking.{NoLookIsMissed, TheNewestIsAsked};
 ghost use Rattle.dconf_changesets.specs.Differences.{KeptIsEnough};
-ghost use Rattle.dconf_changesets.specs.Making.{MadeMeansOnTheDisk, WhatIsLostIsToldAgain};
+ghost use Rattle.dconf_changesets.specs.Making.{MadeMeansOnTheDisk, OthersAreToldFirst, WhatIsLostIsToldAgain};
 ghost use Rattle.dconf_changesets.specs.Rows.{FoundIsSaid, LaterCounts};
 ghost use Rattle.dconf_changesets.specs.Saying.{TheSameIsSaid};
 
@@ -55,6 +55,12 @@ pub fn the_newest_is_asked()
 /// A change whose caller waits for it is made exactly if all of it is on the disk, after what was asked for before it.
 pub fn made_means_on_the_disk()
     ensures { MadeMeansOnTheDisk }
+{}
+
+/// What others changed is told before what is new by a change, and before that is over; of what the change says nothing is told then if it
+/// is put.
+pub fn others_are_told_first()
+    ensures { OthersAreToldFirst }
 {}
 
 /// Who reads goes without a look at the files only where what was seen is what they are; and no look is left out for good.

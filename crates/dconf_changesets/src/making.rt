@@ -1,6 +1,6 @@
 //! What becomes of a change whose caller waits for it.
 ghost use Rattle.std.specs.Prelude.{◌≡◌};
-ghost use Rattle.dconf_changesets.specs.Making.{begins_with, change_after, change_number, closed_by, fails_by, has_place, is_unmade, puts, tells};
+ghost use Rattle.dconf_changesets.specs.Making.{begins_with, change_after, change_number, closed_by, fails_by, given_up, has_place, is_unmade, puts, tells};
 
 /// What comes next, in this order.
 #[derive(Clone, Copy)]
@@ -11,8 +11,12 @@ pub enum ChangeTask {
     Settle,
     /// Puts what is left of the change into the store. It answers whether it is there.
     Put,
-    /// Tells what is new.
+    /// Tells what others changed, but for what the change says itself, which is there now.
+    Others,
+    /// Tells what is new by the change.
     Tell,
+    /// The change could not be made: takes it away, and tells what others changed.
+    GiveUp,
     /// It is over: it is made.
     Made,
     /// It is over: a key may not be written.
@@ -54,11 +58,14 @@ pub fn change_after(done: u32, is_so: bool, known: &ChangeKnown) -> ChangeTask
     if done < 1 {
         return begins_with(known);
     }
-    if (done == 1 || done == 3) && !is_so {
+    if done == 1 && !is_so {
         return fails_by(known);
     }
-    if done < 2 && !has_place(known) {
-        return closed_by(known);
+    if done == 6 {
+        return given_up(known);
+    }
+    if (done == 3 && !is_so) || (done < 2 && !has_place(known)) {
+        return ChangeTask::GiveUp;
     }
     if done < 2 && known.is_there {
         return ChangeTask::Settle;
@@ -66,13 +73,16 @@ pub fn change_after(done: u32, is_so: bool, known: &ChangeKnown) -> ChangeTask
     if done < 3 && puts(done, is_so, known) {
         return ChangeTask::Put;
     }
-    if done < 4 && tells(known) {
+    if done < 4 {
+        return ChangeTask::Others;
+    }
+    if done < 5 && tells(known) {
         return ChangeTask::Tell;
     }
     ChangeTask::Made
 }
 
-/// The same as a number: 1 before, 2 settle, 3 put, 4 tell, 5 made, 6 refused, 7 failed.
+/// The same as a number: 1 before, 2 settle, 3 put, 4 others, 5 tell, 6 give up, 7 made, 8 refused, 9 failed.
 pub fn change_number(done: u32, is_so: bool, known: &ChangeKnown) -> u32
     ensures { result ≡ change_number (change_after done is_so known.now) }
 {
@@ -80,10 +90,12 @@ pub fn change_number(done: u32, is_so: bool, known: &ChangeKnown) -> u32
         ChangeTask::Before => 1,
         ChangeTask::Settle => 2,
         ChangeTask::Put => 3,
-        ChangeTask::Tell => 4,
-        ChangeTask::Made => 5,
-        ChangeTask::Refused => 6,
-        ChangeTask::Failed => 7,
+        ChangeTask::Others => 4,
+        ChangeTask::Tell => 5,
+        ChangeTask::GiveUp => 6,
+        ChangeTask::Made => 7,
+        ChangeTask::Refused => 8,
+        ChangeTask::Failed => 9,
     }
 }
 
@@ -124,6 +136,16 @@ fn closed_by(known: &ChangeKnown) -> ChangeTask
         return ChangeTask::Refused;
     }
     ChangeTask::Failed
+}
+
+/// What is said of a change that was given up: there is no place for it, or it failed.
+fn given_up(known: &ChangeKnown) -> ChangeTask
+    ensures { result ≡ given_up known.now }
+{
+    if has_place(known) {
+        return fails_by(known);
+    }
+    closed_by(known)
 }
 
 /// Whether something is to be put: not if all was there, and is on the disk.

@@ -1,6 +1,7 @@
 -- What C is told by numbers, and says by them.
-use Rattle.std.specs.Prelude.{ℕ, ◌==◌, if◌then◌else◌}
-use Rattle.dconf_places.specs.Numbers.{candidate_number, candidate_numbered}
+use Rattle.std.specs.Prelude.{ℕ, List, Bool, Option, Some, None, ◌==◌, ◌||◌, if◌then◌else◌}
+use Rattle.dconf_places.specs.Numbers.{base_number, candidate_number, candidate_numbered}
+use Rattle.dconf_places.specs.Places.{Spot, path_at}
 use Rattle.dconf_homes.specs.Homes.{StoreKind, What}
 use Rattle.dconf_homes.specs.Homes.StoreKind.{own, dconfs, unknown}
 use Rattle.dconf_homes.specs.Homes.What.{the_folder, the_profile, the_runtime}
@@ -16,6 +17,14 @@ kind_number unknown = 2
 
 abbrev pub what_numbered : ℕ → What
 what_numbered n = if n == 0 then the_folder else if n == 1 then the_profile else the_runtime
+
+abbrev pub found_number : Option (List ℕ) → ℕ
+found_number (Some path) = 0
+found_number None = 3
+
+-- what has to be asked to know a path: once it was asked, or where nothing has to be, the path is known, or there is none
+abbrev pub asked_for : Spot → Bool → List ℕ → ℕ
+asked_for spot is_asked base = if (base_number spot == 0) || is_asked then found_number (path_at spot base) else base_number spot
 
 abbrev pub sought_number : Sought → ℕ
 sought_number (Ours it) = candidate_number it

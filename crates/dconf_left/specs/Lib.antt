@@ -2,3 +2,4 @@ pub mod Numbers
 pub mod Records
 pub mod Left
 pub mod Laws
+pub mod Changes

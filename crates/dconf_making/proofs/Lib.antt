@@ -1,3 +1,4 @@
 pub mod EndingLaws
 pub mod MakingLaws
 pub mod SettlingLaws
+pub mod KnowingLaws

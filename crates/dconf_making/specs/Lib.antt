@@ -1,3 +1,4 @@
 pub mod Making
 pub mod Endings
 pub mod Settling
+pub mod Knowing

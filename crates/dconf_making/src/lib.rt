@@ -1,18 +1,22 @@
 //! A change around a turn: what is asked before there are bytes to write, by [`Making`]; what its program has when it is over,
-//! by [`ending_of`]; and whether its file is on the disk, by [`settling_after`].
+//! by [`ending_of`]; whether its file is on the disk, by [`settling_after`]; and what is known of it, and of others' changes, from one to the next, by
+//! [`StoreKnown`].
 //!
 //! Nothing is kept here. Whoever asks says what it knows, and does as it is told.
 #![tactic(auto)]
 
 ghost use Rattle.dconf_making.specs.Endings.{EndingsAreSo};
+ghost use Rattle.dconf_making.specs.Knowing.{NothingKnownIsLost};
 ghost use Rattle.dconf_making.specs.Making.{NothingUnexpected};
 ghost use Rattle.dconf_making.specs.Settling.{SettledMeansOnDisk};
 
 mod ending;
+mod knowing;
 mod making;
 mod settling;
 
 pub use ending::{DconfdbEnding, Ending, Newest, Told, ending_by, ending_of};
+pub use knowing::{Happening, StoreKnown};
 pub use making::{Ask, Found, Making};
 pub use settling::{Settling, SettlingKnown, number_of_settling, settling_after};
 
@@ -30,4 +34,10 @@ pub fn nothing_unexpected_is_written()
 /// isn't, unless it couldn't be brought there.
 pub fn settled_means_on_disk()
     ensures { SettledMeansOnDisk }
+{}
+
+/// What a store knows is lost by nothing but what ends it: news by being told, what others changed by a note, a change that is perhaps made by a
+/// look that finds another file or by a later one that is made, and that one may not be on the disk by one that is.
+pub fn nothing_known_is_lost()
+    ensures { NothingKnownIsLost }
 {}

@@ -1,2 +1,3 @@
 pub mod RecordLaws
 pub mod RoomLaws
+pub mod TurnLaws

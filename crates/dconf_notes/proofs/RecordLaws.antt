@@ -3,7 +3,6 @@ use Rattle.std.proofs.Common.{ℕ, ◌+◌, ◌*◌, ◌<◌, ◌≤◌, ◌≡�
 use Rattle.std.specs.Prelude.{OnOk}
 use Rattle.std.proofs.Math.ListN.{get_or}
 use Rattle.std.proofs.lemmas.List.{append_cancel_left, take-append-drop, drop_all, drop_more, length-append, map-append}
-use Rattle.std.specs.List.{AllByRecursion}
 use Rattle.dconf_times.specs.declared.times.DconfdbTime.{DconfdbTime}
 use Rattle.gv_model.specs.BasicValue.{number_in}
 use Rattle.gv_model.specs.Encode.{number_bytes}
@@ -182,15 +181,6 @@ of_moment (head ∷ more) end moment e same h =
 pub as_file : (ns : List Noted) (end : List ℕ) (moment : ℕ) → number_bytes 8 moment ≡ end → IsHeaded ns → IsOf moment ns → title ++ (records_bytes ns ++ end) ≡ file_bytes ns
 as_file [] end moment e h o = absurd h
 as_file (head ∷ more) end moment e h o = ap (λ x. title ++ (records_bytes (head ∷ more) ++ x)) (sym e ∙ ap (number_bytes 8) (sym o))
-
--- ---- the latest
-
-pub all_late : (ts : List DconfdbTime) (i mid last : ℕ) (d : DconfdbTime) → i < length ts → (get_or ts i d).when ≤ mid → mid ≤ last → AllByRecursion (λ t. t.when ≤ last) (drop (i + 1) ts) → AllByRecursion (λ t. t.when ≤ last) (drop i ts)
-all_late ts i mid last d inside le more rest =
-    subst (λ (xs : List DconfdbTime). AllByRecursion (λ t. t.when ≤ last) xs) (sym (drop_more ts i d inside)) (omega (arith, le, more), rest)
-
-pub none_later : (ts : List DconfdbTime) (i last : ℕ) → length ts ≤ i → AllByRecursion (λ t. t.when ≤ last) (drop i ts)
-none_later ts i last past = subst (λ (xs : List DconfdbTime). AllByRecursion (λ t. t.when ≤ last) xs) (sym (drop_all i ts past)) tt
 
 pub untitled_is : (bytes front back : List ℕ) → front ≡ take 16 bytes → back ≡ drop 16 bytes → front ≡ title → bytes ≡ title ++ back
 untitled_is bytes front back f b t = sym (joined bytes front back 16 f b) ∙ ap (λ x. x ++ back) t

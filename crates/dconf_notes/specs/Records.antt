@@ -1,6 +1,5 @@
 -- How notes stand in a file: the title, the records, and the moment of the turn once more.
 use Rattle.std.specs.Prelude.{◌≡◌, ◌≤◌, ◌<◌, ◌++◌, ℕ, List, [], ◌∷◌, length, drop, codes}
-use Rattle.std.specs.List.{AllByRecursion}
 use Rattle.gv_model.specs.Encode.{number_bytes}
 use Rattle.dconf_times.specs.declared.times.DconfdbTime.{DconfdbTime}
 
@@ -45,11 +44,6 @@ IsFile bytes notes = IsHeaded notes × (bytes ≡ file_bytes notes)
 -- law: no bytes are those of two lists of notes, so what was written is what is read
 abbrev pub SaysOneThing : Type 0
 SaysOneThing = (bytes : List ℕ) (notes others : List Noted) → IsFile bytes notes → IsFile bytes others → notes ≡ others
-
--- one that says of all that they were set by then
-pub record IsForAll (sets : List DconfdbTime) (one : DconfdbTime) : Type 0 where
-  pub root : one.path.now ≡ codes "/"
-  pub latest : AllByRecursion (λ t. t.when ≤ one.when) sets
 
 -- n is how many bytes there are; they stand at the start of the room, and what is behind them stays.
 -- A room that is too short for them stays as it was.

@@ -38,10 +38,10 @@ elsewhere_by false v t y false gone a b = absurd (let bad : false ≡ true = b i
 elsewhere_by true v t y m gone a b = absurd (let bad : true ≡ false = a in cc)
 
 pub no_alarm_is_false : NoAlarmIsFalse
-no_alarm_is_false k = record {
-  taken = taken_by k.is_known k.has_value k.is_taken k.is_of_type (may_be_there k) (missing k.what);
-  unset = unset_by k.is_known k.has_value k.is_taken k.is_of_type (may_be_there k) (missing k.what);
-  untaken = untaken_by k.is_known k.has_value k.is_taken k.is_of_type (may_be_there k) (missing k.what);
-  unknown = unknown_by k.is_known k.has_value k.is_taken k.is_of_type (may_be_there k) (missing k.what);
-  elsewhere = elsewhere_by k.is_known k.has_value k.is_taken k.is_of_type (may_be_there k) (missing k.what);
+no_alarm_is_false k slip = record {
+  taken = taken_by k.is_known k.has_value k.is_taken k.is_of_type (may_be_there k slip) (missing k.what);
+  unset = unset_by k.is_known k.has_value k.is_taken k.is_of_type (may_be_there k slip) (missing k.what);
+  untaken = untaken_by k.is_known k.has_value k.is_taken k.is_of_type (may_be_there k slip) (missing k.what);
+  unknown = unknown_by k.is_known k.has_value k.is_taken k.is_of_type (may_be_there k slip) (missing k.what);
+  elsewhere = elsewhere_by k.is_known k.has_value k.is_taken k.is_of_type (may_be_there k slip) (missing k.what);
 }

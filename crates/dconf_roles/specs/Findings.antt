@@ -5,8 +5,8 @@ use Rattle.dconf_roles.specs.declared.findings.Finding.TheVariants.{Nothing, NoK
 use Rattle.dconf_roles.specs.declared.findings.FindingKnown.{FindingKnown}
 
 -- no schema is at its directory, one without a path may have it, and it is no slip
-abbrev pub may_be_there : FindingKnown → Bool
-may_be_there k = not k.has_schemas && (k.may_be_elsewhere && not k.is_slip)
+abbrev pub may_be_there : FindingKnown → Bool → Bool
+may_be_there k slip = not k.has_schemas && (k.may_be_elsewhere && not slip)
 
 abbrev pub of_value : FindingKnown → Finding
 of_value k = if not k.has_value || k.is_taken then Nothing else if k.is_of_type then NotTaken else OtherType
@@ -14,8 +14,8 @@ of_value k = if not k.has_value || k.is_taken then Nothing else if k.is_of_type 
 abbrev pub missing : ℕ → Finding
 missing what = if what == 0 then NoKey else if what == 1 then NoLockedKey else NoLockedDirectory
 
-abbrev pub finding_of : FindingKnown → Finding
-finding_of k = if k.is_known then of_value k else if may_be_there k then Nothing else missing k.what
+abbrev pub finding_of : FindingKnown → Bool → Finding
+finding_of k slip = if k.is_known then of_value k else if may_be_there k slip then Nothing else missing k.what
 
 abbrev pub finding_number : Finding → ℕ
 finding_number Nothing = 0
@@ -27,15 +27,15 @@ finding_number NotTaken = 5
 
 -- ---- the law
 
-pub record IsNoFalseAlarm (k : FindingKnown) : Type 0 where
+pub record IsNoFalseAlarm (k : FindingKnown) (slip : Bool) : Type 0 where
   -- a key that a schema has, and that isn't set, or takes its value, is as it should be
-  pub taken : k.is_known ≡ true → k.is_taken ≡ true → finding_of k ≡ Nothing
-  pub unset : k.is_known ≡ true → k.has_value ≡ false → finding_of k ≡ Nothing
+  pub taken : k.is_known ≡ true → k.is_taken ≡ true → finding_of k slip ≡ Nothing
+  pub unset : k.is_known ≡ true → k.has_value ≡ false → finding_of k slip ≡ Nothing
   -- a value that no key takes is found
-  pub untaken : k.is_known ≡ true → k.has_value ≡ true → k.is_taken ≡ false → (finding_of k ≡ NotTaken) ⊎ (finding_of k ≡ OtherType)
+  pub untaken : k.is_known ≡ true → k.has_value ≡ true → k.is_taken ≡ false → (finding_of k slip ≡ NotTaken) ⊎ (finding_of k slip ≡ OtherType)
   -- what is unknown is found, unless a schema without a path may have it
-  pub unknown : k.is_known ≡ false → may_be_there k ≡ false → finding_of k ≡ missing k.what
-  pub elsewhere : k.is_known ≡ false → may_be_there k ≡ true → finding_of k ≡ Nothing
+  pub unknown : k.is_known ≡ false → may_be_there k slip ≡ false → finding_of k slip ≡ missing k.what
+  pub elsewhere : k.is_known ≡ false → may_be_there k slip ≡ true → finding_of k slip ≡ Nothing
 
 abbrev pub NoAlarmIsFalse : Type 0
-NoAlarmIsFalse = (k : FindingKnown) → IsNoFalseAlarm k
+NoAlarmIsFalse = (k : FindingKnown) (slip : Bool) → IsNoFalseAlarm k slip

@@ -2,3 +2,4 @@ pub mod Roles
 pub mod Readings
 pub mod Numbers
 pub mod Findings
+pub mod Slips

@@ -1,6 +1,10 @@
 //! What is found wrong with a key that is set, and with a lock.
-ghost use Rattle.std.specs.Prelude.{◌≡◌};
+ghost use Rattle.std.specs.Prelude.{◌≡◌, map};
+ghost use Rattle.std.specs.List.{list_any};
 ghost use Rattle.dconf_roles.specs.Findings.{finding_of, finding_number, may_be_there, missing, of_value};
+ghost use Rattle.dconf_roles.specs.Slips.{is_slip};
+
+use crate::slips::{Name, has_slip};
 
 /// What is found.
 #[derive(Clone, Copy)]
@@ -30,8 +34,6 @@ pub struct FindingKnown {
     pub has_schemas: bool,
     /// A schema without a path has a key of that name; of a directory, there is such a schema.
     pub may_be_elsewhere: bool,
-    /// It is a slip away from where a schema has such a key.
-    pub is_slip: bool,
     /// It is set to a value.
     pub has_value: bool,
     /// One of the keys takes the value.
@@ -40,14 +42,15 @@ pub struct FindingKnown {
     pub is_of_type: bool,
 }
 
-/// What is found of a key that is set, or of a lock. What a schema without a path may have is passed over, unless it looks like a slip.
-pub fn finding_of(known: &FindingKnown) -> Finding
-    ensures { result ≡ finding_of known.now }
+/// What is found of a key that is set, or of a lock. What a schema without a path may have is passed over, unless it is a slip away from a
+/// directory where a schema has such a key.
+pub fn finding_of(known: &FindingKnown, directory: &[u8], others: &[Name<'_>]) -> Finding
+    ensures { result ≡ finding_of known.now (list_any (λ other. is_slip directory.now other.text.now) others.now) }
 {
     if known.is_known {
         return of_value(known);
     }
-    if may_be_there(known) {
+    if may_be_there(known, has_slip(directory, others)) {
         return Finding::Nothing;
     }
     missing(known.what)
@@ -55,10 +58,10 @@ pub fn finding_of(known: &FindingKnown) -> Finding
 
 /// The same as a number: 0 nothing, 1 no schema has the key, 2 the locked key, 3 a key below the locked directory, 4 the value is of another
 /// type, 5 the key doesn't take it.
-pub fn finding_number(known: &FindingKnown) -> u32
-    ensures { result ≡ finding_number (finding_of known.now) }
+pub fn finding_number(known: &FindingKnown, directory: &[u8], others: &[Name<'_>]) -> u32
+    ensures { result ≡ finding_number (finding_of known.now (list_any (λ other. is_slip directory.now other.text.now) others.now)) }
 {
-    match finding_of(known) {
+    match finding_of(known, directory, others) {
         Finding::Nothing => 0,
         Finding::NoKey => 1,
         Finding::NoLockedKey => 2,
@@ -68,10 +71,10 @@ pub fn finding_number(known: &FindingKnown) -> u32
     }
 }
 
-fn may_be_there(known: &FindingKnown) -> bool
-    ensures { result ≡ may_be_there known.now }
+fn may_be_there(known: &FindingKnown, is_slip: bool) -> bool
+    ensures { result ≡ may_be_there known.now is_slip }
 {
-    !known.has_schemas && (known.may_be_elsewhere && !known.is_slip)
+    !known.has_schemas && (known.may_be_elsewhere && !is_slip)
 }
 
 fn of_value(known: &FindingKnown) -> Finding

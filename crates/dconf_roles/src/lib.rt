@@ -11,11 +11,13 @@ mod findings;
 mod numbers;
 mod readings;
 mod roles;
+mod slips;
 
 pub use findings::{Finding, FindingKnown, finding_number, finding_of};
 pub use numbers::{reading_number, role_number};
 pub use readings::{ReadAs, reading};
 pub use roles::{Role, role_after, role_among};
+pub use slips::{Name, has_slip};
 
 /// A file in a folder NAME.d, or in its folder `locks`, is a keyfile, or one of locks, if `update` reads it, and else it is hidden.
 pub fn what_update_reads_is_read()

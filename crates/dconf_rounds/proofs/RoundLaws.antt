@@ -3,7 +3,7 @@ use Rattle.std.proofs.Common.{ℕ, ◌≡◌, Bool, true, false, not, refl, sym,
 use Rattle.std.specs.Prelude.{◌&&◌, ◌||◌, if◌then◌else◌, nat_lt}
 use Rattle.dconf_rounds.specs.declared.rounds.Task.{Task}
 use Rattle.dconf_rounds.specs.declared.rounds.Task.TheVariants.{Tell, Watch, Look, Take, Write, Leave, Rest, End, GiveUp}
-use Rattle.dconf_rounds.specs.Rounds.{watches, looks_first, takes, writes, leaves, is_left, has_failed, task_number, is_over, NothingDueIsPassedOver}
+use Rattle.dconf_rounds.specs.Rounds.{watches, looks_first, takes, is_waiting, writes, leaves, is_left, has_failed, task_number, is_over, NothingDueIsPassedOver}
 
 abbrev by : Bool → Bool → Bool → Bool → Bool → Bool → Task → Task
 by tells watched looked took wrote left end =
@@ -137,7 +137,11 @@ nothing_due_is_passed_over done k =
       turn = λ e.
           let due : c ≡ true = write_is_due a b l t c d end (no_write k.ends k.waits (is_left k) (has_failed k)) e in
           let both : writes k ≡ true = and_right (nat_lt done 5) (writes k) due in
-          (and_left k.waits k.has_turn both, and_right k.waits k.has_turn both);
+          let asked : (k.has_asked && not (is_waiting k)) ≡ true = and_right k.waits (k.has_asked && not (is_waiting k)) both in (
+            and_left k.waits (k.has_asked && not (is_waiting k)) both,
+            and_left k.has_asked (not (is_waiting k)) asked,
+            and_right k.has_asked (not (is_waiting k)) asked,
+          );
       lives = λ e. lives_by a b l t c d end (rests k.ends k.waits (is_left k) (has_failed k) e);
       gives_up = λ e. given_up k.ends k.waits (is_left k) (has_failed k) (give_up_is_the_end a b l t c d end e);
       ends = λ e. ended k.ends k.waits (is_left k) (has_failed k) (end_is_the_end a b l t c d end e);

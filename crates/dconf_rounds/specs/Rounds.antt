@@ -21,9 +21,13 @@ takes k = k.waits && (k.is_in_line || (k.is_asked || nat_le k.again k.moment))
 abbrev pub looks_first : Known → Bool
 looks_first k = takes k && (k.asks || not k.is_watched)
 
--- something waits, and its turn has come
+-- others have the turn, and it goes on waiting for its own
+abbrev pub is_waiting : Known → Bool
+is_waiting k = k.is_others && k.is_in_line
+
+-- something waits, and its turn has come, or was waited for in vain
 abbrev pub writes : Known → Bool
-writes k = k.waits && k.has_turn
+writes k = k.waits && (k.has_asked && not (is_waiting k))
 
 -- nothing waits, but it is in line, or was to try again
 abbrev pub leaves : Known → Bool
@@ -86,7 +90,7 @@ pub record IsGoodRound (done : ℕ) (k : Known) : Type 0 where
   -- each task comes once, and those before it don't come after it
   pub forward : is_over (task_after done k) ≡ false → nat_lt done (task_number (task_after done k)) ≡ true
   -- nothing is written before its turn has come
-  pub turn : task_after done k ≡ Write → (k.waits ≡ true) × (k.has_turn ≡ true)
+  pub turn : task_after done k ≡ Write → (k.waits ≡ true) × (k.has_asked ≡ true) × (not (is_waiting k) ≡ true)
   -- while the program goes on, so does the thread
   pub lives : k.ends ≡ false → is_over (task_after done k) ≡ true → task_after done k ≡ Rest
   -- what waits is given up only at the program's end, after a later try has failed

@@ -26,7 +26,7 @@ pub fn nothing_due_is_passed_over()
 {}
 
 /// Whoever asks is told yes exactly if all that waited then is settled, its turn to look came, and what was there already is on the
-/// disk. The files were looked at since.
+/// disk. The files were looked at since. What failed, and is to be tried again, is tried now.
 pub fn yes_means_all_is_there()
     ensures { YesMeansAllIsThere }
 {}

@@ -1,6 +1,6 @@
 //! What the thread does next that writes what waits, tells, and watches the files. All moments are of one clock; 0 is none.
 ghost use Rattle.std.specs.Prelude.{◌≡◌};
-ghost use Rattle.dconf_rounds.specs.Rounds.{ending, has_failed, is_at_work, is_left, leaves, looks_first, takes, task_after, task_number, watches, writes};
+ghost use Rattle.dconf_rounds.specs.Rounds.{ending, has_failed, is_at_work, is_left, is_waiting, leaves, looks_first, takes, task_after, task_number, watches, writes};
 
 /// A task of a round, in the order in which they come.
 #[derive(Clone, Copy)]
@@ -44,8 +44,8 @@ pub struct Known {
     pub waits: bool,
     /// It is in line for its turn to write.
     pub is_in_line: bool,
-    /// It has it, or waited for it in vain.
-    pub has_turn: bool,
+    /// It has asked for it in this round,
+    pub has_asked: bool,
     pub has_untold: bool,
     /// Somebody wants to be told of what others change.
     pub is_to_watch: bool,
@@ -55,6 +55,8 @@ pub struct Known {
     pub asks: bool,
     /// What others change is told without a look at the files.
     pub is_watched: bool,
+    /// and others have theirs.
+    pub is_others: bool,
 }
 
 /// Whether what was begun in one process is at work in this one: it has not ended, and this is no child of that process by fork(), which has
@@ -130,7 +132,14 @@ fn takes(known: &Known) -> bool
 fn writes(known: &Known) -> bool
     ensures { result ≡ writes known.now }
 {
-    known.waits && known.has_turn
+    known.waits && (known.has_asked && !is_waiting(known))
+}
+
+/// Others have the turn, and it goes on waiting for its own. Who isn't in line has waited in vain, and is told by the write that fails.
+fn is_waiting(known: &Known) -> bool
+    ensures { result ≡ is_waiting known.now }
+{
+    known.is_others && known.is_in_line
 }
 
 fn leaves(known: &Known) -> bool

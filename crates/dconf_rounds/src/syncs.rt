@@ -1,10 +1,12 @@
 //! What whoever wants to know that all is on the disk does next.
 ghost use Rattle.std.specs.Prelude.{◌≡◌};
-ghost use Rattle.dconf_rounds.specs.Syncs.{looks, sync_after, sync_number};
+ghost use Rattle.dconf_rounds.specs.Syncs.{asks, looks, sync_after, sync_number};
 
 /// What comes next, in this order.
 #[derive(Clone, Copy)]
 pub enum SyncTask {
+    /// Asks the thread that writes for a try now. Any answer will do.
+    Ask,
     /// Writes what waits, since no other thread does.
     Write,
     /// Waits until all that waits now is settled. It answers whether it is.
@@ -27,6 +29,8 @@ pub enum SyncTask {
 pub struct SyncKnown {
     /// Another thread writes what waits.
     pub has_writer: bool,
+    /// A try has failed by a fault that lasts, and is to be made again later.
+    pub has_failed: bool,
     /// There is a store.
     pub has_store: bool,
     /// The files were looked at since it was asked for.
@@ -39,40 +43,51 @@ pub struct SyncKnown {
 pub fn sync_after(done: u32, is_so: bool, known: &SyncKnown) -> SyncTask
     ensures { result ≡ sync_after done is_so known.now }
 {
-    if done < 1 && !known.has_writer {
+    if done < 1 && asks(known) {
+        return SyncTask::Ask;
+    }
+    if done < 2 && !known.has_writer {
         return SyncTask::Write;
     }
-    if done < 2 {
+    if done < 3 {
         return SyncTask::Await;
     }
-    if done != 4 && !is_so {
+    if done != 5 && !is_so {
         return SyncTask::No;
     }
-    if done < 3 {
+    if done < 4 {
         return SyncTask::Take;
     }
-    if done < 4 && looks(known) {
+    if done < 5 && looks(known) {
         return SyncTask::Look;
     }
-    if done < 5 && known.is_to_settle {
+    if done < 6 && known.is_to_settle {
         return SyncTask::Settle;
     }
     SyncTask::Yes
 }
 
-/// The same as a number: 1 write, 2 await, 3 take, 4 look, 5 settle, 6 yes, 7 no.
+/// The same as a number: 1 ask, 2 write, 3 await, 4 take, 5 look, 6 settle, 7 yes, 8 no.
 pub fn sync_number(done: u32, is_so: bool, known: &SyncKnown) -> u32
     ensures { result ≡ sync_number (sync_after done is_so known.now) }
 {
     match sync_after(done, is_so, known) {
-        SyncTask::Write => 1,
-        SyncTask::Await => 2,
-        SyncTask::Take => 3,
-        SyncTask::Look => 4,
-        SyncTask::Settle => 5,
-        SyncTask::Yes => 6,
-        SyncTask::No => 7,
+        SyncTask::Ask => 1,
+        SyncTask::Write => 2,
+        SyncTask::Await => 3,
+        SyncTask::Take => 4,
+        SyncTask::Look => 5,
+        SyncTask::Settle => 6,
+        SyncTask::Yes => 7,
+        SyncTask::No => 8,
     }
+}
+
+/// Whether somebody else writes, and is to try again what failed.
+fn asks(known: &SyncKnown) -> bool
+    ensures { result ≡ asks known.now }
+{
+    known.has_writer && known.has_failed
 }
 
 fn looks(known: &SyncKnown) -> bool

@@ -1,6 +1,6 @@
 -- What holds of each answer, whatever is known.
-use Rattle.std.proofs.Common.{ℕ, ◌≡◌, ◌≢◌, ◌⊎◌, inl, inr, Bool, true, false, not, refl, sym, ◌∙◌}
-use Rattle.std.specs.Prelude.{◌&&◌, ◌||◌, if◌then◌else◌, nat_lt, nat_le}
+use Rattle.std.proofs.Common.{◌≡◌, ◌≢◌, ◌⊎◌, inl, inr, Bool, true, false, not, refl, sym, ◌∙◌}
+use Rattle.std.specs.Prelude.{◌&&◌, if◌then◌else◌, nat_lt, nat_le}
 use Rattle.dconf_served.specs.declared.served.Served.{Served}
 use Rattle.dconf_served.specs.declared.served.Served.TheVariants.{GoesOn, Acknowledged, Failed, Closed, Odd, TooLarge, TooMuch, TooManyNames}
 use Rattle.dconf_served.specs.Served.{has_room, is_odd, lasts, NothingIsAnsweredUnwritten, WhatWaitsIsBounded}
@@ -53,6 +53,10 @@ unread : (odd : Bool) → (if odd then Odd else GoesOn) ≢ Acknowledged
 unread true e = let bad : Odd ≡ Acknowledged = e in cc
 unread false e = let bad : GoesOn ≡ Acknowledged = e in cc
 
+named : (large : Bool) → (if large then TooLarge else GoesOn) ≡ GoesOn → large ≡ false
+named true e = absurd (let bad : TooLarge ≡ GoesOn = e in cc)
+named false e = refl
+
 both : (a b : Bool) → a && b ≡ true → (a ≡ true) × (b ≡ true)
 both true b e = (refl, e)
 both false b e = absurd (let bad : false ≡ true = e in cc)
@@ -80,4 +84,5 @@ what_waits_is_bounded k = record {
   size = λ e. (goes_on (nat_lt 67108864 k.size) (not k.is_used && nat_le 64 k.names) (has_room k) e).0;
   waiting = λ e. both (nat_lt k.waiting 10000) (nat_lt k.waiting_size 268435456) (goes_on (nat_lt 67108864 k.size) (not k.is_used && nat_le 64 k.names) (has_room k) e).2;
   names = λ e u. unused k.is_used (nat_le 64 k.names) (goes_on (nat_lt 67108864 k.size) (not k.is_used && nat_le 64 k.names) (has_room k) e).1 u;
+  told = named (nat_lt 16777216 k.size);
 }

@@ -33,8 +33,14 @@ tried k =
     if not k.is_written && not (lasts k) then GoesOn else if is_odd k then Odd else if not k.has_edits then Acknowledged else
     if not k.is_written then Failed else if k.is_closed then Closed else Acknowledged
 
+-- ---- when it is told
+
+-- 16 MiB of paths are named at most
+abbrev pub told : ServedKnown → Served
+told k = if nat_lt 16777216 k.size then TooLarge else GoesOn
+
 abbrev pub served_after : ℕ → ServedKnown → Served
-served_after done k = if done == 0 then came k else if done == 1 then read k else tried k
+served_after done k = if done == 0 then came k else if done == 1 then read k else if done == 3 then told k else tried k
 
 abbrev pub served_number : Served → ℕ
 served_number GoesOn = 0
@@ -65,6 +71,7 @@ pub record IsBounded (k : ServedKnown) : Type 0 where
   pub size : came k ≡ GoesOn → nat_lt 67108864 k.size ≡ false
   pub waiting : came k ≡ GoesOn → (nat_lt k.waiting 10000 ≡ true) × (nat_lt k.waiting_size 268435456 ≡ true)
   pub names : came k ≡ GoesOn → k.is_used ≡ false → nat_le 64 k.names ≡ false
+  pub told : served_after 3 k ≡ GoesOn → nat_lt 16777216 k.size ≡ false
 
 abbrev pub WhatWaitsIsBounded : Type 0
 WhatWaitsIsBounded = (k : ServedKnown) → IsBounded k

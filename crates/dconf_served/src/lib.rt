@@ -15,7 +15,8 @@ pub fn nothing_is_answered_unwritten()
     ensures { NothingIsAnsweredUnwritten }
 {}
 
-/// However much is asked for, so many changes wait at most, each of so many bytes, and of so many databases.
+/// However much is asked for, so many changes wait at most, each of so many bytes, and of so many databases; and a notice names so many
+/// bytes of paths.
 pub fn what_waits_is_bounded()
     ensures { WhatWaitsIsBounded }
 {}

@@ -1,6 +1,6 @@
 //! What becomes of a call that changes settings.
 ghost use Rattle.std.specs.Prelude.{◌≡◌};
-ghost use Rattle.dconf_served.specs.Served.{came, has_room, is_odd, lasts, read, served_after, served_number, tried};
+ghost use Rattle.dconf_served.specs.Served.{came, has_room, is_odd, lasts, read, served_after, served_number, told, tried};
 
 /// A change has so many bytes at most.
 const LARGEST: u64 = 67_108_864;
@@ -16,6 +16,9 @@ const MOST_NAMES: u64 = 64;
 /// To bring bytes into normal form takes GLib a time with the square of their number. Who sends more than that uses no GVariant library.
 const MOST_ODD: u64 = 32_768;
 
+/// A notice names paths of so many bytes at most.
+const MOST_TOLD: u64 = 16_777_216;
+
 /// What becomes of a change.
 #[derive(Clone, Copy)]
 pub enum Served {
@@ -29,7 +32,7 @@ pub enum Served {
     Closed,
     /// It is refused: its bytes aren't in normal form, and too many to be brought into it.
     Odd,
-    /// It is refused: it has too many bytes.
+    /// It has too many bytes: it is refused; or, of what is told, the directory is named in which all is.
     TooLarge,
     /// It is refused: too much waits.
     TooMuch,
@@ -41,7 +44,7 @@ pub enum Served {
 #[repr(C)]
 #[derive(Clone, Copy)]
 pub struct ServedKnown {
-    /// How many bytes it was sent in.
+    /// How many bytes it was sent in; of what is told, how many the paths have.
     pub size: u64,
     /// How many changes wait, and how many bytes they have together.
     pub waiting: u64,
@@ -61,13 +64,14 @@ pub struct ServedKnown {
     pub is_closed: bool,
 }
 
-/// What becomes of a change: 0 it came, 1 it is read, and else it was tried to write it.
+/// What becomes of a change: 0 it came, 1 it is read, 3 what is seen otherwise by it is told, and else it was tried to write it.
 pub fn served_after(done: u32, known: &ServedKnown) -> Served
     ensures { result ≡ served_after done known.now }
 {
     match done {
         0 => came(known),
         1 => read(known),
+        3 => told(known),
         _ => tried(known),
     }
 }
@@ -144,6 +148,15 @@ fn tried(known: &ServedKnown) -> Served
         return Served::Closed;
     }
     Served::Acknowledged
+}
+
+fn told(known: &ServedKnown) -> Served
+    ensures { result ≡ told known.now }
+{
+    if known.size > MOST_TOLD {
+        return Served::TooLarge;
+    }
+    Served::GoesOn
 }
 
 fn lasts(known: &ServedKnown) -> bool

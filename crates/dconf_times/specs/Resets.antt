@@ -1,6 +1,6 @@
 -- When what waits counts as set. A directory is reset in the turn itself, whenever that was asked for, and with it all of its change; so is
 -- what sets something in it. Nothing else is.
-use Rattle.std.specs.Prelude.{◌≡◌, ◌≤◌, ◌==◌, ℕ, Bool, false, List, IsTrue, ◌&&◌, if◌then◌else◌}
+use Rattle.std.specs.Prelude.{◌≡◌, ◌≤◌, ℕ, Bool, false, List, IsTrue, ◌&&◌, ◌||◌, if◌then◌else◌}
 use Rattle.std.specs.List.{list_any}
 use Rattle.dconf_model.specs.Locks.{covers}
 use Rattle.dconf_model.specs.Paths.{ends_with_slash}
@@ -8,39 +8,44 @@ use Rattle.dconf_times.specs.Moments.{time_of_moment}
 use Rattle.dconf_times.specs.Noted.{is_among}
 use Rattle.dconf_times.specs.Times.{Note}
 
--- the edit was asked for in that moment, and is of the directory itself, or of what is in it
-abbrev pub is_in : ℕ → List ℕ → Note → Bool
-is_in moment directory edit = (edit.when == moment) && covers directory edit.path
+-- the edit resets a directory
+abbrev pub is_reset : Note → Bool
+is_reset edit = ends_with_slash edit.path
 
--- this one resets a directory, and one of the change that was asked for in that moment is in it
-abbrev pub is_of_reset : List Note → ℕ → Note → Bool
-is_of_reset waiting moment other = ends_with_slash other.path && list_any (is_in moment other.path) waiting
+-- it is of the directory itself, or of what is in it
+abbrev pub is_in : List ℕ → Note → Bool
+is_in directory edit = covers directory edit.path
+
+-- something of the change is in a directory that this edit resets
+abbrev pub is_in_reset : List Note → Note → Bool
+is_in_reset change other = is_reset other && list_any (is_in other.path) change
 
 -- the last of all moments, which is the turn's: what has not come yet is now
 abbrev pub turns_own : ℕ
 turns_own = 18446744073709551615
 
--- The moment of a change beside all edits that wait, each of them with the moment in which it was asked for.
-abbrev pub moment_beside : List Note → ℕ → ℕ
-moment_beside waiting moment = if list_any (is_of_reset waiting moment) waiting then turns_own else moment
+-- The moment of a change that was asked for in this one, beside the edits that are written with it.
+abbrev pub moment_beside : List Note → List Note → ℕ → ℕ
+moment_beside change others moment =
+    if list_any is_reset change || list_any (is_in_reset change) others then turns_own else moment
 
 -- ---- the law
 
-pub record AreMomentsKept (waiting : List Note) : Type 0 where
-  -- without a directory that is reset each change keeps its moment, so that what others set later stays
-  pub plain : (moment : ℕ) → list_any (λ edit. ends_with_slash edit.path) waiting ≡ false → moment_beside waiting moment ≡ moment
-  -- and beside some those of which nothing is in one
-  pub apart : (moment : ℕ) → list_any (is_of_reset waiting moment) waiting ≡ false → moment_beside waiting moment ≡ moment
+pub record AreMomentsKept (change others : List Note) (moment : ℕ) : Type 0 where
+  -- a change of which nothing is in a directory that is reset keeps its moment, so that what others set later stays
+  pub apart : list_any is_reset change ≡ false → list_any (is_in_reset change) others ≡ false → moment_beside change others moment ≡ moment
+  -- so does each where none is
+  pub plain : list_any is_reset change ≡ false → list_any is_reset others ≡ false → moment_beside change others moment ≡ moment
   -- a directory is reset in the turn
-  pub directory : (edit : Note) → IsTrue (is_among edit waiting) → IsTrue (ends_with_slash edit.path) → moment_beside waiting edit.when ≡ turns_own
+  pub directory : (edit : Note) → IsTrue (is_among edit change) → IsTrue (is_reset edit) → moment_beside change others moment ≡ turns_own
   -- and what is set in it is no earlier
-  pub below : (edit other : Note) → IsTrue (is_among edit waiting) → IsTrue (is_among other waiting) → IsTrue (ends_with_slash other.path)
-      → IsTrue (covers other.path edit.path) → moment_beside waiting edit.when ≡ turns_own
+  pub below : (edit other : Note) → IsTrue (is_among edit change) → IsTrue (is_among other others) → IsTrue (is_reset other)
+      → IsTrue (covers other.path edit.path) → moment_beside change others moment ≡ turns_own
 
 -- the turn's own moment is the latest: of all moments of a clock of 64 bits none has a later time
 abbrev pub IsTurnsLatest : Type 0
 IsTurnsLatest = (now boot noted moment : ℕ) → moment ≤ turns_own → time_of_moment now boot moment noted ≤ time_of_moment now boot turns_own noted
 
 pub record MomentsAreKept : Type 0 where
-  pub each : (waiting : List Note) → AreMomentsKept waiting
+  pub each : (change others : List Note) (moment : ℕ) → AreMomentsKept change others moment
   pub latest : IsTurnsLatest

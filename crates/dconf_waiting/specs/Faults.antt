@@ -11,8 +11,9 @@ abbrev pub longest : Bool → ℕ
 longest true = 10000000
 longest false = 1500000
 
-abbrev pub no_fault : Failing
-no_fault = record { since = 0; pause = 0; is_there = false; is_said = false }
+-- after so many tries
+abbrev pub no_fault : ℕ → Failing
+no_fault tries = record { since = 0; pause = 0; again = 0; due = 0; tries = tries; failed = 0; is_there = false; is_said = false }
 
 abbrev pub since_of : Failing → ℕ → ℕ
 since_of f now = if f.is_there then f.since else now
@@ -29,10 +30,28 @@ word_of f is_there is_momentary tries_again now =
 abbrev pub is_said_after : Failing → Bool → Bool → ℕ → Bool
 is_said_after f is_momentary tries_again now = f.is_said || lasts f is_momentary tries_again now
 
+-- when it will be said, if it is there then; of what was said, 0
+abbrev pub due_after : Failing → Bool → Bool → ℕ → ℕ
+due_after f is_momentary tries_again now =
+    if is_said_after f is_momentary tries_again now then 0 else later_by (since_of f now) (longest is_momentary)
+
+-- this try has failed by a fault that lasts, or an older one has
+abbrev pub failed_after : Failing → Bool → Bool → ℕ → ℕ
+failed_after f is_momentary tries_again now = if lasts f is_momentary tries_again now then f.tries else f.failed
+
 abbrev pub failing_after : Failing → Bool → Bool → Bool → ℕ → Failing
 failing_after f is_there is_momentary tries_again now =
-    if not is_there then no_fault else
-    record { since = since_of f now; pause = next_pause f.pause; is_there = true; is_said = is_said_after f is_momentary tries_again now }
+    if not is_there then no_fault f.tries else
+    record {
+      since = since_of f now;
+      pause = next_pause f.pause;
+      again = later_by now (next_pause f.pause);
+      due = due_after f is_momentary tries_again now;
+      tries = f.tries;
+      failed = failed_after f is_momentary tries_again now;
+      is_there = true;
+      is_said = is_said_after f is_momentary tries_again now;
+    }
 
 abbrev pub word_number : Word → ℕ
 word_number Nothing = 0
@@ -56,7 +75,12 @@ pub record IsSaidOnce (f : Failing) (is_there is_momentary tries_again : Bool) (
   -- as long as it is there
   pub kept : f.is_said ≡ true → is_there ≡ true → (failing_after f is_there is_momentary tries_again now).is_said ≡ true
   -- and no longer
-  pub over : is_there ≡ false → failing_after f is_there is_momentary tries_again now ≡ no_fault
+  pub over : is_there ≡ false → failing_after f is_there is_momentary tries_again now ≡ no_fault f.tries
+  -- a try that fails by what lasts is known as such
+  pub failed : is_there ≡ true → lasts f is_momentary tries_again now ≡ true → (failing_after f is_there is_momentary tries_again now).failed ≡ f.tries
+  -- and when it will last is known until it is said
+  pub due : is_there ≡ true → is_said_after f is_momentary tries_again now ≡ false
+      → lasts (failing_after f is_there is_momentary tries_again now) is_momentary tries_again (failing_after f is_there is_momentary tries_again now).due ≡ true
 
 abbrev pub EachFaultIsSaidOnce : Type 0
 EachFaultIsSaidOnce = (f : Failing) (is_there is_momentary tries_again : Bool) (now : ℕ) → IsSaidOnce f is_there is_momentary tries_again now

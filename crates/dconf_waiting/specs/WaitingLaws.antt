@@ -1,13 +1,13 @@
 -- What holds of changes that wait, whatever comes.
 use Rattle.std.specs.Prelude.{ℕ, ◌≡◌, ◌≢◌, ◌↔◌, ◌+◌, ◌≤◌, ◌<◌, Bool, true, false, not, ◌&&◌, filter, map, List, [], ◌∷◌, ◌++◌, length, replicate, if◌then◌else◌, ◌==◌}
 use Rattle.std.specs.List.{AllByRecursion}
-use Rattle.std.specs.List.Sorted.{IsNonDecreasingBy}
-use Rattle.dconf_waiting.specs.declared.fate.Fate.TheVariants.{Waits, Written, Refused, Overtaken, Renewed}
+use Rattle.dconf_waiting.specs.declared.fate.Fate.TheVariants.{Waits, Written, Refused, Overtaken}
 use Rattle.dconf_waiting.specs.declared.fate.Waiter.{Waiter}
 use Rattle.dconf_files.specs.declared.stamp.FileTime.{FileTime}
 use Rattle.dconf_waiting.specs.declared.patience.Patience.{Patience}
 use Rattle.dconf_waiting.specs.Newest.{found, IsPut}
-use Rattle.dconf_waiting.specs.Fates.{fate_of, is_made, is_overtaken, marked, waits}
+use Rattle.dconf_waiting.specs.declared.line.Tally.{Tally}
+use Rattle.dconf_waiting.specs.Fates.{IsInTurn, IsStillWaiting, fate_of, is_made, is_overtaken, marked, tallied, waits}
 use Rattle.dconf_waiting.specs.Patiences.{renewed_by, unbegun}
 
 -- ---- the newest edit of a key
@@ -48,30 +48,31 @@ pub record IsGoodFate (is_written : Bool) (w : Waiter) : Type 0 where
   pub overtaken : fate_of is_written w ≡ Overtaken
       → (w.edit.number < w.newest.number) × (w.edit.is_alone ≡ true) × (w.newest.is_alone ≡ true) × (is_overtaken w.newest w.newest ≡ false)
   -- nothing is overtaken that nobody tried to write
-  pub untried : w.is_tried ≡ false → w.is_refused ≡ false → (w.asks && w.is_there) ≡ false → w.is_renewed ≡ false → fate_of is_written w ≡ Waits
-  pub renewed : fate_of is_written w ≡ Renewed → w.is_renewed ≡ true
+  pub untried : w.is_tried ≡ false → w.is_refused ≡ false → (w.asks && w.is_there) ≡ false → fate_of is_written w ≡ Waits
   -- the newest of a key waits until it is written or refused
-  pub stays : is_made is_written w ≡ false → w.is_refused ≡ false → w.newest.number ≤ w.edit.number → w.is_renewed ≡ false → fate_of is_written w ≡ Waits
+  pub stays : is_made is_written w ≡ false → w.is_refused ≡ false → w.newest.number ≤ w.edit.number → fate_of is_written w ≡ Waits
 
 abbrev pub NothingIsLost : Type 0
 NothingIsLost = (is_written : Bool) (w : Waiter) → IsGoodFate is_written w
 
 -- ---- in which order they wait
 
--- those that were not set once more
-abbrev pub is_old : Waiter → Bool
-is_old w = not w.is_renewed
+-- Wherever they stood, those that go on waiting are in the order in which they were set.
+abbrev pub WhatWaitsIsInOrder : Type 0
+WhatWaitsIsInOrder = (is_written : Bool) (line now : List Waiter) → IsStillWaiting is_written line now → IsInTurn now
 
--- those that go on waiting in their places
-abbrev pub still : Bool → List Waiter → List Waiter
-still is_written line = filter waits (map (marked is_written) line)
+-- ---- how many are settled
 
--- each was set no later than those behind it, by the moments in which the changes were set
-abbrev pub IsInOrder : (ℕ → ℕ) → List Waiter → Type 0
-IsInOrder set line = IsNonDecreasingBy (λ (w : Waiter). set w.change) line
+-- so many were in line once
+abbrev pub all_of : Tally → ℕ → ℕ
+all_of t waiting = t.settled + (t.overtaken + waiting)
 
-abbrev pub WhatWaitsKeepsItsOrder : Type 0
-WhatWaitsKeepsItsOrder = (is_written : Bool) (line : List Waiter) (set : ℕ → ℕ) → IsInOrder set (filter is_old line) → IsInOrder set (still is_written line)
+-- Each change of a line waits, or is counted, once: a count of 64 bits is enough.
+abbrev pub EachIsCountedOnce : Type 0
+EachIsCountedOnce =
+    (is_written : Bool) (line : List Waiter) (t : Tally) → all_of t (length line) < 18446744073709551616 →
+    let marked_line : List Waiter = map (marked is_written) line in
+    all_of (tallied is_written marked_line t) (length (filter waits marked_line)) ≡ all_of t (length line)
 
 -- ---- how long somebody waits
 

@@ -1,6 +1,6 @@
 //! What is said of a fault while it lasts, and when what failed by it is tried again. All moments are of one clock, in microseconds.
 ghost use Rattle.std.specs.Prelude.{◌≡◌};
-ghost use Rattle.dconf_waiting.specs.Faults.{failing_after, is_said_after, lasts, longest, since_of, word_number, word_of};
+ghost use Rattle.dconf_waiting.specs.Faults.{due_after, failed_after, failing_after, is_said_after, lasts, longest, no_fault, since_of, word_number, word_of};
 
 use crate::due::pause_after;
 
@@ -9,14 +9,21 @@ const LONGEST_MOMENT: u64 = 10_000_000;
 
 const LONGEST_FAULT: u64 = 1_500_000;
 
-/// A fault that was met, and is there still; all zeros: there is none.
+/// A fault that was met, and is there still; all zeros, but for `tries`: there is none.
 #[repr(C)]
 #[derive(Clone, Copy)]
 pub struct Failing {
     /// Since when it is there.
     pub since: u64,
-    /// The pause before the next try.
+    /// The pause before the next try, and when that is.
     pub pause: u64,
+    pub again: u64,
+    /// When it will be said, if it is there then; of what was said, 0.
+    pub due: u64,
+    /// How many tries there were, by whoever tries.
+    pub tries: u64,
+    /// Which of them was the last that failed by it once it lasted; 0: none did.
+    pub failed: u64,
     pub is_there: bool,
     /// It was said.
     pub is_said: bool,
@@ -76,16 +83,16 @@ impl Failing {
         ensures { result ≡ failing_after self.now is_there is_momentary tries_again now }
     {
         if !is_there {
-            return Failing {
-                since: 0,
-                pause: 0,
-                is_there: false,
-                is_said: false,
-            };
+            return no_fault(self.tries);
         }
+        let pause = pause_after(self.pause);
         Failing {
             since: self.since(now),
-            pause: pause_after(self.pause),
+            pause,
+            again: now.saturating_add(pause),
+            due: self.due_after(is_momentary, tries_again, now),
+            tries: self.tries,
+            failed: self.failed_after(is_momentary, tries_again, now),
             is_there: true,
             is_said: self.is_said_after(is_momentary, tries_again, now),
         }
@@ -95,6 +102,25 @@ impl Failing {
         ensures { result ≡ is_said_after self.now is_momentary tries_again now }
     {
         self.is_said || self.lasts(is_momentary, tries_again, now)
+    }
+
+    fn due_after(&self, is_momentary: bool, tries_again: bool, now: u64) -> u64
+        ensures { result ≡ due_after self.now is_momentary tries_again now }
+    {
+        if self.is_said_after(is_momentary, tries_again, now) {
+            return 0;
+        }
+        self.since(now).saturating_add(longest(is_momentary))
+    }
+
+    fn failed_after(&self, is_momentary: bool, tries_again: bool, now: u64) -> u64
+        ensures { result ≡ failed_after self.now is_momentary tries_again now }
+    {
+        if self.lasts(is_momentary, tries_again, now) {
+            self.tries
+        } else {
+            self.failed
+        }
     }
 
     /// Whether it lasts: nobody tries again by themselves, or it is there for longer than such a fault mostly is.
@@ -108,6 +134,22 @@ impl Failing {
         ensures { result ≡ since_of self.now now }
     {
         if self.is_there { self.since } else { now }
+    }
+}
+
+/// After so many tries.
+fn no_fault(tries: u64) -> Failing
+    ensures { result ≡ no_fault tries }
+{
+    Failing {
+        since: 0,
+        pause: 0,
+        again: 0,
+        due: 0,
+        tries,
+        failed: 0,
+        is_there: false,
+        is_said: false,
     }
 }
 

@@ -2,10 +2,10 @@
 ghost use Rattle.std.specs.Prelude.{◌≡◌};
 ghost use Rattle.dconf_waiting.specs.Fates.{fate_number, fate_of, is_made, is_overtaken};
 
-/// What became of a change when it was tried to write what waits, or the files were looked at, or it was set once more.
+/// What became of a change when it was tried to write what waits, or the files were looked at.
 #[derive(Clone, Copy)]
 pub enum Fate {
-    /// It goes on waiting, in its place.
+    /// It goes on waiting.
     Waits,
     /// It is written; or it was there already.
     Written,
@@ -13,8 +13,6 @@ pub enum Fate {
     Refused,
     /// A later one sets its key, and goes on waiting: nobody sees that it goes.
     Overtaken,
-    /// It counts as set now, and waits behind all others.
-    Renewed,
 }
 
 /// An edit that waits.
@@ -33,6 +31,8 @@ pub struct WaitingEdit {
 pub struct Waiter {
     /// Which one it is, as its owner has it.
     pub change: usize,
+    /// Which of all sets it was: the number of one that was set later, or once more, is greater.
+    pub set: u64,
     /// Its first edit, and the newest of the same key.
     pub edit: WaitingEdit,
     pub newest: WaitingEdit,
@@ -46,8 +46,6 @@ pub struct Waiter {
     pub asks: bool,
     /// All of it is there already by the newest files, and nothing else waits for its keys.
     pub is_there: bool,
-    /// It was set once more, and nobody writes it.
-    pub is_renewed: bool,
 }
 
 /// What becomes of a change; `is_written`: what was tried is written, but for what is refused.
@@ -63,13 +61,10 @@ pub fn fate_of(is_written: bool, waiter: &Waiter) -> Fate
     if waiter.is_tried && is_overtaken(waiter.edit, waiter.newest) {
         return Fate::Overtaken;
     }
-    if waiter.is_renewed {
-        return Fate::Renewed;
-    }
     Fate::Waits
 }
 
-/// The same as a number: 0 it waits, 1 it is written, 2 refused, 3 overtaken, 4 renewed.
+/// The same as a number: 0 it waits, 1 it is written, 2 refused, 3 overtaken.
 pub fn fate_number(is_written: bool, waiter: &Waiter) -> u32
     ensures { result ≡ fate_number (fate_of is_written waiter.now) }
 {
@@ -78,7 +73,6 @@ pub fn fate_number(is_written: bool, waiter: &Waiter) -> u32
         Fate::Written => 1,
         Fate::Refused => 2,
         Fate::Overtaken => 3,
-        Fate::Renewed => 4,
     }
 }
 

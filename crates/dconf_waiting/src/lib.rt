@@ -7,7 +7,7 @@
 
 ghost use Rattle.dconf_waiting.specs.Faults.{EachFaultIsSaidOnce};
 ghost use Rattle.dconf_waiting.specs.Fresh.{NoReadIsTooOld};
-ghost use Rattle.dconf_waiting.specs.WaitingLaws.{EveryWaitEnds, NothingIsLost, TheNewestIsFound, WhatWaitsKeepsItsOrder};
+ghost use Rattle.dconf_waiting.specs.WaitingLaws.{EachIsCountedOnce, EveryWaitEnds, NothingIsLost, TheNewestIsFound, WhatWaitsIsInOrder};
 
 mod due;
 mod failing;
@@ -21,7 +21,7 @@ pub use due::{pause_after, sleep_until};
 pub use failing::{Failing, Word};
 pub use fate::{Fate, Waiter, WaitingEdit, fate_number, fate_of};
 pub use fresh::{Looker, next_look};
-pub use line::settle;
+pub use line::{Tally, settle};
 pub use newest::{found, put};
 pub use patience::{Patience, Progress};
 
@@ -36,10 +36,15 @@ pub fn nothing_is_lost()
     ensures { NothingIsLost }
 {}
 
-/// What waits is written in the order in which it was set: whatever becomes of others, each keeps its place before those that were set later;
-/// and what is set once more goes behind all of them.
-pub fn what_waits_keeps_its_order()
-    ensures { WhatWaitsKeepsItsOrder }
+/// What waits is written in the order in which it was set, whatever becomes of others; and what is set once more is behind all of them.
+pub fn what_waits_is_in_order()
+    ensures { WhatWaitsIsInOrder }
+{}
+
+/// Each change that ever waited is settled, or overtaken by one that waits, or waits itself: so who waits until as many are settled as there
+/// were waits for all of them.
+pub fn each_is_counted_once()
+    ensures { EachIsCountedOnce }
 {}
 
 /// Whoever waits until all is written waits for a minute at most, whatever other programs do meanwhile.

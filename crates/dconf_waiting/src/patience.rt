@@ -60,7 +60,7 @@ impl Progress {
 impl Patience {
     /// It begins now, or goes on; `changed`: when the folder changed last. In another moment than before: another program had a turn, and it is
     /// waited as long again.
-    pub fn renew(&mut self, changed: FileTime, now: u64)
+    fn renew(&mut self, changed: FileTime, now: u64)
         ensures { self.new ≡ renewed_by self.old changed now }
     {
         if self.latest != 0 && is_same(self.changed, changed) {
@@ -73,11 +73,13 @@ impl Patience {
         self.changed = changed;
     }
 
-    /// Whether it is waited on: something that waited then isn't settled, no later try has failed by a fault that lasts, the time isn't
-    /// over, and the thread that writes wrote, or was to try again, within two seconds.
-    pub fn goes_on(&self, progress: &Progress, now: u64) -> bool
-        ensures { IsTrue result ↔ ((progress.now.settled < progress.now.added) × (progress.now.failed ≤ progress.now.tries) × (now < self.now.end) × (now < progress.now.moved + 2000000)) }
+    /// Whether it is waited on, by when the folder changed last: something that waited then isn't settled, no later try has failed by a fault
+    /// that lasts, the time isn't over, and the thread that writes wrote, or was to try again, within two seconds.
+    pub fn goes_on(&mut self, progress: &Progress, changed: FileTime, now: u64) -> bool
+        ensures renewed { self.new ≡ renewed_by self.old changed now }
+        ensures on { IsTrue result ↔ ((progress.now.settled < progress.now.added) × (progress.now.failed ≤ progress.now.tries) × (now < self.new.end) × (now < progress.now.moved + 2000000)) }
     {
+        self.renew(changed, now);
         !progress.is_settled()
             && !progress.has_failed()
             && now < self.end

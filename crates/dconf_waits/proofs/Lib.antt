@@ -1,2 +1,3 @@
 pub mod WaitProofs
 pub mod WrongWaits
+pub mod TakingProofs

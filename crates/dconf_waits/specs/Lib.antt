@@ -2,3 +2,4 @@ pub mod Waits
 pub mod WaitLaws
 pub mod WaitRecords
 pub mod Takings
+pub mod TakingLaws

@@ -4,6 +4,7 @@
 //! few numbers, take no memory, and can be copied.
 #![tactic(auto)]
 
+ghost use Rattle.dconf_waits.specs.TakingLaws.{EachTryEnds};
 ghost use Rattle.dconf_waits.specs.WaitLaws.{HoweverLongItWaits};
 
 mod taking;
@@ -18,4 +19,10 @@ pub use wait_record::WaitRecord;
 /// where a try had it, and gives up only where the time or the tries have run out.
 pub fn however_long_it_waits()
     ensures { HoweverLongItWaits }
+{}
+
+/// Whatever is answered, a try to take a lock is over after at most 32,000 answers: the lock is had, others have it, or it isn't had, for an
+/// errno.
+pub fn each_try_ends()
+    ensures { EachTryEnds }
 {}

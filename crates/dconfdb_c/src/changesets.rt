@@ -69,7 +69,8 @@ pub extern "C" fn dconfdb_look_due(looker: u32, known: &LookKnown) -> u32
 }
 
 /// What comes next of a change whose caller waits for it, once the first `done` tasks were done, or were not due, by the answer to the last
-/// one: 1 what was asked for before is written, 2 it is settled, 3 put, 4 told; 5 it is made, 6 refused, 7 it failed.
+/// one: 1 what was asked for before is written, 2 it is settled, 3 put, 4 what others changed is told, 5 what is new, 6 it is given up; 7 it is
+/// made, 8 refused, 9 it failed.
 #[unsafe(no_mangle)]
 pub extern "C" fn dconfdb_changing_after(done: u32, is_so: bool, known: &ChangeKnown) -> u32
     ensures { result ≡ change_number (change_after done is_so known.now) }

@@ -23,7 +23,8 @@ pub extern "C" fn dconfdb_sleep_until(again: u64, look: u64, now: u64, wait: &mu
 }
 
 /// Something was tried that fails for a fault, which is there or not. Gives what is said of it: 0 nothing, 1 say it, 2 it is said and lasts,
-/// 3 it is over; and `failing.pause` is the pause before the next try.
+/// 3 it is over; `failing.pause` is the pause before the next try, `again` when that is, `due` when it will be said, and `failed` which of the
+/// `tries` was the last that failed by it once it lasted.
 #[unsafe(no_mangle)]
 pub extern "C" fn dconfdb_failing_met(
     failing: &mut Failing,

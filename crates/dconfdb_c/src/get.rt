@@ -10,7 +10,7 @@ ghost use Rattle.dconfdb_values.specs.Parts.{IsFound, IsLentChild, part_value};
 ghost use Rattle.dconfdb_values.specs.Texts.{IsText, IsTextType};
 
 use crate::open::DconfdbText;
-use dconfdb_values::{DconfdbPart, child, lookup, n_children, number, text};
+use dconfdb_values::{DconfdbChild, DconfdbPart, child, lookup, n_children, number, text};
 
 /// The number that bytes are at the type that a text spells, if it is the one of this letter: of `b`
 /// 0 or 1, of the others the bits that they are written in; `i` asks for an index `h` too. False at
@@ -64,33 +64,32 @@ pub extern "C" fn dconfdb_count_children(type_text: &[u8], value: &[u8]) -> usiz
     n_children(type_text, value)
 }
 
-/// The child at the index, lent from the value's bytes. False where there are no more, or, if `of_variant`, where the text isn't `v`; then
+/// The child of a whole at the index, lent from the value's bytes. False where there are no more, or, if `of_variant`, where the text isn't `v`; then
 /// `found` stays as it was.
 ///
-/// `passed` is 0, which is right of all bytes, or what an earlier call left there of the same bytes: how many of
-/// the first children are known to be in order, so that they are not looked at again.
+/// The whole's `passed` is 0, which is right of all bytes, or what an earlier call left there of the same bytes: how many of
+/// the first children are known to be in order, so that they are not looked at again. All else of it stays.
 #[unsafe(no_mangle)]
 pub extern "C" fn dconfdb_child_at<'a>(
-    type_text: &'a [u8],
-    value: &'a [u8],
+    whole: &mut DconfdbChild<'a>,
     of_variant: bool,
     index: usize,
-    passed: &mut usize,
     found: &mut DconfdbPart<'a>,
 ) -> bool
-    requires order { ArePassed (type_at type_text.now) value.now passed.now }
-    ensures variant { IsTrue result → IsTrue of_variant → IsTrue (is_variant type_text.entry.now) }
-    ensures value { IsTrue result → tree_at (children (decode (type_at type_text.entry.now) value.entry.now)) index ≡ Some (part_value found.new) }
-    ensures lent { IsTrue result → IsLentChild type_text.entry.now value.entry.now index found.new }
-    ensures none { result ≡ false → (IsTrue of_variant → IsTrue (is_variant type_text.entry.now)) → tree_at (children (decode (type_at type_text.entry.now) value.entry.now)) index ≡ None }
+    requires order { ArePassed (type_at whole.now.type_text.now) whole.now.value.now whole.now.passed }
+    ensures variant { IsTrue result → IsTrue of_variant → IsTrue (is_variant whole.old.type_text.now) }
+    ensures value { IsTrue result → tree_at (children (decode (type_at whole.old.type_text.now) whole.old.value.now)) index ≡ Some (part_value found.new) }
+    ensures lent { IsTrue result → IsLentChild whole.old.type_text.now whole.old.value.now index found.new }
+    ensures none { result ≡ false → (IsTrue of_variant → IsTrue (is_variant whole.old.type_text.now)) → tree_at (children (decode (type_at whole.old.type_text.now) whole.old.value.now)) index ≡ None }
     ensures kept { result ≡ false → found.new ≡ found.old }
-    ensures order { ArePassed (type_at type_text.entry.now) value.entry.now passed.new }
-    ensures onward { passed.old ≤ passed.new }
+    ensures same { (whole.new.type_text ≡ whole.old.type_text) × (whole.new.value ≡ whole.old.value) × (whole.new.origin ≡ whole.old.origin) }
+    ensures order { ArePassed (type_at whole.old.type_text.now) whole.old.value.now whole.new.passed }
+    ensures onward { whole.old.passed ≤ whole.new.passed }
 {
-    if of_variant && !is_variant(type_text) {
+    if of_variant && !is_variant(whole.type_text) {
         return false;
     }
-    match child(type_text, value, index, passed) {
+    match child(whole.type_text, whole.value, index, &mut whole.passed) {
         Some(part) => {
             *found = part;
             true

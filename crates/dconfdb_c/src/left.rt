@@ -3,15 +3,14 @@ ghost use Rattle.std.specs.Prelude.{◌≡◌, ◌≢◌, ℕ, List, None, Some}
 ghost use Rattle.std.specs.FinMap.{get};
 ghost use Rattle.dconf_model.specs.Salvaging.{IsKeyText};
 ghost use Rattle.dconf_layers.specs.LayerSettings.{settings_of};
-ghost use Rattle.dconf_left.specs.Left.{left_state, state_number, with_left};
+ghost use Rattle.dconf_left.specs.Left.{left_state, state_number};
 ghost use Rattle.dconf_left.specs.Numbers.{value_number};
-ghost use Rattle.dconfdb_calls.specs.Given.{HandsOut};
 ghost use Rattle.dconfdb_calls.specs.Seen.{IsHeldIn};
 ghost use Rattle.dconfdb_calls.specs.declared.values.DconfdbFound.{DconfdbFound};
 
 use dconf_files::FileStamp;
 use dconf_layers::Layer;
-use dconf_left::{MOST_LEFT, state_number, value_number, with_left};
+use dconf_left::{state_number, value_number};
 use dconfdb_calls::read_own;
 
 /// Whether the file of a name was left as it is, by the bytes of those that were: 0 nobody left it so,
@@ -21,21 +20,6 @@ pub extern "C" fn dconfdb_left_state(left: &[u8], name: &[u8], file: &FileStamp)
     ensures { result ≡ state_number (left_state left.now name.now file.now) }
 {
     state_number(left, name, file)
-}
-
-/// Those that were left with the file of a name in front, as it is left now, if it is there: at most
-/// [`MOST_LEFT`](dconf_left::MOST_LEFT). Their bytes are handed out as `dconfdb_list` does.
-#[unsafe(no_mangle)]
-pub extern "C" fn dconfdb_with_left(
-    left: &[u8],
-    name: &[u8],
-    file: &FileStamp,
-    is_synced: bool,
-    room: &mut [u8],
-) -> usize
-    ensures { HandsOut (with_left left.now name.now file.now is_synced MOST_LEFT) room.old room.new result }
-{
-    with_left(left, name, file, is_synced, MOST_LEFT, room)
 }
 
 /// A number for the value that one layer has at a path, whether or not it is locked: of its type and its

@@ -1,11 +1,14 @@
-//! A change around its turn: what is asked before there are bytes, and what its program has in the end.
+//! A change around its turn: what is asked before there are bytes, what its program has in the end, and what it knows from then on.
 ghost use Rattle.std.specs.Prelude.{◌≡◌};
 ghost use Rattle.dconf_turn.specs.Records.{outcome_of};
 ghost use Rattle.dconf_making.specs.Endings.{IsEndingTold, ending_of};
-ghost use Rattle.dconf_making.specs.Making.{after, ask_number, ask_of, found_of};
+ghost use Rattle.dconf_making.specs.Knowing.{after, happening_of};
+ghost use Rattle.dconf_making.specs.Making.{after as made_after, ask_number, ask_of, found_of};
 ghost use Rattle.dconf_making.specs.Settling.{settling_after, settling_number};
 
-use dconf_making::{DconfdbEnding, Making, SettlingKnown, ending_by, number_of_settling};
+use dconf_making::{
+    DconfdbEnding, Making, SettlingKnown, StoreKnown, ending_by, number_of_settling,
+};
 
 /// What is asked of a change after that answer, or what came of all: 0 is it as expected, 1 are edits left, 2 are there bytes, 3 is all there
 /// already, 4 do they open; 5 it is ready, 6 nothing, 7 it failed. The answers: 0 yes, 1 no, 2 a fault.
@@ -16,7 +19,7 @@ pub extern "C" fn dconfdb_making_after(
     ask: u32,
     found: u32,
 ) -> u32
-    ensures { result ≡ ask_number (after (record { makes_file = makes_file; is_unsettled = is_unsettled }) (ask_of ask) (found_of found)) }
+    ensures { result ≡ ask_number (made_after (record { makes_file = makes_file; is_unsettled = is_unsettled }) (ask_of ask) (found_of found)) }
 {
     let making = Making {
         makes_file,
@@ -47,4 +50,21 @@ pub extern "C" fn dconfdb_settling_after(done: u32, is_so: bool, known: &Settlin
     ensures { result ≡ settling_number (settling_after done is_so known.now) }
 {
     number_of_settling(done, is_so, known)
+}
+
+/// What a store knows beside what it shows, after that: 0 a look found other files, which is news (`yes`) or not; 1 it told its news; 2 it remembers
+/// what others changed; 3 it noted what was set, and (`yes`) what was asked for is in its file, the last of it at the time `number`, or 0; 4 a change
+/// ended, after which these settings are the newest (`number`), and which may not be on the disk (`yes`); else it was opened in the place of `old`, of
+/// the same user's file (`yes`) or of another one.
+#[unsafe(no_mangle)]
+pub extern "C" fn dconfdb_store_after(
+    known: &mut StoreKnown,
+    what: u32,
+    yes: bool,
+    number: u64,
+    old: &StoreKnown,
+)
+    ensures { known.new ≡ after known.old (happening_of what yes number old.now) }
+{
+    *known = known.after_number(what, yes, number, old);
 }

@@ -1,23 +1,29 @@
 //! Which paths were set last: what is overtaken, and what is noted.
-ghost use Rattle.std.specs.Prelude.{◌≡◌, ◌≢◌, ◌⊎◌, ◌<◌, ◌++◌, ◌∷◌, [], ℕ, List, length, map, take, drop};
+ghost use Rattle.std.specs.Prelude.{◌≡◌, ◌≢◌, ◌++◌, List, length, map};
 ghost use Rattle.std.specs.List.{filter};
 ghost use Rattle.dconf_times.specs.Leaving.{is_late, is_left};
-ghost use Rattle.dconf_times.specs.Moments.{time_of_file, time_of_moment};
+ghost use Rattle.dconf_times.specs.Moments.{time_of_moment};
 ghost use Rattle.dconf_times.specs.Noted.{AreNoted};
 ghost use Rattle.dconf_times.specs.Resets.{moment_beside};
 ghost use Rattle.dconf_times.specs.Room.{AreNewest};
 ghost use Rattle.dconf_times.specs.Seeing.{is_unnoted, seen_of, stays_beside};
 ghost use Rattle.dconf_times.specs.Times.{note_of};
 ghost use Rattle.dconf_times.specs.declared.times.DconfdbTime.{DconfdbTime};
-ghost use Rattle.dconf_notes.specs.Records.{Noted, IsFile, IsForAll, IsHandedOut, file_bytes, noted_of};
+ghost use Rattle.dconf_left.specs.Changes.{changed_at};
+ghost use Rattle.dconf_left.specs.Left.{with_left};
+ghost use Rattle.dconf_notes.specs.Records.{IsHandedOut, file_bytes, noted_of};
+ghost use Rattle.dconf_notes.specs.Turned.{IsTurnRead, turn_notes};
 ghost use Rattle.dconfdb_calls.specs.Given.{HandsOut};
 
+use crate::open::DconfdbText;
+use dconf_files::FileStamp;
+use dconf_left::{MOST_LEFT, changed_at};
 use dconf_notes::{
-    MOST_BYTES, MOST_NOTES, MOST_SET_BYTES, MOST_SET_NOTES, notes_read, notes_written,
+    MOST_BYTES, MOST_SET_BYTES, MOST_SET_NOTES, TurnLeaves, turn_read, turn_written,
 };
 use dconf_times::{
-    DconfdbAsked, DconfdbSeen, DconfdbTime, leave_out, moment_beside, newest, note_made, note_seen,
-    time_of_file, time_of_moment,
+    DconfdbAsked, DconfdbSeen, DconfdbTime, leave_out, moment_beside, note_made, note_seen,
+    time_of_moment,
 };
 use dconfdb_calls::{Fault, hand_out};
 use std::alloc::Global;
@@ -101,37 +107,18 @@ pub extern "C" fn dconfdb_note_made<'a>(
     }
 }
 
-/// The newest notes of what was set: at most [`MOST_SET_NOTES`], which take [`MOST_SET_BYTES`] in a file. The oldest go, and one note says
-/// of all paths that they were set by the time of the latest of these. They are handed out as
-/// `dconfdb_list` does. Else the number of a fault, and nothing changes.
+/// The moment in which a change of these edits counts as made that was asked for in this one, beside the edits that are written with it, of
+/// which the resets of directories matter. It is the same, or the turn's, which is the last of all, if the change resets a directory, or sets
+/// something in one that is reset with it.
 #[unsafe(no_mangle)]
-pub extern "C" fn dconfdb_newest_notes<'a>(
-    alloc: Global,
-    notes: &[DconfdbTime<'a>],
-    room: &mut [DconfdbTime<'a>],
-    len: &mut usize,
-) -> u32
-    ensures done { result ≡ 0 → (kept : List DconfdbTime) × AreNewest MOST_SET_NOTES MOST_SET_BYTES notes.now kept × HandsOut kept room.old room.new len.new }
-    ensures refused { result ≢ 0 → result ≡ 1 }
-    ensures kept { result ≢ 0 → (room.new ≡ room.old) × (len.new ≡ len.old) }
+pub extern "C" fn dconfdb_moment_beside(
+    change: &[DconfdbTime<'_>],
+    others: &[DconfdbTime<'_>],
+    moment: u64,
+) -> u64
+    ensures { result ≡ moment_beside (map note_of change.now) (map note_of others.now) moment }
 {
-    match newest(alloc, notes, MOST_SET_NOTES, MOST_SET_BYTES) {
-        Ok(kept) => {
-            *len = hand_out(kept.as_slice(), room);
-            0
-        }
-        Err(_) => Fault::Memory.number(),
-    }
-}
-
-/// The moment in which a change counts as made that was asked for in this one, beside all edits that wait, each
-/// with its moment; those of one moment are one change. It is the same, or the turn's, which is the last of all, if
-/// the change resets a directory, or sets something in one that is reset with it.
-#[unsafe(no_mangle)]
-pub extern "C" fn dconfdb_moment_beside(waiting: &[DconfdbTime<'_>], moment: u64) -> u64
-    ensures { result ≡ moment_beside (map note_of waiting.now) moment }
-{
-    moment_beside(waiting, moment)
+    moment_beside(change, others, moment)
 }
 
 /// The time of what was asked for in a moment, by a clock that nobody sets: it is `now` by the clock of
@@ -143,62 +130,69 @@ pub extern "C" fn dconfdb_time_of_moment(now: u64, boot: u64, moment: u64, noted
     time_of_moment(now, boot, moment, noted)
 }
 
-/// The time that stands for when a file was changed that nobody noted.
+/// The time that stands for when a file was changed that nobody noted: by what the host says of it, or, where it is gone, of its folder.
 #[unsafe(no_mangle)]
-pub extern "C" fn dconfdb_time_of_file(written: u64, touched: u64) -> u64
-    ensures { result ≡ time_of_file written touched }
+pub extern "C" fn dconfdb_time_of_file(file: &FileStamp, folder: &FileStamp) -> u64
+    ensures { result ≡ changed_at file.now folder.now }
 {
-    time_of_file(written, touched)
+    changed_at(file, folder)
 }
 
-/// The notes that a file's bytes are, of which the first is of the turn in which they were written:
-/// handed out as `dconfdb_list` does. There is none where the bytes are no such file's, or not whole, or more than [`MOST_BYTES`].
-/// Else the number of a fault, and nothing changes.
+/// What a turn noted in a file of these bytes: what was set is handed out as `dconfdb_list` does, and `left` has the records of the files that were
+/// left. There is none where the bytes are no such file's, or not whole, or more than [`MOST_BYTES`]. Else the number of a fault, and nothing changes.
 #[unsafe(no_mangle)]
 pub extern "C" fn dconfdb_notes_read<'a>(
     alloc: Global,
     bytes: &'a [u8],
+    left: &mut DconfdbText<'a>,
     room: &mut [DconfdbTime<'a>],
     len: &mut usize,
 ) -> u32
-    ensures done { result ≡ 0 → (read : List DconfdbTime) × HandsOut read room.old room.new len.new
-        × (IsFile bytes.now (map noted_of read) ⊎ ((read ≡ []) × ((MOST_BYTES < length bytes.now) ⊎ ((notes : List Noted) → IsFile bytes.now notes → ⊥)))) }
+    ensures done { result ≡ 0 → (set : List DconfdbTime) × IsTurnRead MOST_BYTES bytes.now left.new.text.now (map noted_of set) × HandsOut set room.old room.new len.new }
     ensures refused { result ≢ 0 → result ≡ 1 }
-    ensures kept { result ≢ 0 → (room.new ≡ room.old) × (len.new ≡ len.old) }
+    ensures kept { result ≢ 0 → (room.new ≡ room.old) × (len.new ≡ len.old) × (left.new ≡ left.old) }
 {
-    if bytes.len() > MOST_BYTES {
-        *len = hand_out(&[], room);
-        return 0;
-    }
-    match notes_read(alloc, bytes) {
-        Ok(Some(notes)) => {
-            *len = hand_out(notes.as_slice(), room);
-            0
-        }
-        Ok(None) => {
-            *len = hand_out(&[], room);
+    match turn_read(alloc, bytes) {
+        Ok(read) => {
+            *left = DconfdbText { text: read.left };
+            *len = hand_out(read.set.as_slice(), room);
             0
         }
         Err(_) => Fault::Memory.number(),
     }
 }
 
-/// The bytes of a file of these notes, of which the first is of the turn: at most [`MOST_NOTES`],
-/// and [`MOST_BYTES`], or one note stands for all that were set. They are handed out as `dconfdb_list`
-/// does. Else the number of a fault, and nothing changes.
+/// The bytes of a file of what a turn notes: of itself, in that moment and at that time; of the files that were left, with that of a name in
+/// front, as it is left now; and of what was set, the newest notes, at most [`MOST_SET_NOTES`], which take [`MOST_SET_BYTES`]: the oldest go, and one
+/// note says of all paths that they were set by the time of the latest of these. They are handed out as `dconfdb_list` does. Else the number of
+/// a fault, and nothing changes.
 #[unsafe(no_mangle)]
 pub extern "C" fn dconfdb_notes_written(
     alloc: Global,
     notes: &[DconfdbTime<'_>],
+    moment: u64,
+    time: u64,
+    left: &[u8],
+    name: &[u8],
+    file: &FileStamp,
+    is_synced: bool,
     room: &mut [u8],
     len: &mut usize,
 ) -> u32
-    ensures done { result ≡ 0 → (bytes : List ℕ) × IsHandedOut bytes room.old room.new len.new × ((bytes ≡ file_bytes (map noted_of notes.now))
-        ⊎ ((left : ℕ) × (one : DconfdbTime) × IsForAll (drop left notes.now) one × (bytes ≡ file_bytes (map noted_of (take left notes.now ++ one ∷ []))))) }
+    ensures done { result ≡ 0 → (kept : List DconfdbTime) × AreNewest MOST_SET_NOTES MOST_SET_BYTES notes.now kept
+        × IsHandedOut (file_bytes (turn_notes moment time (with_left left.now name.now file.now is_synced MOST_LEFT) (map noted_of kept))) room.old room.new len.new }
     ensures refused { result ≢ 0 → result ≡ 1 }
     ensures kept { result ≢ 0 → (room.new ≡ room.old) × (len.new ≡ len.old) }
 {
-    match notes_written(alloc, notes, MOST_NOTES, MOST_BYTES, room) {
+    let turn = TurnLeaves {
+        moment,
+        time,
+        left,
+        name,
+        file: *file,
+        is_synced,
+    };
+    match turn_written(alloc, notes, &turn, room) {
         Ok(n) => {
             *len = n;
             0

@@ -1,12 +1,12 @@
 //! Which kind of store is found and where, which profile it has, and which file a line of that means.
 ghost use Rattle.std.specs.Prelude.{◌≡◌, ◌≢◌, IsTrue, [], None, Some, false};
 ghost use Rattle.dconf_model.specs.Profiles.{is_user};
-ghost use Rattle.dconf_places.specs.Numbers.{base_number, giver_numbered, kind_numbered, telling_number};
+ghost use Rattle.dconf_places.specs.Numbers.{giver_numbered, kind_numbered, telling_number};
 ghost use Rattle.dconf_places.specs.Places.{path_at};
 ghost use Rattle.dconf_places.specs.ProfileSteps.{found_by};
 ghost use Rattle.dconf_places.specs.Told.{spot_at, text_of};
 ghost use Rattle.dconf_homes.specs.Homes.{file_in, flag_in, kind_for, spot_in};
-ghost use Rattle.dconf_homes.specs.Numbers.{dir_of, dir_of_step, kind_number, sought_number, sought_numbered, step_number, what_numbered};
+ghost use Rattle.dconf_homes.specs.Numbers.{asked_for, dir_of, dir_of_step, kind_number, sought_number, sought_numbered, step_number, what_numbered};
 ghost use Rattle.dconf_homes.specs.Sought.{first_sought, said_as, sought_path, sought_step};
 ghost use Rattle.dconf_homes.specs.Told.{home_of, surroundings_of};
 
@@ -23,50 +23,46 @@ pub extern "C" fn dconfdb_place_kind(around: &Around<'_>, giver: u32) -> u32
 }
 
 /// What has to be asked to know the path of what is wanted (0 the store's folder, 1 the profile that the environment names, and else the user's
-/// runtime folder): 0 nothing, 1 the current folder, 2 the home that the system has for the user; 3 there is none.
-#[unsafe(no_mangle)]
-pub extern "C" fn dconfdb_place_base<'a>(
-    around: &Around<'a>,
-    giver: u32,
-    folder: &'a [u8],
-    wanted: u32,
-) -> u32
-    ensures { result ≡ base_number (spot_in (what_numbered wanted) (surroundings_of around.now) (giver_numbered giver folder.entry.now)) }
-{
-    around
-        .location(Given::of_number(giver, folder), Wanted::of_number(wanted))
-        .base_number()
-}
-
-/// That path, by what was asked. Without one nothing is written.
+/// runtime folder): 0 nothing, and the path is written, by what was asked, if anything was (`is_asked`); 1 the current folder, 2 the home that the
+/// system has for the user; 3 there is none.
 #[unsafe(no_mangle)]
 pub extern "C" fn dconfdb_place<'a>(
     around: &Around<'a>,
     giver: u32,
     folder: &'a [u8],
     wanted: u32,
+    is_asked: bool,
     base: &'a [u8],
     path: &mut PathParts<'a>,
-) -> bool
-    ensures some { IsTrue result → path_at (spot_in (what_numbered wanted) (surroundings_of around.now) (giver_numbered giver folder.entry.now)) base.entry.now ≡ Some (text_of path.new) }
-    ensures none { result ≡ false → path_at (spot_in (what_numbered wanted) (surroundings_of around.now) (giver_numbered giver folder.entry.now)) base.entry.now ≡ None }
-    ensures kept { result ≡ false → path.new ≡ path.old }
+) -> u32
+    ensures asks { result ≡ asked_for (spot_in (what_numbered wanted) (surroundings_of around.now) (giver_numbered giver folder.entry.now)) is_asked base.entry.now }
+    ensures path { result ≡ 0 → path_at (spot_in (what_numbered wanted) (surroundings_of around.now) (giver_numbered giver folder.entry.now)) base.entry.now ≡ Some (text_of path.new) }
+    ensures kept { result ≢ 0 → path.new ≡ path.old }
 {
     let location = around.location(Given::of_number(giver, folder), Wanted::of_number(wanted));
-    put_path(location, base, path)
+    put_path(location, is_asked, base, path)
 }
 
-fn put_path<'a>(location: Location<'a>, base: &'a [u8], path: &mut PathParts<'a>) -> bool
-    ensures some { IsTrue result → path_at (spot_at location.entry) base.entry.now ≡ Some (text_of path.new) }
-    ensures none { result ≡ false → path_at (spot_at location.entry) base.entry.now ≡ None }
-    ensures kept { result ≡ false → path.new ≡ path.old }
+fn put_path<'a>(
+    location: Location<'a>,
+    is_asked: bool,
+    base: &'a [u8],
+    path: &mut PathParts<'a>,
+) -> u32
+    ensures asks { result ≡ asked_for (spot_at location.entry) is_asked base.entry.now }
+    ensures path { result ≡ 0 → path_at (spot_at location.entry) base.entry.now ≡ Some (text_of path.new) }
+    ensures kept { result ≢ 0 → path.new ≡ path.old }
 {
+    let number = location.base_number();
+    if number != 0 && !is_asked {
+        return number;
+    }
     match location.path(base) {
         Some(parts) => {
             *path = parts;
-            true
+            0
         }
-        None => false,
+        None => 3,
     }
 }
 
@@ -125,22 +121,22 @@ pub extern "C" fn dconfdb_profile_step(
     ensures first_dir { look.now.which ≡ 7 → dir.new ≡ dir_of (first_sought (home_of place.now)) }
     ensures step { look.now.which ≢ 7 → result ≡ step_number (sought_step (home_of place.now) (sought_numbered look.now.which look.now.dir) (found_by look.now.fails look.now.is_own look.now.is_there) look.now.is_lenient) }
     ensures dir { look.now.which ≢ 7 → dir.new ≡ dir_of_step (sought_step (home_of place.now) (sought_numbered look.now.which look.now.dir) (found_by look.now.fails look.now.is_own look.now.is_there) look.now.is_lenient) }
-    ensures telling { telling.new ≡ telling_number (said_as (home_of place.now) (sought_numbered look.now.which look.now.dir) (found_by look.now.fails look.now.is_own look.now.is_there) look.now.is_lenient look.now.has_kept) }
+    ensures nothing { look.now.which ≡ 7 → telling.new ≡ 0 }
+    ensures telling { look.now.which ≢ 7 → telling.new ≡ telling_number (said_as (home_of place.now) (sought_numbered look.now.which look.now.dir) (found_by look.now.fails look.now.is_own look.now.is_there) look.now.is_lenient look.now.has_kept) }
 {
-    let sought = Sought::of_number(look.which, look.dir);
-    let found = Found::by(look.fails, look.is_own, look.is_there);
-    *telling = place
-        .said_as(sought, found, look.is_lenient, look.has_kept)
-        .number();
     if look.which == 7 {
         let first = place.first();
         *dir = first.dir();
-        first.number()
-    } else {
-        let step = place.step(sought, found, look.is_lenient);
-        *dir = step.dir();
-        step.number()
+        *telling = 0;
+        return first.number();
     }
+    let sought = Sought::of_number(look.which, look.dir);
+    let found = Found::by(look.fails, look.is_own, look.is_there);
+    let step = place.step(sought, found, look.is_lenient);
+    let said = place.said_as(sought, found, look.is_lenient, look.has_kept);
+    *dir = step.dir();
+    *telling = said.number();
+    step.number()
 }
 
 /// The path of a database's file, by the profile that names it; and whether it is the user's, which can be changed. `flag` is the path of the flag of

@@ -1,11 +1,13 @@
 //! As what the files of a site are looked at, and what is found there.
 ghost use Rattle.std.specs.Prelude.{◌≡◌};
+ghost use Rattle.std.specs.List.{list_any};
 ghost use Rattle.dconf_roles.specs.Findings.{finding_of, finding_number};
 ghost use Rattle.dconf_roles.specs.Numbers.{reading_number, role_number, role_numbered};
 ghost use Rattle.dconf_roles.specs.Readings.{reading};
 ghost use Rattle.dconf_roles.specs.Roles.{role_after, role_among};
+ghost use Rattle.dconf_roles.specs.Slips.{is_slip};
 
-use dconf_roles::{FindingKnown, finding_number, reading_number, role_number};
+use dconf_roles::{FindingKnown, Name, finding_number, reading_number, role_number};
 
 /// As what `update` takes the files of a folder, or a file, by the role of the folder in which it has that name: 1 a keyfile, 2 a file of
 /// locks, 3 hidden, 4 not read, else what its text says.
@@ -27,10 +29,14 @@ pub extern "C" fn dconfdb_read_as(role: u32, is_one_read: bool, size: u64, text:
 }
 
 /// What is found of a key that is set, or of a lock, by what the schemas have: 0 nothing, 1 no schema has the key, 2 the locked key, 3 a key
-/// below the locked directory, 4 the value is of another type, 5 the key doesn't take it.
+/// below the locked directory, 4 the value is of another type, 5 the key doesn't take it. Beside these other directories its own may be a slip.
 #[unsafe(no_mangle)]
-pub extern "C" fn dconfdb_finding(known: &FindingKnown) -> u32
-    ensures { result ≡ finding_number (finding_of known.now) }
+pub extern "C" fn dconfdb_finding(
+    known: &FindingKnown,
+    directory: &[u8],
+    others: &[Name<'_>],
+) -> u32
+    ensures { result ≡ finding_number (finding_of known.now (list_any (λ other. is_slip directory.now other.text.now) others.now)) }
 {
-    finding_number(known)
+    finding_number(known, directory, others)
 }

@@ -28,8 +28,8 @@ pub extern "C" fn dconfdb_round_after(done: u32, known: &Known) -> u32
     task_number(done, known)
 }
 
-/// What whoever wants to know that all is on the disk does next, in the same way, by the answer to the last task: 1 writes, 2 waits, 3
-/// takes its turn, 4 looks, 5 settles; 6 it is told yes, 7 no.
+/// What whoever wants to know that all is on the disk does next, in the same way, by the answer to the last task: 1 asks for a try, 2
+/// writes, 3 waits, 4 takes its turn, 5 looks, 6 settles; 7 it is told yes, 8 no.
 #[unsafe(no_mangle)]
 pub extern "C" fn dconfdb_sync_after(done: u32, is_so: bool, known: &SyncKnown) -> u32
     ensures { result ≡ sync_number (sync_after done is_so known.now) }

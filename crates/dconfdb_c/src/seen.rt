@@ -1,5 +1,5 @@
 //! What is seen of a key while an edit of it may wait, and which paths stand for which.
-ghost use Rattle.std.specs.Prelude.{◌≡◌, ◌≢◌, ℕ, List, false, true};
+ghost use Rattle.std.specs.Prelude.{◌≡◌, ◌≢◌, ◌≤◌, ◌==◌, ℕ, List, false, true};
 ghost use Rattle.dconf_model.specs.Paths.{is_short, starts_with_slash};
 ghost use Rattle.dconf_rounds.specs.Telling.{passes_over};
 ghost use Rattle.dconf_seen.specs.Allowed.{may_be_made};
@@ -13,12 +13,13 @@ ghost use Rattle.dconfdb_calls.specs.Given.{HandsOut};
 ghost use Rattle.dconfdb_calls.specs.Listed.{ended};
 ghost use Rattle.dconfdb_calls.specs.Seen.{layers_of};
 
+use crate::read::dconfdb_is_writable;
 use dconf_layers::{Layer, LentLayers};
 use dconf_rounds::passes_over;
 use dconf_seen::{Known, found_by, found_number, may_be_made, meets};
 use dconf_texts::{is_short, kind_at, number_of_kind, wanted_kind};
 use dconf_told::{DconfdbKeyAsked, may_write, relocked_texts, told_texts};
-use dconfdb_calls::{Fault, hand_out, is_key_writable};
+use dconfdb_calls::{Fault, hand_out};
 use std::alloc::Global;
 
 /// Where what is read of a key is found: 0 as it is stored, 1 without the user's value, 2 in the newest edit that waits of it, 3 in the
@@ -112,33 +113,41 @@ pub extern "C" fn dconfdb_relocked(
     }
 }
 
-/// Whether a path may be written, a key, or all that is below a directory: the first layer is the user's, and no lock covers it. What
-/// doesn't start with `/` is locked by nobody. Where memory is lacking it may not. A key that may be written takes none.
+/// Whether a path may be written, a key, or all that is below a directory: somebody may write (`is_open`), the first layer is the user's, and no
+/// lock covers it. What doesn't start with `/` is locked by nobody. 0 it may not, 1 it may, 2 no memory is left. A key that may be written takes
+/// none.
 #[unsafe(no_mangle)]
 pub extern "C" fn dconfdb_may_write(
     alloc: Global,
     layers: &[Layer<'_>],
     writable: bool,
+    is_open: bool,
     path: &[u8],
-    may: &mut bool,
 ) -> u32
-    ensures path { result ≡ 0 → starts_with_slash path.now ≡ true → may.new ≡ may_write (layers_of layers.now writable) path.now }
-    ensures none { result ≡ 0 → starts_with_slash path.now ≡ false → may.new ≡ writable }
-    ensures refused { result ≢ 0 → (result ≡ 1) × (may.new ≡ false) }
+    ensures path { result ≢ 2 → starts_with_slash path.now ≡ true → (result == 1) ≡ may_be_made path.now true is_open (may_write (layers_of layers.now writable) path.now) }
+    ensures none { result ≢ 2 → starts_with_slash path.now ≡ false → (result == 1) ≡ may_be_made path.now true is_open writable }
+    ensures refused { result ≤ 2 }
 {
-    if is_key_writable(layers, writable, path) {
-        *may = true;
+    if !is_open {
         return 0;
     }
+    if dconfdb_is_writable(layers, writable, path) {
+        return 1;
+    }
+    may_write_all(alloc, layers, writable, path)
+}
+
+/// The same where somebody may write, of any path: so a key that may be written costs no more than a look at its locks.
+#[inline(never)]
+fn may_write_all(alloc: Global, layers: &[Layer<'_>], writable: bool, path: &[u8]) -> u32
+    ensures path { result ≢ 2 → starts_with_slash path.now ≡ true → (result == 1) ≡ may_write (layers_of layers.now writable) path.now }
+    ensures none { result ≢ 2 → starts_with_slash path.now ≡ false → (result == 1) ≡ writable }
+    ensures refused { result ≤ 2 }
+{
     match may_write(alloc, LentLayers::new(writable, layers), path) {
-        Ok(is) => {
-            *may = is;
-            0
-        }
-        Err(_) => {
-            *may = false;
-            Fault::Memory.number()
-        }
+        Ok(true) => 1,
+        Ok(false) => 0,
+        Err(_) => 2,
     }
 }
 

@@ -4,9 +4,9 @@ ghost use Rattle.dconf_served.specs.Served.{served_after, served_number};
 
 use dconf_served::{ServedKnown, served_number};
 
-/// What becomes of a call that changes settings, once it came (`done` is 0), once it is read (1), and after each try to write it: 0 it goes
-/// on, 1 it is acknowledged, 2 it failed, 3 nobody with these rights may write there, 4 it is odd, 5 too large, 6 too much waits, 7 too many
-/// databases are in use.
+/// What becomes of a call that changes settings, once it came (`done` is 0), once it is read (1), when it is told (3), and after each try to
+/// write it: 0 it goes on, 1 it is acknowledged, 2 it failed, 3 nobody with these rights may write there, 4 it is odd, 5 too large, 6 too much
+/// waits, 7 too many databases are in use.
 #[unsafe(no_mangle)]
 pub extern "C" fn dconfdb_served_after(done: u32, known: &ServedKnown) -> u32
     ensures { result ≡ served_number (served_after done known.now) }

@@ -2,8 +2,9 @@
 use dconf_compile::{Source, compile};
 use dconf_disk::{Folder, MemoryFolder, replace};
 use dconf_engine::Engine;
+use dconf_files::{FileStamp, FileTime};
 use dconf_layers::Layer;
-use dconf_notes::{notes_read, notes_written};
+use dconf_notes::{TurnLeaves, turn_read, turn_written};
 use dconf_path::{KeyPath, LockPath, read_profile};
 use dconf_store::{Change, value_after};
 use dconf_times::{DconfdbTime as Time, is_overtaken, note_times};
@@ -115,27 +116,40 @@ fn of_times(alloc: Global) -> Result<bool, Fail> {
     of_dconf_times(alloc, &[noted], &[set])
 }
 
-fn of_dconf_notes(alloc: Global, head: Time<'_>, set: Time<'_>) -> Result<bool, Fail> {
+fn of_dconf_notes(alloc: Global, turn: TurnLeaves<'_>, set: Time<'_>) -> Result<bool, Fail> {
     let mut room = vec![in alloc; 0; 1000]?;
-    let len = notes_written(alloc, &[head, set], 100, 1000, &mut room)?;
-    let read = notes_read(alloc, &room[..len.min(1000)])?;
-    let len = read.map(|notes| notes.len());
-    Ok(len == Some(2) && notes_read(alloc, b"dconfdb times 1")?.is_none())
+    let len = turn_written(alloc, &[set], &turn, &mut room)?;
+    let read = turn_read(alloc, &room[..len.min(1000)])?;
+    Ok(read.set.len() == 1 && turn_read(alloc, b"dconfdb times 1")?.set.is_empty())
 }
 
-/// Whether that is so of a turn, and of one key that was set.
+/// Whether that is so of a turn that leaves no file, and of one key that was set.
 fn of_notes(alloc: Global) -> Result<bool, Fail> {
-    let head = Time {
-        path: b"",
-        when: 7,
-        value: 0,
+    let never = FileTime {
+        seconds: 0,
+        nanoseconds: 0,
+    };
+    let turn = TurnLeaves {
+        moment: 7,
+        time: 9,
+        left: b"",
+        name: b"user",
+        file: FileStamp {
+            device: 0,
+            inode: 0,
+            size: 0,
+            written: never,
+            touched: never,
+            is_there: false,
+        },
+        is_synced: false,
     };
     let set = Time {
         path: b"/user/desk/size",
         when: 5,
         value: 3,
     };
-    of_dconf_notes(alloc, head, set)
+    of_dconf_notes(alloc, turn, set)
 }
 
 fn of_dconf_turn() -> bool {

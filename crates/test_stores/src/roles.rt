@@ -1,5 +1,5 @@
 //! As what the files of a site are looked at, and what is found there.
-use dconf_roles::{FindingKnown, finding_number, reading_number, role_number};
+use dconf_roles::{FindingKnown, Name, finding_number, reading_number, role_number};
 use std::test::Fail;
 
 /// The role of a file's folder, by the names of two folders that it is in.
@@ -82,7 +82,6 @@ const FINE: FindingKnown = FindingKnown {
     is_known: true,
     has_schemas: true,
     may_be_elsewhere: false,
-    is_slip: false,
     has_value: true,
     is_taken: true,
     is_of_type: true,
@@ -97,6 +96,14 @@ const UNKNOWN: FindingKnown = FindingKnown {
     ..FINE
 };
 
+/// What is found at `/ab/`, where a schema has a key of that name at another directory.
+fn found(known: &FindingKnown, other: &str) -> u32 {
+    let other = Name {
+        text: other.as_bytes(),
+    };
+    finding_number(known, "/ab/".as_bytes(), &[other])
+}
+
 fn values_are_judged() -> bool {
     let wrong = FindingKnown {
         is_taken: false,
@@ -110,10 +117,10 @@ fn values_are_judged() -> bool {
         has_value: false,
         ..typed
     };
-    finding_number(&FINE) == 0
-        && finding_number(&wrong) == 5
-        && finding_number(&typed) == 4
-        && finding_number(&none) == 0
+    found(&FINE, "/c/") == 0
+        && found(&wrong, "/c/") == 5
+        && found(&typed, "/c/") == 4
+        && found(&none, "/c/") == 0
 }
 
 fn names_are_judged() -> bool {
@@ -121,20 +128,20 @@ fn names_are_judged() -> bool {
         may_be_elsewhere: true,
         ..UNKNOWN
     };
-    let slip = FindingKnown {
-        is_slip: true,
-        ..elsewhere
-    };
     let beside = FindingKnown {
         has_schemas: true,
         ..elsewhere
     };
-    finding_number(&UNKNOWN) == 1
-        && finding_number(&FindingKnown { what: 1, ..UNKNOWN }) == 2
-        && finding_number(&FindingKnown { what: 2, ..UNKNOWN }) == 3
-        && finding_number(&elsewhere) == 0
-        && finding_number(&slip) == 1
-        && finding_number(&beside) == 1
+    found(&UNKNOWN, "/c/") == 1
+        && found(&FindingKnown { what: 1, ..UNKNOWN }, "/c/") == 2
+        && found(&FindingKnown { what: 2, ..UNKNOWN }, "/c/") == 3
+        && found(&elsewhere, "/c/") == 0
+        && found(&elsewhere, "/a/") == 1
+        && found(&elsewhere, "/abc/") == 1
+        && found(&elsewhere, "/ac/") == 1
+        && found(&elsewhere, "/ba/") == 1
+        && found(&elsewhere, "/abcd/") == 0
+        && found(&beside, "/c/") == 1
 }
 
 #[test]

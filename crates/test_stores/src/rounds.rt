@@ -16,12 +16,13 @@ const IDLE: Known = Known {
     is_let_go: false,
     waits: false,
     is_in_line: false,
-    has_turn: false,
+    has_asked: false,
     has_untold: false,
     is_to_watch: false,
     is_asked: false,
     asks: false,
     is_watched: true,
+    is_others: false,
 };
 
 fn tasks_are_due() -> bool {
@@ -47,8 +48,13 @@ fn tasks_are_due() -> bool {
         ..later
     };
     let turn = Known {
-        has_turn: true,
+        has_asked: true,
         ..busy
+    };
+    let others = Known {
+        is_others: true,
+        is_in_line: true,
+        ..turn
     };
     let settled = Known { again: 10, ..IDLE };
     task_number(0, &IDLE) == 7
@@ -58,6 +64,7 @@ fn tasks_are_due() -> bool {
         && task_number(3, &busy) == 4
         && task_number(4, &busy) == 7
         && task_number(4, &turn) == 5
+        && task_number(4, &others) == 7
         && task_number(0, &later) == 7
         && task_number(0, &in_line) == 4
         && task_number(0, &asked) == 3
@@ -99,30 +106,37 @@ fn threads_end() -> bool {
 fn syncs_are_answered() -> bool {
     let alone = SyncKnown {
         has_writer: false,
+        has_failed: true,
         has_store: true,
         has_looked: false,
         is_to_settle: false,
     };
-    let beside = SyncKnown {
+    let asking = SyncKnown {
         has_writer: true,
         ..alone
+    };
+    let beside = SyncKnown {
+        has_failed: false,
+        ..asking
     };
     let settling = SyncKnown {
         has_looked: true,
         is_to_settle: true,
         ..beside
     };
-    sync_number(0, true, &alone) == 1
-        && sync_number(0, true, &beside) == 2
-        && sync_number(1, false, &alone) == 2
-        && sync_number(2, false, &beside) == 7
-        && sync_number(2, true, &beside) == 3
-        && sync_number(3, false, &beside) == 7
+    sync_number(0, true, &alone) == 2
+        && sync_number(0, true, &asking) == 1
+        && sync_number(1, true, &asking) == 3
+        && sync_number(0, true, &beside) == 3
+        && sync_number(2, false, &alone) == 3
+        && sync_number(3, false, &beside) == 8
         && sync_number(3, true, &beside) == 4
-        && sync_number(4, false, &beside) == 6
-        && sync_number(3, true, &settling) == 5
-        && sync_number(5, false, &settling) == 7
-        && sync_number(5, true, &settling) == 6
+        && sync_number(4, false, &beside) == 8
+        && sync_number(4, true, &beside) == 5
+        && sync_number(5, false, &beside) == 7
+        && sync_number(4, true, &settling) == 6
+        && sync_number(6, false, &settling) == 8
+        && sync_number(6, true, &settling) == 7
 }
 
 fn looks_end() -> bool {

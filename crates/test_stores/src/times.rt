@@ -50,7 +50,13 @@ pub(crate) fn counted(asked: &str, found: &mut String) -> Result<(), AllocError>
         time_of("/b/k=8"),
         time_of("/bk=9"),
     ];
-    match moment_beside(&waiting, u64::from(number(asked))) {
+    let change = match asked {
+        "5" => &waiting[0..1],
+        "7" => &waiting[1..3],
+        "8" => &waiting[3..4],
+        _ => &waiting[4..5],
+    };
+    match moment_beside(change, &waiting, u64::from(number(asked))) {
         u64::MAX => write!(found, "now"),
         moment => write!(found, "{moment}"),
     }
@@ -139,18 +145,14 @@ pub(crate) const GUESSED: &str = "
 /b/old 8 | /b/=4 /b/k=6 /b/old=9
 ";
 
-/// How many bytes a file has of a turn with these notes, at most so many and so many bytes, and what is read of it; and whether any
-/// part of its bytes is read as notes.
+/// How many bytes a file has of these notes, and what is read of it; and whether any part of its bytes is read as notes.
 fn show_kept(
     alloc: Global,
     notes: &[DconfdbTime<'_>],
-    limits: &str,
     found: &mut String,
 ) -> Result<(), AllocError> {
-    let (most, most_bytes) = limits.split_once(' ').unwrap_or((limits, ""));
-    let (most, most_bytes) = (number(most) as usize, number(most_bytes) as usize);
     let mut room = vec![in alloc; 0; ROOM]?;
-    let len = notes_written(alloc, notes, most, most_bytes, &mut room)?;
+    let len = notes_written(notes, &mut room)?;
     write!(found, "{len}")?;
     let (bytes, _) = room.split_at(len.min(room.len()));
     if let Some(read) = notes_read(alloc, bytes)? {
@@ -166,21 +168,16 @@ fn show_kept(
 
 /// What is kept of notes, of which the first is of the turn and says that the second is of a file that was left.
 pub(crate) fn kept(alloc: Global, asked: &str, found: &mut String) -> Result<(), AllocError> {
-    let (limits, notes) = asked.split_once("; ").unwrap_or((asked, ""));
-    let mut notes = times_of(alloc, notes)?;
+    let mut notes = times_of(alloc, asked)?;
     if let Some(head) = notes.first_mut() {
         head.value = 1;
     }
-    show_kept(alloc, &notes, limits, found)
+    show_kept(alloc, &notes, found)
 }
 
 pub(crate) const KEPT: &str = "
-9 999; =5 left=1 /a=4 /b=6 | 128 =5 left=1 /a=4 /b=6
--- more notes or bytes than may be: one for all
-3 999; =5 left=1 /a=4 /b=6 | 101 =5 left=1 /=6
-9 127; =5 left=1 /a=4 /b=6 | 101 =5 left=1 /=6
+=5 left=1 /a=4 /b=6 | 128 =5 left=1 /a=4 /b=6
 -- without the file that was left, or the turn's note, it is no file
-9 999; =5 | 48
-9 999; x=5 left=1 | 77
-9 999; | 0
+=5 | 48
+x=5 left=1 | 77
 ";

@@ -5,7 +5,7 @@ use dconf_verdicts::{
     verdict_number,
 };
 use dconf_waiting::{
-    Failing, Patience, Progress, Waiter, WaitingEdit, fate_number, found, put, settle,
+    Failing, Patience, Progress, Tally, Waiter, WaitingEdit, fate_number, found, put, settle,
 };
 use std::test::Fail;
 
@@ -232,20 +232,15 @@ fn fates_are_told() -> bool {
         is_there: true,
         ..untried
     };
-    let renewed = Waiter {
-        is_renewed: true,
-        ..untried
-    };
     fate_number(false, &tried) == 0
         && fate_number(true, &tried) == 1
         && fate_number(true, &untried) == 0
         && fate_number(true, &refused) == 2
         && fate_number(false, &there) == 1
         && fate_number(false, &waiter(3, 1, 2)) == 3
-        && fate_number(false, &renewed) == 4
 }
 
-/// A change that was tried, of one edit, and the newest edit of its key, which is alone.
+/// A change that was tried, of one edit, and the newest edit of its key, which is alone. It was the set of that number.
 fn waiter(change: usize, number: usize, newest: usize) -> Waiter {
     let alone = |number| WaitingEdit {
         number,
@@ -253,6 +248,7 @@ fn waiter(change: usize, number: usize, newest: usize) -> Waiter {
     };
     Waiter {
         change,
+        set: number as u64,
         edit: alone(number),
         newest: alone(newest),
         fate: 0,
@@ -260,27 +256,35 @@ fn waiter(change: usize, number: usize, newest: usize) -> Waiter {
         is_refused: false,
         asks: false,
         is_there: false,
-        is_renewed: false,
     }
 }
 
-/// Of four the first is overtaken and the third refused: the others wait in their order.
-fn lines_keep_their_order() -> bool {
+/// Of four, in no order, the one that was set first is overtaken and the third refused: the others wait in the order in which they were set.
+fn lines_are_put_in_order() -> bool {
     let refused = Waiter {
         is_refused: true,
         ..waiter(13, 3, 3)
     };
     let mut line = [
+        waiter(14, 4, 4),
+        refused,
         waiter(11, 1, 4),
         waiter(12, 2, 2),
-        refused,
-        waiter(14, 4, 4),
     ];
-    settle(&mut line, false) == 2
+    let mut tally = Tally {
+        settled: 5,
+        overtaken: 6,
+    };
+    settle(&mut line, false, &mut tally) == 2
         && line[0].change == 12
         && line[1].change == 14
         && line[2].change.wrapping_add(line[3].change) == 24
         && line[2].fate.wrapping_add(line[3].fate) == 5
+        && tally.settled == 6
+        && tally.overtaken == 7
+        && settle(&mut line[..2], true, &mut tally) == 0
+        && tally.settled == 15
+        && tally.overtaken == 0
 }
 
 fn waits_end() -> bool {
@@ -312,22 +316,24 @@ fn waits_end() -> bool {
             nanoseconds: 0,
         },
     };
-    let mut changed = patience.changed;
-    patience.renew(changed, 5);
-    let before = patience.end;
-    patience.renew(changed, 6);
-    let same = patience.end;
-    changed.nanoseconds = 1;
-    patience.renew(changed, 58_000_000);
-    before == 10_000_005
-        && same == 10_000_005
+    let folder = patience.changed;
+    let changed = FileTime {
+        nanoseconds: 1,
+        ..folder
+    };
+    let begun = patience.goes_on(&progress, folder, 5) && patience.end == 10_000_005;
+    let same = patience.goes_on(&progress, folder, 6) && patience.end == 10_000_005;
+    let renewed = patience.goes_on(&progress, changed, 58_000_000);
+    begun
+        && same
+        && renewed
         && patience.end == 60_000_005
-        && patience.goes_on(&progress, 60_000_004)
-        && !patience.goes_on(&progress, 60_000_005)
-        && !patience.goes_on(&done, 6)
-        && !patience.goes_on(&failed, 6)
-        && patience.goes_on(&resting, 2_000_004)
-        && !patience.goes_on(&resting, 2_000_005)
+        && patience.goes_on(&progress, changed, 60_000_004)
+        && !patience.goes_on(&progress, changed, 60_000_005)
+        && !patience.goes_on(&done, changed, 6)
+        && !patience.goes_on(&failed, changed, 6)
+        && patience.goes_on(&resting, changed, 2_000_004)
+        && !patience.goes_on(&resting, changed, 2_000_005)
 }
 
 /// What is said: 0 nothing, 1 the fault, 2 nothing, though it lasts, 3 that it is over.
@@ -335,21 +341,34 @@ fn faults_are_said() -> bool {
     let mut failing = Failing {
         since: 0,
         pause: 0,
+        again: 0,
+        due: 0,
+        tries: 7,
+        failed: 0,
         is_there: false,
         is_said: false,
     };
     let silent = failing.met(false, false, true, 4) == 0
         && failing.met(true, false, true, 5) == 0
+        && failing.due == 1_500_005
         && failing.met(true, true, true, 9_000_005) == 0
         && failing.met(true, true, true, 10_000_004) == 0;
-    let paused = failing.since == 5 && failing.pause == 200_000;
+    let paused = failing.since == 5
+        && failing.pause == 200_000
+        && failing.again == 10_200_004
+        && failing.due == 10_000_005
+        && failing.failed == 0;
     let said = failing.met(true, true, true, 10_000_005) == 1
+        && failing.failed == 7
+        && failing.due == 0
         && failing.met(true, false, true, 10_000_006) == 2
         && failing.met(false, false, true, 10_000_007) == 3;
     silent
         && paused
         && said
         && failing.pause == 0
+        && failing.tries == 7
+        && failing.failed == 0
         && failing.met(true, false, false, 9) == 1
         && failing.met(true, false, true, 10) == 0
 }
@@ -446,7 +465,7 @@ fn changes_wait(rt: HostRuntime) -> Result<(), Fail> {
     assert!(rt;
         the_newest_is_found()
             && fates_are_told()
-            && lines_keep_their_order()
+            && lines_are_put_in_order()
             && waits_end()
             && faults_are_said()
     );

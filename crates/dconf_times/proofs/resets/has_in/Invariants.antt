@@ -7,4 +7,4 @@ use Rattle.dconf_times.proofs.resets.has_in.Given as goal
 -- the rest decides
 abbrev pub invariant-loop-edit : goal.invariant-loop-edit
 invariant-loop-edit l =
-    list_any (is_in l.moment l.directory) (map note_of (drop l.edit-index l.waiting)) ≡ list_any (is_in l.moment l.directory) (map note_of l.waiting)
+    list_any (is_in l.directory) (map note_of (drop l.edit-index l.change)) ≡ list_any (is_in l.directory) (map note_of l.change)

@@ -9,7 +9,7 @@ use Rattle.dconf_waiting.specs.Fates.{waits}
 use Rattle.dconf_waiting.proofs.line.gather.Goals as goal
 
 abbrev nobody : Waiter
-nobody = record { change = 0; edit = record { number = 0; is_alone = false }; newest = record { number = 0; is_alone = false }; fate = 0; is_tried = false; is_refused = false; asks = false; is_there = false; is_renewed = false }
+nobody = record { change = 0; set = 0; edit = record { number = 0; is_alone = false }; newest = record { number = 0; is_alone = false }; fate = 0; is_tried = false; is_refused = false; asks = false; is_there = false }
 
 swapped : (xs ys zs : List Waiter) (k i : ℕ) → FiltersInPlace waits xs ys k i → i < length ys → (get_or ys i nobody).fate ≡ 0 → SwappedAt ys zs k i → FiltersInPlace waits xs zs (k + 1) (i + 1)
 swapped xs ys zs k i f inside zero by = FiltersInPlace-more_swap {x = get_or ys i nobody} f inside (eq-eqb (get_or ys i nobody).fate 0 zero) (get_or_default ys i nobody (get_or ys i nobody) inside) by

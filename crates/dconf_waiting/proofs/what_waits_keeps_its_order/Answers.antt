@@ -1,5 +1,0 @@
-use Rattle.dconf_waiting.proofs.FateLaws.{what_waits_keeps_its_order}
-use Rattle.dconf_waiting.proofs.what_waits_keeps_its_order.Goals as goal
-
-pub returns : goal.returns
-returns c = what_waits_keeps_its_order

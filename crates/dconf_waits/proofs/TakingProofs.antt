@@ -1,0 +1,236 @@
+-- A try to take a lock ends: each answer leaves less to be done, by what is left of what is counted.
+use Rattle.std.proofs.Common.{ℕ, zero, suc, ◌+◌, ◌-◌, ◌*◌, ◌<◌, ◌≤◌, ◌≡◌, ◌⊎◌, ◌==◌, ◌&&◌, Bool, true, false, not, List, [], ◌∷◌, length, if◌then◌else◌, refl, sym, ◌∙◌, ap, subst, arith, ⊎_elim, inl, inr}
+use Rattle.std.specs.Prelude.{nat_lt}
+use Rattle.std.proofs.lemmas.Bool.{eqb-true, ltb-true}
+use Rattle.dconf_verdicts.specs.declared.standing.Seen.{Seen}
+use Rattle.dconf_verdicts.specs.declared.standing.Standing.{Standing}
+use Rattle.dconf_verdicts.specs.declared.standing.Standing.TheVariants as standing
+use Rattle.dconf_verdicts.specs.declared.standing.Purpose.TheVariants.{Look, OpenLock, HoldLock}
+use Rattle.dconf_verdicts.specs.Standings.{standing_of}
+use Rattle.dconf_waits.specs.declared.taking.TakingRecord.{TakingRecord}
+use Rattle.dconf_waits.specs.Takings.{above_seen, begun, by_names, by_old, by_removal, failed, file_made, folder_made, folder_opened, is_for_others, listed, locked, moved, opened_anew, over, taken, to}
+use Rattle.dconf_waits.specs.TakingLaws.{Begins, EachTryEnds, EndsIn, is_over}
+
+-- ---- what is left
+
+abbrev again_left : Bool → ℕ
+again_left is = if is then 0 else 1
+
+abbrev made_left : Bool → ℕ
+made_left is = if is then 0 else 1
+
+-- who makes the folder has made it
+abbrev folders_left : ℕ → Bool → ℕ
+folders_left task is = if task == 2 then 0 else made_left is
+
+-- a folder that is to be opened has all openings of the lock's file before it
+abbrev openings_left : ℕ → ℕ → ℕ
+openings_left task openings = if nat_lt task 3 then 100 else 99 - openings
+
+abbrev place : ℕ → ℕ
+place task = if task == 1 then 12 else if task == 2 then 13 else 13 - task
+
+abbrev left_at : ℕ → TakingRecord → ℕ
+left_at task t =
+    16000 * again_left t.is_again + (1450 * (9 - t.forks) + (1450 * folders_left task t.has_made + (14 * openings_left task t.openings + place task)))
+
+abbrev left : TakingRecord → ℕ
+left t = left_at t.task t
+
+-- ---- what is less
+
+less_place : (a k f o p q : ℕ) → q < p → 16000 * a + (1450 * k + (1450 * f + (14 * o + q))) < 16000 * a + (1450 * k + (1450 * f + (14 * o + p)))
+less_place a k f o p q h = omega arith
+
+less_open : (a k f o n p q : ℕ) → n < o → q < p + 14 → 16000 * a + (1450 * k + (1450 * f + (14 * n + q))) < 16000 * a + (1450 * k + (1450 * f + (14 * o + p)))
+less_open a k f o n p q h g = omega arith
+
+less_made : (a k f o p : ℕ) → f ≡ 1 → 16000 * a + (1450 * k + 1413) < 16000 * a + (1450 * k + (1450 * f + (14 * o + p)))
+less_made a k f o p h = omega arith
+
+less_forked : (a k n f o p : ℕ) → n < k → 16000 * a + (1450 * n + (1450 * f + 1412)) < 16000 * a + (1450 * k + (1450 * f + (14 * o + p)))
+less_forked a k n f o p h = omega arith
+
+less_again : (a k f o p : ℕ) → a ≡ 1 → 15912 < 16000 * a + (1450 * k + (1450 * f + (14 * o + p)))
+less_again a k f o p h = omega arith
+
+-- ---- where it goes
+
+abbrev Falls : ℕ → TakingRecord → Type 0
+Falls n u = (is_over u ≡ true) ⊎ ((0 < u.task) × (u.task < 12) × (left u < n))
+
+by_test : (is : Bool) (n : ℕ) (u v : TakingRecord) → (is ≡ true → Falls n u) → (is ≡ false → Falls n v) → Falls n (if is then u else v)
+by_test true n u v p q = p refl
+by_test false n u v p q = q refl
+
+goes_to : (n k : ℕ) (u : TakingRecord) → u.task ≡ k → 0 < k → k < 12 → left u < n → Falls n u
+goes_to n k u e a b h = inr (subst (λ (x : ℕ). 0 < x) (sym e) a, subst (λ (x : ℕ). x < 12) (sym e) b, h)
+
+unmade : (a b : Bool) → (a && not b) ≡ true → made_left b ≡ 1
+unmade true false h = refl
+unmade true true h = absurd (let bad : false ≡ true = h in cc)
+unmade false b h = absurd (let bad : false ≡ true = h in cc)
+
+first_time : (b : Bool) → b ≡ false → again_left b ≡ 1
+first_time false h = refl
+first_time true h = absurd (let bad : true ≡ false = h in cc)
+
+failed_falls : (t : TakingRecord) (fault o p : ℕ)
+    → Falls (16000 * again_left t.is_again + (1450 * (9 - t.forks) + (1450 * made_left t.has_made + (14 * o + p)))) (failed t fault)
+failed_falls t fault o p =
+    by_test ((fault == 2) && not t.has_made) _ (to t 2) (over t 15 3 fault)
+    (λ is. goes_to _ 2 (to t 2) refl (omega arith) (omega arith) (less_made (again_left t.is_again) (9 - t.forks) (made_left t.has_made) o p (unmade (fault == 2) t.has_made is)))
+    (λ is. inl refl)
+
+moved_falls : (t : TakingRecord) (f o p : ℕ) → Falls (16000 * again_left t.is_again + (1450 * (9 - t.forks) + (1450 * f + (14 * o + p)))) (moved t)
+moved_falls t f o p =
+    by_test t.is_again _ (over t 15 2 0) (record (begun t) { is_again = true })
+    (λ is. inl refl)
+    (λ is. goes_to _ 1 (record (begun t) { is_again = true }) refl (omega arith) (omega arith) (less_again (again_left t.is_again) (9 - t.forks) f o p (first_time t.is_again is)))
+
+-- it goes on to a later task
+later_falls : (t : TakingRecord) (k next : ℕ) → 2 < k → k < next → next < 12
+    → left (to t next) ≡ 16000 * again_left t.is_again + (1450 * (9 - t.forks) + (1450 * made_left t.has_made + (14 * (99 - t.openings) + (13 - next))))
+    → Falls (16000 * again_left t.is_again + (1450 * (9 - t.forks) + (1450 * made_left t.has_made + (14 * (99 - t.openings) + (13 - k))))) (to t next)
+later_falls t k next a b c is =
+    goes_to _ next (to t next) refl (omega (arith, a, b)) c
+    (subst
+    (λ (x : ℕ). x < 16000 * again_left t.is_again + (1450 * (9 - t.forks) + (1450 * made_left t.has_made + (14 * (99 - t.openings) + (13 - k))))) (sym is)
+    (less_place (again_left t.is_again) (9 - t.forks) (made_left t.has_made) (99 - t.openings) (13 - k) (13 - next) (omega (arith, a, b, c))))
+
+-- ---- the tasks
+
+opened_falls : (t : TakingRecord) (fault : ℕ) → Falls (left_at 1 t) (folder_opened t fault)
+opened_falls t fault =
+    by_test (fault == 0) _ (record t { task = 3; openings = 0 }) (failed t fault)
+    (λ is. goes_to _ 3 (record t { task = 3; openings = 0 }) refl (omega arith) (omega arith) (less_open (again_left t.is_again) (9 - t.forks) (made_left t.has_made) 100 99 12 10 (omega arith) (omega arith)))
+    (λ is. failed_falls t fault 100 12)
+
+folder_falls : (t : TakingRecord) (fault : ℕ) → Falls (left_at 2 t) (folder_made t fault)
+folder_falls t fault =
+    by_test (fault == 0) _ (record t { task = 1; has_made = true }) (over t 15 3 fault)
+    (λ is. goes_to _ 1 (record t { task = 1; has_made = true }) refl (omega arith) (omega arith) (less_place (again_left t.is_again) (9 - t.forks) 0 100 13 12 (omega arith)))
+    (λ is. inl refl)
+
+old_falls : (t : TakingRecord) (st : Standing) → Falls (left_at 3 t) (by_old t st)
+old_falls t standing.Good = later_falls t 3 8 (omega arith) (omega arith) (omega arith) refl
+old_falls t (standing.Fault fault) = failed_falls t fault (99 - t.openings) 10
+old_falls t standing.Nothing = later_falls t 3 4 (omega arith) (omega arith) (omega arith) refl
+old_falls t standing.Map = later_falls t 3 4 (omega arith) (omega arith) (omega arith) refl
+old_falls t standing.Head = later_falls t 3 4 (omega arith) (omega arith) (omega arith) refl
+old_falls t standing.Other = later_falls t 3 4 (omega arith) (omega arith) (omega arith) refl
+
+above_falls : (t : TakingRecord) (s : Seen) → Falls (left_at 4 t) (above_seen t s)
+above_falls t s =
+    by_test (is_for_others s) _ (to t 5) (to t 7)
+    (λ is. later_falls t 4 5 (omega arith) (omega arith) (omega arith) refl)
+    (λ is. later_falls t 4 7 (omega arith) (omega arith) (omega arith) refl)
+
+anew_falls : (t : TakingRecord) (p : ℕ) → Falls (16000 * again_left t.is_again + (1450 * (9 - t.forks) + (1450 * made_left t.has_made + (14 * (99 - t.openings) + p)))) (opened_anew t)
+anew_falls t p =
+    by_test (nat_lt t.openings 99) _ (record t { task = 3; openings = t.openings + 1 }) (over t 15 3 17)
+    (λ is. (let fewer : t.openings < 99 = ltb-true t.openings 99 is in
+    goes_to _ 3 (record t { task = 3; openings = t.openings + 1 }) refl (omega arith) (omega arith)
+    (less_open (again_left t.is_again) (9 - t.forks) (made_left t.has_made) (99 - t.openings) (99 - (t.openings + 1)) p 10 (omega (arith, fewer)) (omega arith))))
+    (λ is. inl refl)
+
+-- one way after the other
+file_falls : (t : TakingRecord) (k fault : ℕ) → 4 < k → k < 8 → t.task ≡ k
+    → Falls (16000 * again_left t.is_again + (1450 * (9 - t.forks) + (1450 * made_left t.has_made + (14 * (99 - t.openings) + (13 - k))))) (file_made t fault)
+file_falls t k fault a b e =
+    by_test (fault == 0) _ (to t 8) _ (λ h. later_falls t k 8 (omega (arith, a)) b (omega arith) refl)
+    (λ h. by_test (fault == 17) _ (opened_anew t) _ (λ g. anew_falls t (13 - k))
+    (λ g. by_test (t.task == 5) _ (to t 6) _ (λ five. (let at5 : k ≡ 5 = sym e ∙ eqb-true t.task 5 five in later_falls t k 6 (omega (arith, a)) (omega (arith, at5)) (omega arith) refl))
+    (λ five. by_test (t.task == 6) _ (to t 7) _ (λ six. (let at6 : k ≡ 6 = sym e ∙ eqb-true t.task 6 six in later_falls t k 7 (omega (arith, a)) (omega (arith, at6)) (omega arith) refl))
+    (λ six. failed_falls t fault (99 - t.openings) (13 - k)))))
+
+listed_falls : (t : TakingRecord) (fault : ℕ) → Falls (left_at 8 t) (listed t fault)
+listed_falls t fault =
+    by_test (fault == 0) _ (to t 9) _ (λ h. later_falls t 8 9 (omega arith) (omega arith) (omega arith) refl)
+    (λ h. by_test (nat_lt t.forks 9) _ (record t { task = 1; forks = t.forks + 1 }) (over t 15 1 11)
+    (λ is. (let fewer : t.forks < 9 = ltb-true t.forks 9 is in
+    goes_to _ 1 (record t { task = 1; forks = t.forks + 1 }) refl (omega arith) (omega arith)
+    (less_forked (again_left t.is_again) (9 - t.forks) (9 - (t.forks + 1)) (made_left t.has_made) (99 - t.openings) 5 (omega (arith, fewer)))))
+    (λ is. inl refl))
+
+locked_falls : (t : TakingRecord) (fault : ℕ) → Falls (left_at 9 t) (locked t fault)
+locked_falls t fault = by_test (fault == 0) _ (to t 10) (over t 14 1 fault) (λ h. later_falls t 9 10 (omega arith) (omega arith) (omega arith) refl) (λ h. inl refl)
+
+names_fall : (t : TakingRecord) (st : Standing) → Falls (left_at 10 t) (by_names t st)
+names_fall t standing.Good = inl refl
+names_fall t standing.Other = later_falls t 10 11 (omega arith) (omega arith) (omega arith) refl
+names_fall t standing.Nothing = moved_falls t (made_left t.has_made) (99 - t.openings) 3
+names_fall t standing.Map = moved_falls t (made_left t.has_made) (99 - t.openings) 3
+names_fall t standing.Head = moved_falls t (made_left t.has_made) (99 - t.openings) 3
+names_fall t (standing.Fault fault) = moved_falls t (made_left t.has_made) (99 - t.openings) 3
+
+removal_falls : (t : TakingRecord) (st : Standing) → Falls (left_at 11 t) (by_removal t st)
+removal_falls t (standing.Fault fault) = inl refl
+removal_falls t standing.Good = moved_falls t (made_left t.has_made) (99 - t.openings) 2
+removal_falls t standing.Nothing = moved_falls t (made_left t.has_made) (99 - t.openings) 2
+removal_falls t standing.Map = moved_falls t (made_left t.has_made) (99 - t.openings) 2
+removal_falls t standing.Head = moved_falls t (made_left t.has_made) (99 - t.openings) 2
+removal_falls t standing.Other = moved_falls t (made_left t.has_made) (99 - t.openings) 2
+
+-- ---- each of them
+
+abbrev taken_at : ℕ → TakingRecord → Seen → TakingRecord
+taken_at task t s =
+    if task == 1 then folder_opened t s.fault else if task == 2 then folder_made t s.fault else
+    if task == 3 then by_old t (standing_of OpenLock s) else if task == 4 then above_seen t s else
+    if task == 5 then file_made t s.fault else if task == 6 then file_made t s.fault else if task == 7 then file_made t s.fault else
+    if task == 8 then listed t s.fault else if task == 9 then locked t s.fault else
+    if task == 10 then by_names t (standing_of HoldLock s) else if task == 11 then by_removal t (standing_of Look s) else
+    if task == 14 then record (begun t) { task = 9 } else begun t
+
+task_falls : (k : ℕ) (t : TakingRecord) (s : Seen) → t.task ≡ k → 0 < k → k < 12 → Falls (left_at k t) (taken_at k t s)
+task_falls zero t s e a b = absurd (omega (arith, a))
+task_falls (suc zero) t s e a b = opened_falls t s.fault
+task_falls (suc (suc zero)) t s e a b = folder_falls t s.fault
+task_falls (suc (suc (suc zero))) t s e a b = old_falls t (standing_of OpenLock s)
+task_falls (suc (suc (suc (suc zero)))) t s e a b = above_falls t s
+task_falls (suc (suc (suc (suc (suc zero))))) t s e a b = file_falls t 5 s.fault (omega arith) (omega arith) e
+task_falls (suc (suc (suc (suc (suc (suc zero)))))) t s e a b = file_falls t 6 s.fault (omega arith) (omega arith) e
+task_falls (suc (suc (suc (suc (suc (suc (suc zero))))))) t s e a b = file_falls t 7 s.fault (omega arith) (omega arith) e
+task_falls (suc (suc (suc (suc (suc (suc (suc (suc zero)))))))) t s e a b = listed_falls t s.fault
+task_falls (suc (suc (suc (suc (suc (suc (suc (suc (suc zero))))))))) t s e a b = locked_falls t s.fault
+task_falls (suc (suc (suc (suc (suc (suc (suc (suc (suc (suc zero)))))))))) t s e a b = names_fall t (standing_of HoldLock s)
+task_falls (suc (suc (suc (suc (suc (suc (suc (suc (suc (suc (suc zero))))))))))) t s e a b = removal_falls t (standing_of Look s)
+task_falls (suc (suc (suc (suc (suc (suc (suc (suc (suc (suc (suc (suc n)))))))))))) t s e a b = absurd (omega (arith, b))
+
+each_falls : (t : TakingRecord) (s : Seen) → 0 < t.task → t.task < 12 → Falls (left t) (taken t s)
+each_falls t s a b = task_falls t.task t s refl a b
+
+-- ---- it ends
+
+ends : (n : ℕ) (answers : List Seen) (t : TakingRecord) → 0 < t.task → t.task < 12 → left t < n → n ≤ length answers → EndsIn answers t
+ends zero answers t a b h l = absurd (omega (arith, h))
+ends (suc n) [] t a b h l = absurd (omega (arith, l))
+ends (suc n) (s ∷ more) t a b h l =
+    ⊎_elim (λ (is : is_over (taken t s) ≡ true). inl is)
+    (λ (r : (0 < (taken t s).task) × ((taken t s).task < 12) × (left (taken t s) < left t)). inr (ends n more (taken t s) r.0 r.1 (omega (arith, r.2, h)) (omega (arith, l))))
+    (each_falls t s a b)
+
+-- the first answer begins it
+begin : (t : TakingRecord) (s : Seen) (more : List Seen) (k : ℕ) → t.task ≡ k → 31999 ≤ length more → taken_at k t s ≡ begun t → EndsIn (s ∷ more) t
+begin t s more k e l is =
+    let same : taken t s ≡ begun t = ap (λ (n : ℕ). taken_at n t s) e ∙ is in
+    let low : 0 < 1 = omega arith in
+    let high : 1 < 12 = omega arith in
+    let few : 31912 < 31913 = omega arith in
+    inr (subst (EndsIn more) (sym same) (ends 31913 more (begun t) low high few (omega (arith, l))))
+
+again : (t : TakingRecord) (s : Seen) (more : List Seen) → t.task ≡ 14 → 31999 ≤ length more → EndsIn (s ∷ more) t
+again t s more e l =
+    let same : taken t s ≡ record (begun t) { task = 9 } = ap (λ (n : ℕ). taken_at n t s) e in
+    let low : 0 < 9 = omega arith in
+    let high : 9 < 12 = omega arith in
+    let few : 31890 < 31913 = omega arith in
+    inr (subst (EndsIn more) (sym same) (ends 31913 more (record (begun t) { task = 9 }) low high few (omega (arith, l))))
+
+pub each_try_ends : EachTryEnds
+each_try_ends [] t h l = absurd (omega (arith, l))
+each_try_ends (s ∷ more) t h l =
+    let enough : 31999 ≤ length more = omega (arith, l) in
+    ⊎_elim (λ e. begin t s more 0 e enough refl)
+    (λ r. ⊎_elim (λ e. begin t s more 13 e enough refl) (λ q. ⊎_elim (λ e. again t s more e enough) (λ e. begin t s more 15 e enough refl) q) r) h

@@ -1,0 +1,22 @@
+-- A try to take a lock, whatever is answered: it ends.
+use Rattle.std.specs.Prelude.{ℕ, ◌≡◌, ◌⊎◌, ◌≤◌, Bool, true, ◌||◌, ◌==◌, List, [], ◌∷◌, length}
+use Rattle.dconf_verdicts.specs.declared.standing.Seen.{Seen}
+use Rattle.dconf_waits.specs.declared.taking.TakingRecord.{TakingRecord}
+use Rattle.dconf_waits.specs.Takings.{taken}
+
+-- the lock is had, others have it, or it isn't had
+abbrev pub is_over : TakingRecord → Bool
+is_over t = (t.task == 13) || ((t.task == 14) || (t.task == 15))
+
+-- nothing was answered yet, or the try before is over
+abbrev pub Begins : TakingRecord → Type 0
+Begins t = (t.task ≡ 0) ⊎ ((t.task ≡ 13) ⊎ ((t.task ≡ 14) ⊎ (t.task ≡ 15)))
+
+-- it is over after one of these answers
+abbrev pub EndsIn : List Seen → TakingRecord → Type 0
+EndsIn [] t = ⊥
+EndsIn (s ∷ more) t = (is_over (taken t s) ≡ true) ⊎ EndsIn more (taken t s)
+
+-- law: after so many answers at most it is known whether the lock is had, and why not
+abbrev pub EachTryEnds : Type 0
+EachTryEnds = (answers : List Seen) (t : TakingRecord) → Begins t → 32000 ≤ length answers → EndsIn answers t
