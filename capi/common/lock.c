@@ -64,9 +64,18 @@ static void after_fork_in_child(void)
     pthread_mutex_unlock(&listing);
 }
 
+static int ask_to_heed(void)
+{
+    return pthread_atfork(before_fork, after_fork, after_fork_in_child);
+}
+
+/* It is asked for while `listing` is free: a child that is made meanwhile would have it locked for ever. */
 static void heed_forks(void)
 {
-    unheeded = pthread_atfork(before_fork, after_fork, after_fork_in_child);
+    int fault = ask_to_heed();
+    pthread_mutex_lock(&listing);
+    unheeded = fault;
+    pthread_mutex_unlock(&listing);
 }
 
 /* Where no memory was left for it, it is tried again: a lock that a child keeps would be nobody's. Gives 0, or errno. */
@@ -76,7 +85,7 @@ static int heed_all_forks(void)
     pthread_once(&once, heed_forks);
     pthread_mutex_lock(&listing);
     if (unheeded != 0)
-        heed_forks();
+        unheeded = ask_to_heed();
     int fault = unheeded;
     pthread_mutex_unlock(&listing);
     return fault;

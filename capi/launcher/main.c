@@ -32,7 +32,7 @@ static Program *program_of(const char *word)
 /* As for the library: what the environment says doesn't count for a program that has more rights than whoever started it. */
 static void forget_environment(void)
 {
-    for (size_t i = 0; i < OWN_VARIABLES; i++)
+    for (size_t i = 0; i < VARIABLES; i++)
         unsetenv(variables[i]);
 }
 

@@ -4,7 +4,7 @@ ghost use Rattle.dconf_folders.specs.Failures.{HasCause};
 ghost use Rattle.dconf_folders.specs.SystemCalls.{given_mode, made, removed, renamed, synced, with_its_folder};
 
 use crate::lock::FolderLock;
-use crate::modes::{keep_mode, open_new};
+use crate::modes::{FOR_ALL, FOR_OWNER, keep_mode, open_new};
 use crate::reading::read_opened;
 use dconf_folders::{Folder, FolderFault, LARGEST_FILE, Record, folder_of};
 use std::alloc::Global;
@@ -40,13 +40,15 @@ const DONE: u64 = 1;
 /// A name may lead into another folder, by the host's rules for a path. `sync_folder` syncs the current folder; a rename into
 /// another one syncs that one itself, so its `Device` may come when the file has its name already. `create` removes a file of
 /// that name first. A file that `replace` puts in the place of another has its permission bits, and is at no time open to
-/// more users than it; a new one has those of 0666 that the process's umask leaves. Each call is a few calls of the host;
+/// more users than it; a new one has those of 0666 that the process's umask leaves, or of 0600 in a private turn. Each call is a few calls of the host;
 /// `read` asks for the file's length, and takes that much memory once.
 #[derive(Drop)]
 pub struct StdFolder<R> {
     rt: R,
     failures: u64,
     can_write: bool,
+    /// The permission bits of a file that takes no other's place, less the umask.
+    bits: u32,
     log: Record,
     /// The calls of the system that make those up, as far as their order matters.
     calls: Record,
@@ -80,10 +82,22 @@ impl<R: Files> StdFolder<R> {
             rt,
             failures: 0,
             can_write: true,
+            bits: FOR_ALL,
             log: Record::new(),
             calls: Record::new(),
             _lock: Some(lock),
         }
+    }
+
+    /// The same, but that a file that takes no other's place is open to its owner alone.
+    pub fn in_private_turn(rt: R, lock: FolderLock) -> StdFolder<R>
+        ensures failures { failures_of result ≡ 0 }
+        ensures writes { can_write result ≡ true }
+        ensures honest { IsTrue (is_honest result) }
+    {
+        let mut folder = StdFolder::in_turn(rt, lock);
+        folder.bits = FOR_OWNER;
+        folder
     }
 
     /// The current folder, in which no file can be made or renamed: each such call is a fault of the device, and asks nothing
@@ -97,6 +111,7 @@ impl<R: Files> StdFolder<R> {
             rt,
             failures: 0,
             can_write: false,
+            bits: FOR_ALL,
             log: Record::new(),
             calls: Record::new(),
             _lock: None,
@@ -182,7 +197,7 @@ impl<R: Files> Folder for StdFolder<R> {
         if !self.can_write {
             return self.counted(Err(FolderFault::Device));
         }
-        let answer = make_new(&self.rt, &mut self.calls, name);
+        let answer = make_new(&self.rt, &mut self.calls, name, self.bits);
         self.noted(CREATE, name, &[], answer)
     }
 
@@ -233,7 +248,7 @@ impl<R: Files> Folder for StdFolder<R> {
 }
 
 /// A new file, in the place of any other: one of that name may be another name's too, so it is not written over.
-fn make_new<R: Files>(rt: &R, calls: &mut Record, name: &str) -> io::Result<()>
+fn make_new<R: Files>(rt: &R, calls: &mut Record, name: &str, bits: u32) -> io::Result<()>
     ensures { OnOk result (calls.new.notes ≡ made name.now ∷ removed name.now ∷ calls.old.notes) }
 {
     calls.note(&[REMOVE, DONE], name.as_bytes(), &[]);
@@ -242,7 +257,7 @@ fn make_new<R: Files>(rt: &R, calls: &mut Record, name: &str) -> io::Result<()>
         _ => {}
     }
     calls.note(&[CREATE, DONE], name.as_bytes(), &[]);
-    let _file = open_new(rt, name)?;
+    let _file = open_new(rt, name, bits)?;
     Ok(())
 }
 

@@ -21,11 +21,19 @@ const DONE: u64 = 1;
 /// What the owner needs to fill a file and to sync it.
 const READ_AND_WRITE: u32 = 0o600;
 
-/// A new and empty file. One that is to take another's place is open to nobody but its owner and whom that one is open to.
-pub(crate) fn open_new<R: Files>(rt: &R, name: &str) -> io::Result<R::File> {
+/// Those of a new file: whom it is open to is the umask's to say,
+pub(crate) const FOR_ALL: u32 = 0o666;
+
+/// or it is open to its owner alone.
+pub(crate) const FOR_OWNER: u32 = 0o600;
+
+/// A new and empty file. One that is to take another's place is open to nobody but its owner and whom that one is open to; any other has
+/// these bits, less the umask.
+pub(crate) fn open_new<R: Files>(rt: &R, name: &str, bits: u32) -> io::Result<R::File> {
     let mut options = OpenOptions::new();
     options.write(true).create_new(true);
     let Some(old) = replaced(rt, name)? else {
+        options.mode(bits);
         return options.open(rt, name);
     };
     let bits = bits_of(&old);

@@ -1,2 +1,4 @@
 pub mod CountLaws
 pub mod PastLaws
+pub mod RenamedLaws
+pub mod OneFile

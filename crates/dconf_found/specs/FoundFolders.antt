@@ -1,5 +1,5 @@
 -- What counts of a bad database's file, what a read of a store that was found gives, and what its folder shows.
-use Rattle.std.specs.Prelude.{◌≡◌, ◌⊎◌, ℕ, Bool, false, List, [], ◌∷◌, ◌++◌, IfSome, IsSome, true, not, ◌&&◌, map, Option, Some, None, codes, ◌≢◌}
+use Rattle.std.specs.Prelude.{◌≡◌, ◌⊎◌, ℕ, Bool, false, List, [], ◌∷◌, ◌++◌, IfSome, IsSome, true, not, ◌&&◌, map, Option, Some, None, option_map, vec_items, ◌≢◌}
 use Rattle.std.specs.String.{string_bytes}
 use Rattle.dconf_model.specs.Folders.{Event, file_of, read_content}
 use Rattle.dconf_model.specs.Folders.Event.{touch}
@@ -87,15 +87,18 @@ IsProfileFile is_everyones None given = given ≡ None
 IsProfileFile true (Some held) given = (text : List ℕ) × IsEveryones held text × (given ≡ Some text)
 IsProfileFile false (Some held) given = given ≡ Some held
 
--- or that of the user alone
-abbrev pub IsProfile : Bool → Bool → Option (List ℕ) → Option (List ℕ) → Type 0
-IsProfile true is_everyones held given = IsProfileFile is_everyones held given
-IsProfile false is_everyones held given = given ≡ Some (codes "user-db:user")
+-- or the one that was made
+abbrev pub IsProfile : Option (List ℕ) → Bool → Option (List ℕ) → Option (List ℕ) → Type 0
+IsProfile None is_everyones held given = IsProfileFile is_everyones held given
+IsProfile (Some text) is_everyones held given = given ≡ Some text
 
 -- of a database what counts
 abbrev pub IsDatabaseGiven : Option (List ℕ) → Option (List ℕ) → Option Loss → Type 0
 IsDatabaseGiven None given lost = (given ≡ None) × (lost ≡ None)
 IsDatabaseGiven (Some file) given lost = Counts file given lost
+
+abbrev pub made_of : Lookup → Option (List ℕ)
+made_of lookup = option_map vec_items lookup.made
 
 abbrev pub is_profile : Lookup → List ℕ → Bool
 is_profile lookup name = bytes_eq name (string_bytes lookup.profile)
@@ -106,7 +109,7 @@ is_nowhere lookup name = not lookup.has_folder && not (starts_with_slash name)
 
 -- by whether the name is the profile's, and whether it is nowhere
 abbrev pub IsGivenBy : Bool → Bool → Lookup → Option (List ℕ) → Option (List ℕ) → Option Loss → Type 0
-IsGivenBy true nowhere lookup held given lost = IsProfile lookup.has_profile lookup.is_everyones held given × (lost ≡ None)
+IsGivenBy true nowhere lookup held given lost = IsProfile (made_of lookup) lookup.is_everyones held given × (lost ≡ None)
 IsGivenBy false true lookup held given lost = (given ≡ None) × (lost ≡ None)
 IsGivenBy false false lookup held given lost = IsDatabaseGiven held given lost
 
@@ -120,17 +123,17 @@ IsLookedUp lookup name held given old new = (lost : Option Loss) × IsGiven look
 
 -- ---- what is too big to be read
 
--- the file, or its lines
-abbrev pub IsTooBigProfile : Bool → Bool → Option (List ℕ) → Type 0
-IsTooBigProfile true is_everyones held = IsOverSize held ⊎ ((given : Option (List ℕ)) × IsProfileFile is_everyones held given × IsOverSize given)
-IsTooBigProfile false is_everyones held = ⊥
+-- the file, or what is read of it, or was made
+abbrev pub IsTooBigProfile : Option (List ℕ) → Bool → Option (List ℕ) → Type 0
+IsTooBigProfile made is_everyones held =
+    ((made ≡ None) × IsOverSize held) ⊎ ((given : Option (List ℕ)) × IsProfile made is_everyones held given × IsOverSize given)
 
 abbrev pub IsTooBigDatabase : Option (List ℕ) → Type 0
 IsTooBigDatabase None = ⊥
 IsTooBigDatabase (Some file) = IsOverSize (Some file) ⊎ IsTooBigToCount file
 
 abbrev pub IsTooBigBy : Bool → Bool → Lookup → Option (List ℕ) → Type 0
-IsTooBigBy true nowhere lookup held = IsTooBigProfile lookup.has_profile lookup.is_everyones held
+IsTooBigBy true nowhere lookup held = IsTooBigProfile (made_of lookup) lookup.is_everyones held
 IsTooBigBy false true lookup held = ⊥
 IsTooBigBy false false lookup held = IsTooBigDatabase held
 

@@ -1,2 +1,5 @@
 pub mod Everyones
 pub mod FoundFolders
+pub mod Renamed
+pub mod DconfsLines
+pub mod Kinds

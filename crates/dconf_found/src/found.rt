@@ -38,13 +38,13 @@ impl<F: Folder> FoundFolder<F> {
     ghost use Rattle.std.specs.Prelude.{true};
     ghost use Rattle.dconf_found.specs.FoundFolders.{agrees, failures_of, inner_of, lost_of, losses};
 
-    /// The folder `inner`, with the profile in the file `profile`, or that of the user alone if there is none. If it is that of all users
-    /// its databases of the system are files beside it.
+    /// The folder `inner`, with the profile in the file `profile`, or the one that was `made`, which is read by that name. If it is that of
+    /// all users its databases of the system are files beside it.
     pub fn new(
         alloc: Global,
         inner: F,
         profile: String,
-        has_profile: bool,
+        made: Option<Vec<u8>>,
         is_everyones: bool,
         has_folder: bool,
     ) -> FoundFolder<F>
@@ -58,7 +58,7 @@ impl<F: Folder> FoundFolder<F> {
             alloc,
             lookup: Lookup {
                 profile,
-                has_profile,
+                made,
                 is_everyones,
                 has_folder,
             },

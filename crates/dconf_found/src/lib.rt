@@ -12,12 +12,25 @@
 //! What a call costs: a read asks of a database each rule of sound ones; of a bad one it takes memory for what is saved.
 #![tactic(auto)]
 
+ghost use Rattle.dconf_found.specs.DconfsLines.{OneFileForALine};
+
 mod bad;
 mod bad_databases;
+mod dconfs;
 mod everyones;
 mod found;
+mod kinds;
 mod lookup;
+mod renamed;
 
 pub use bad::BadDatabase;
 pub use bad_databases::{Counting, Loss, counted};
+pub use dconfs::{InPlace, profile_in_place};
 pub use found::FoundFolder;
+pub use kinds::{MACHINE_FILE, store_line};
+pub use renamed::{RenamedFolder, Renames};
+
+/// For a line of a profile in dconf's places a command reads the file that the library reads.
+pub fn a_line_means_one_file()
+    ensures { OneFileForALine }
+{}

@@ -1,8 +1,8 @@
 //! What a read of a store that was found gives, by what its files hold.
-ghost use Rattle.std.specs.Prelude.{◌≡◌, ◌≤◌, ◌++◌, List, Option, IfOk, IfSome, IsTrue, IsErrOf, OnErr, false, length, option_map, vec_items};
+ghost use Rattle.std.specs.Prelude.{◌≡◌, ◌≤◌, ◌++◌, List, None, Option, IfOk, IfSome, IsTrue, IsErrOf, OnErr, false, length, option_map, vec_items};
 ghost use Rattle.dconf_model.specs.Folders.{Event, read_content};
 ghost use Rattle.dconf_model.specs.Reads.{IsOverSize};
-ghost use Rattle.dconf_found.specs.FoundFolders.{Counts, IsTooBigToCount, IsDatabaseGiven, IsLookedUp, IsProfile, IsProfileFile, IsTooBigAt, IsTooBigDatabase, IsTooBigProfile, is_nowhere, losses, losses_of};
+ghost use Rattle.dconf_found.specs.FoundFolders.{Counts, IsTooBigToCount, IsDatabaseGiven, IsLookedUp, IsProfile, IsProfileFile, IsTooBigAt, IsTooBigDatabase, IsTooBigProfile, is_nowhere, losses, losses_of, made_of};
 ghost use Rattle.dconf_found.specs.declared.bad_databases.Loss.{Loss};
 
 use crate::bad::{BadDatabase, note};
@@ -11,15 +11,13 @@ use crate::everyones::everyones;
 use dconf_folders::{Folder, FolderFault, LARGEST_FILE};
 use std::alloc::{AllocError, Global};
 
-/// The profile where no file says another one.
-const USERS: &str = "user-db:user";
-
 /// How the names of a store that was found are looked up.
 #[derive(Drop)]
 pub(crate) struct Lookup {
-    /// The profile's file; it holds `user-db:user` where there is none.
+    /// The profile's file,
     pub(crate) profile: String,
-    pub(crate) has_profile: bool,
+    /// or else what it says.
+    pub(crate) made: Option<Vec<u8>>,
     /// Whether it is that of all users, whose databases of the system are files beside it.
     pub(crate) is_everyones: bool,
     /// Whether there is a folder: else only names that start with `/` may have a file.
@@ -69,23 +67,43 @@ fn read_profile<F: Folder>(
     name: &str,
 ) -> Result<Option<Vec<u8>>, FolderFault>
     ensures gives { IsTrue (F.honest folder.new) → (es : List Event) → F.past folder.old es → IfOk result (λ found.
-        IsProfile lookup.now.has_profile lookup.now.is_everyones (read_content es name.now) (option_map vec_items found)) }
+        IsProfile (made_of lookup.now) lookup.now.is_everyones (read_content es name.now) (option_map vec_items found)) }
     ensures too_big { IsTrue (F.honest folder.new) → (es : List Event) → F.past folder.old es → IsErrOf result FolderFault.TooBig →
-        IsTooBigProfile lookup.now.has_profile lookup.now.is_everyones (read_content es name.now) }
+        IsTooBigProfile (made_of lookup.now) lookup.now.is_everyones (read_content es name.now) }
     ensures size { IfOk result (λ found. IfSome found (λ v. length v.items ≤ LARGEST_FILE)) }
     ensures past { (es : List Event) → F.past folder.old es → F.past folder.new es }
     ensures honest { IsTrue (F.honest folder.new) → IsTrue (F.honest folder.old) }
     ensures turn { F.holds_turn folder.new ≡ F.holds_turn folder.old }
 {
-    if !lookup.has_profile {
-        return Ok(Some(USERS.as_bytes().to_vec(alloc)?));
-    }
-    let found = folder.read(alloc, name)?;
-    let shown = profile_file(alloc, lookup.is_everyones, found)?;
+    let shown = whole_profile(alloc, folder, lookup, name)?;
     if is_too_big(&shown) {
         return Err(FolderFault::TooBig);
     }
     Ok(shown)
+}
+
+/// The same, however many they are.
+fn whole_profile<F: Folder>(
+    alloc: Global,
+    folder: &mut F,
+    lookup: &Lookup,
+    name: &str,
+) -> Result<Option<Vec<u8>>, FolderFault>
+    ensures gives { IsTrue (F.honest folder.new) → (es : List Event) → F.past folder.old es → IfOk result (λ found.
+        IsProfile (made_of lookup.now) lookup.now.is_everyones (read_content es name.now) (option_map vec_items found)) }
+    ensures too_big { IsTrue (F.honest folder.new) → (es : List Event) → F.past folder.old es → IsErrOf result FolderFault.TooBig →
+        (made_of lookup.now ≡ None) × IsOverSize (read_content es name.now) }
+    ensures past { (es : List Event) → F.past folder.old es → F.past folder.new es }
+    ensures honest { IsTrue (F.honest folder.new) → IsTrue (F.honest folder.old) }
+    ensures turn { F.holds_turn folder.new ≡ F.holds_turn folder.old }
+{
+    match &lookup.made {
+        Some(text) => Ok(Some(text.as_slice().to_vec(alloc)?)),
+        None => {
+            let found = folder.read(alloc, name)?;
+            Ok(profile_file(alloc, lookup.is_everyones, found)?)
+        }
+    }
 }
 
 /// What is read of the profile's file.

@@ -1,2 +1,3 @@
 pub mod Resets
 pub mod Typed
+pub mod Updates

@@ -1,6 +1,7 @@
 //! What is said below the line of a refusal to a person who reads it: dconf_words' text, of what can be seen here.
 use command_words::Command;
 use dconf_disk::{Folder, StdFolder, folder_of};
+use dconf_found::Renames;
 use dconf_path::{Database, DatabaseKind, read_profile};
 use dconf_words::{About, Facts, Hint, Said, WORDS, Word};
 use std::alloc::{AllocError, Global};
@@ -89,6 +90,8 @@ pub(crate) struct Given {
     value: String,
     file: String,
     profile: String,
+    /// The names that files have in the folder, of a store that was found.
+    pub(crate) names: Option<Renames>,
 }
 
 impl Given {
@@ -135,7 +138,16 @@ impl Given {
             value: String::from_str(alloc, value)?,
             file: String::from_str(alloc, file)?,
             profile: String::from_str(alloc, profile)?,
+            names: None,
         })
+    }
+
+    /// The name in the folder of a file that a line names.
+    fn held<'a>(&'a self, name: &'a str) -> &'a str {
+        match &self.names {
+            Some(names) => names.held(name),
+            None => name,
+        }
     }
 }
 
@@ -159,6 +171,7 @@ pub(crate) fn explain_own(rt: &HostRuntime, said: &str) {
         value: String::new(alloc),
         file: String::new(alloc),
         profile: String::new(alloc),
+        names: None,
     };
     say(rt, &none, said);
 }
@@ -239,8 +252,8 @@ fn file_at_fault(rt: &HostRuntime, given: &Given, said: &Said<'_>) -> Result<Str
             _ => whole(rt, given.file.as_str()),
         },
         About::File => match said.word {
-            Word::TooBig => whole(rt, placed(said)),
-            _ => whole(rt, said.rest),
+            Word::TooBig => whole(rt, given.held(placed(said))),
+            _ => whole(rt, given.held(said.rest)),
         },
         About::Change => match said.word {
             Word::NotWritable => whole(rt, given.profile.as_str()),

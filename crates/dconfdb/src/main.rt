@@ -2,7 +2,6 @@
 #![tactic(auto)]
 
 mod explain;
-mod find;
 mod keep;
 mod messages;
 mod named;

@@ -1,7 +1,7 @@
 //! What is said on err of what `main` itself finds, and the statuses that it gives.
 use crate::explain::explain_own;
-use crate::find::NotFound;
-use dconf_found::BadDatabase;
+use dconf_found::{BadDatabase, MACHINE_FILE};
+use dconf_surroundings::NotFound;
 use dconfdb_calls::{BadFile, Fate, Fault};
 use std::fmt::{self, Display};
 use std::io;
@@ -45,6 +45,12 @@ pub(crate) fn refuse_place(rt: &HostRuntime, fault: NotFound) -> u8 {
             return USAGE;
         }
         NotFound::NoFolder => refuse(rt, "NoFolder"),
+        NotFound::Kind {
+            is_unreadable: true,
+        } => refuse(rt, format_args!("Device {MACHINE_FILE}")),
+        NotFound::Kind {
+            is_unreadable: false,
+        } => refuse(rt, format_args!("{MACHINE_FILE}:1: BadLine")),
         NotFound::Device(folder) => refuse(rt, format_args!("Device {folder}")),
         NotFound::NotText => refuse(rt, "the environment is not UTF-8"),
         NotFound::Memory => refuse(rt, NO_MEMORY),
@@ -52,19 +58,13 @@ pub(crate) fn refuse_place(rt: &HostRuntime, fault: NotFound) -> u8 {
     REFUSED
 }
 
-/// Says on err what was wrong with a database in a folder, and what counts of it, as the library for C says it.
+/// Says on err what was wrong with a database of this path, and what counts of it, as the library for C says it.
 pub(crate) fn warn_of_bad(
     rt: &HostRuntime,
-    folder: &str,
+    path: &str,
     bad: &BadDatabase,
     is_first: bool,
 ) -> io::Result<()> {
-    let name = bad.name.as_str();
-    let (start, between) = if name.starts_with('/') {
-        ("", "")
-    } else {
-        (folder, "/")
-    };
     let wrong = Wrong(bad.loss.bad);
     let fate = Fate {
         keys: bad.loss.keys,
@@ -72,7 +72,12 @@ pub(crate) fn warn_of_bad(
         is_first,
         is_aside: false,
     };
-    eprintln!(rt; "warning: {start}{between}{name}: {wrong}{fate}")
+    eprintln!(rt; "warning: {path}: {wrong}{fate}")
+}
+
+/// Says on err why something isn't the profile, or not all of it.
+pub(crate) fn warn_of_profile(rt: &HostRuntime, told: &str) -> io::Result<()> {
+    eprintln!(rt; "warning: {told}")
 }
 
 /// Says on err that the store that is named has no folder, so that nothing is read of it.

@@ -1,7 +1,7 @@
 //! The databases that the profile of a store names, for what is said of them.
-use crate::find::Found;
 use crate::messages::warn_of_missing;
 use dconf_disk::{Folder, StdFolder};
+use dconf_surroundings::Found;
 use dconfdb_calls::{DconfdbName, profile_databases};
 use std::alloc::AllocError;
 use std::fs;
@@ -30,10 +30,11 @@ fn profile_bytes(rt: &HostRuntime, profile: &str) -> Option<Vec<u8>> {
 /// The file of the first database, as it was asked for when the store was read.
 pub(crate) fn first_file(rt: &HostRuntime, found: &Found) -> Result<Option<String>, AllocError> {
     let alloc = rt.alloc();
-    if !found.has_profile {
-        return Ok(Some(String::from_str(alloc, "user.user")?));
-    }
-    let Some(bytes) = profile_bytes(rt, found.profile.as_str()) else {
+    let bytes = match &found.profile.made {
+        Some(text) => Some(text.as_slice().to_vec(alloc)?),
+        None => profile_bytes(rt, found.profile.path.as_str()),
+    };
+    let Some(bytes) = bytes else {
         return Ok(None);
     };
     let Ok(names) = profile_databases(alloc, &bytes) else {

@@ -9,19 +9,21 @@ ghost use Rattle.dconf_disk.specs.StdFolders.{can_write, events_of, failures_of,
 ghost use Rattle.dconf_streams.specs.Streams.{NoneFailed};
 ghost use Rattle.dconf_found.specs.FoundFolders as found;
 ghost use Rattle.dconf_found.specs.FoundFolders.{IsPast, agrees, inner_of};
+ghost use Rattle.dconf_found.specs.Renamed.{IsRenamed, renamed_inner};
 
 use crate::explain::{Given, Heard, explain};
-use crate::find::{Found, NotFound, enter};
 use crate::keep::{forget, keep};
 use crate::messages::{
     REFUSED, refuse, refuse_device, refuse_memory, refuse_place, warn_of_bad, warn_of_no_folder,
+    warn_of_profile,
 };
 use crate::named::{first_file, warn_of_missing_ones};
 use dconf_args::{Command, Place, Replaced, user_file};
 use dconf_cli::{Counted, run};
 use dconf_disk::{Folder, FolderFault, FolderLock, LockFault, StdFolder, folder_of};
-use dconf_found::{BadDatabase, FoundFolder};
+use dconf_found::{BadDatabase, FoundFolder, RenamedFolder};
 use dconf_places::EVERYONES_FOLDER;
+use dconf_surroundings::{Found, NotFound, enter, set_flag};
 use std::alloc::AllocError;
 use std::io;
 
@@ -39,7 +41,7 @@ pub(crate) fn run_at(rt: &HostRuntime, asked: Command, place: Place) -> u8 {
 /// The command by the profile of its store, which is found.
 fn found_for(rt: &HostRuntime, asked: Command, place: Place) -> Result<(Command, Found), NotFound> {
     let found = enter(rt, place, asked.replaced().is_some())?;
-    let profile = String::from_str(rt.alloc(), found.profile.as_str())?;
+    let profile = String::from_str(rt.alloc(), found.profile.path.as_str())?;
     Ok((asked.with_profile(profile), found))
 }
 
@@ -68,12 +70,9 @@ fn run_found(rt: &HostRuntime, asked: Command, found: Found) -> u8 {
         return read_found(rt, asked, StdFolder::read_only(rt), &found);
     }
     match FolderLock::take(rt, rt.alloc(), ".") {
-        Ok(lock) => change_found(rt, asked, StdFolder::in_turn(rt, lock), &found),
-        Err(LockFault::Busy) => match users_file(rt, &found) {
-            Ok(name) => match whole_path(rt, found.folder.as_str(), name) {
-                Ok(path) => refuse_busy_file(rt, path.as_str()),
-                Err(_) => refuse_memory(rt),
-            },
+        Ok(lock) => change_found(rt, asked, in_turn(rt, lock, &found), &found),
+        Err(LockFault::Busy) => match users_path(rt, &found) {
+            Ok(path) => refuse_busy_file(rt, path.as_str()),
             Err(_) => refuse_memory(rt),
         },
         Err(LockFault::Memory) => refuse_memory(rt),
@@ -91,10 +90,30 @@ fn read_found(
     let Ok(mut folder) = found_folder(rt, folder, found) else {
         return refuse_memory(rt);
     };
-    let status = run_within(rt, asked, &mut folder);
-    match warn(rt, folder.bad(), found) {
-        Ok(()) => status,
-        Err(_) => REFUSED,
+    let is_explained = matches!(&asked, Command::Explain { .. });
+    let is_change = asked.replaced().is_some();
+    let status = run_within(rt, asked, found, &mut folder);
+    if is_change {
+        // In the turn, and whatever became of it: who reads looks again, and that is all.
+        set_flag(rt, found.flag.as_str());
+    }
+    let told = if is_explained && status == 0 {
+        print!(rt; "{}", found.kind.as_str())
+    } else {
+        Ok(())
+    };
+    match (told, warn(rt, folder.bad(), found)) {
+        (Ok(()), Ok(())) => status,
+        _ => REFUSED,
+    }
+}
+
+/// A folder in which files are replaced. Where dconf has the user's database, a new one is open to its owner alone, as dconf makes it.
+fn in_turn<'a>(rt: &'a HostRuntime, lock: FolderLock, found: &Found) -> StdFolder<&'a HostRuntime> {
+    if found.is_dconfs {
+        StdFolder::in_private_turn(rt, lock)
+    } else {
+        StdFolder::in_turn(rt, lock)
     }
 }
 
@@ -103,6 +122,9 @@ fn warn(rt: &HostRuntime, bad: &[BadDatabase], found: &Found) -> io::Result<()> 
     if found.is_nowhere() {
         warn_of_no_folder(rt, found.folder.as_str())?;
     }
+    if let Some(told) = &found.profile.told {
+        warn_of_profile(rt, told.as_str())?;
+    }
     let first = match bad.first() {
         Some(_) => first_file(rt, found)?,
         None => None,
@@ -110,10 +132,11 @@ fn warn(rt: &HostRuntime, bad: &[BadDatabase], found: &Found) -> io::Result<()> 
     let mut may_be_first = true;
     for database in bad {
         let is_first = may_be_first && first.as_deref() == Some(database.name.as_str());
-        warn_of_bad(rt, found.folder.as_str(), database, is_first)?;
+        let path = found.path(rt, database.name.as_str())?;
+        warn_of_bad(rt, path.as_str(), database, is_first)?;
         may_be_first = false;
     }
-    if found.is_everyones() && found.has_profile {
+    if found.is_everyones() && found.profile.made.is_none() {
         warn_of_missing_ones(rt, EVERYONES_FOLDER, EVERYONES_FOLDER)?;
     }
     Ok(())
@@ -123,13 +146,17 @@ fn found_folder<'a>(
     rt: &'a HostRuntime,
     folder: StdFolder<&'a HostRuntime>,
     found: &Found,
-) -> Result<FoundFolder<StdFolder<&'a HostRuntime>>, AllocError> {
-    let profile = String::from_str(rt.alloc(), found.profile.as_str())?;
+) -> Result<FoundFolder<RenamedFolder<StdFolder<&'a HostRuntime>>>, AllocError> {
+    let profile = String::from_str(rt.alloc(), found.profile.path.as_str())?;
+    let made = match &found.profile.made {
+        Some(text) => Some(text.as_slice().to_vec(rt.alloc())?),
+        None => None,
+    };
     Ok(FoundFolder::new(
         rt.alloc(),
-        folder,
+        RenamedFolder::new(folder, found.names(rt)?),
         profile,
-        found.has_profile,
+        made,
         found.is_everyones(),
         found.has_folder,
     ))
@@ -145,13 +172,16 @@ fn change_found(
     let Ok(name) = users_file(rt, found) else {
         return refuse_memory(rt);
     };
-    if name == found.profile {
+    if name == found.profile.path {
         return read_found(rt, asked, folder, found);
     }
+    let Ok(name) = found.held(rt, name.as_str()) else {
+        return refuse_memory(rt);
+    };
     let kept = match keep(rt, name.as_str()) {
         Ok(kept) => kept,
         Err(FolderFault::Memory) => return refuse_memory(rt),
-        Err(_) => return refuse_kept(rt, found, name),
+        Err(_) => return refuse_kept(rt, found),
     };
     let status = read_found(rt, asked, folder, found);
     if let Some(other) = kept {
@@ -161,28 +191,26 @@ fn change_found(
 }
 
 /// Says on err that the user's bad file couldn't be kept under another name.
-fn refuse_kept(rt: &HostRuntime, found: &Found, name: String) -> u8 {
-    match whole_path(rt, found.folder.as_str(), name) {
+fn refuse_kept(rt: &HostRuntime, found: &Found) -> u8 {
+    match users_path(rt, found) {
         Ok(path) => refuse_device(rt, path.as_str()),
         Err(_) => refuse_memory(rt),
     }
 }
 
-/// The whole path of a file in a store's folder.
-fn whole_path(rt: &HostRuntime, folder: &str, name: String) -> Result<String, AllocError> {
-    if name.starts_with('/') {
-        return Ok(name);
-    }
-    format!(in rt.alloc(); "{folder}/{}", name.as_str())
+/// The whole path of that file.
+fn users_path(rt: &HostRuntime, found: &Found) -> Result<String, AllocError> {
+    found.path(rt, users_file(rt, found)?.as_str())
 }
 
 /// The name of the user's file of a store, or of its profile where it has none.
 fn users_file(rt: &HostRuntime, found: &Found) -> Result<String, AllocError> {
     let alloc = rt.alloc();
     let mut folder = found_folder(rt, StdFolder::read_only(rt), found)?;
-    let read = folder.read(alloc, found.profile.as_str());
+    let profile = found.profile.path.as_str();
+    let read = folder.read(alloc, profile);
     let bytes = read.ok().flatten().unwrap_or(Vec::new(alloc));
-    user_file(alloc, found.profile.as_str(), &bytes)
+    user_file(alloc, profile, &bytes)
 }
 
 /// Runs the command on a folder and the streams of the process.
@@ -211,25 +239,29 @@ fn run_on(rt: &HostRuntime, asked: Command, folder: &mut StdFolder<&HostRuntime>
 /// The same on a store that was found.
 ///
 /// What the run is said to have done, it did to a folder of files that hold what counts of the host's, of which its reads gave what it holds.
-/// The same it did to the host's, but for an append or a sync that was refused.
+/// The same it did to the host's, by the names that those have, but for an append or a sync that was refused.
 fn run_within(
     rt: &HostRuntime,
     asked: Command,
-    folder: &mut FoundFolder<StdFolder<&HostRuntime>>,
+    store: &Found,
+    folder: &mut FoundFolder<RenamedFolder<StdFolder<&HostRuntime>>>,
 ) -> u8
-    ensures calm { IsTrue (is_honest (inner_of folder.new) && agrees folder.new) → NoneFailed (found.failures_of folder.old) (found.failures_of folder.new)
-        → (old : List Event) → IsPast (λ f es. es ≡ events_of f) folder.old old
-        → (i : Input) × ((new : List Event) × IsPast (λ f es. es ≡ events_of f) folder.new new
+    ensures calm { IsTrue (is_honest (renamed_inner (inner_of folder.new)) && agrees folder.new) → NoneFailed (found.failures_of folder.old) (found.failures_of folder.new)
+        → (old : List Event) → IsPast (IsRenamed (λ f es. es ≡ events_of f)) folder.old old
+        → (i : Input) × ((new : List Event) × IsPast (IsRenamed (λ f es. es ≡ events_of f)) folder.new new
         × ((output : Output) × RanCalmly (command_of asked) i old new output)) }
-    ensures ran { IsTrue (is_honest (inner_of folder.new) && agrees folder.new)
-        → (old : List Event) → IsPast (λ f es. es ≡ events_of f) folder.old old
-        → (i : Input) × ((new : List Event) × IsPast (λ f es. es ≡ events_of f) folder.new new
+    ensures ran { IsTrue (is_honest (renamed_inner (inner_of folder.new)) && agrees folder.new)
+        → (old : List Event) → IsPast (IsRenamed (λ f es. es ≡ events_of f)) folder.old old
+        → (i : Input) × ((new : List Event) × IsPast (IsRenamed (λ f es. es ≡ events_of f)) folder.new new
         × ((output : Output) × Ran (command_of asked) i old new output)) }
     // Without the turn to replace files nothing was done to it.
-    ensures untouched { can_write (inner_of folder.old) ≡ false → (old : List Event) → IsPast (λ f es. es ≡ events_of f) folder.old old
-        → IsPast (λ f es. es ≡ events_of f) folder.new old }
+    ensures untouched { can_write (renamed_inner (inner_of folder.old)) ≡ false → (old : List Event) → IsPast (IsRenamed (λ f es. es ≡ events_of f)) folder.old old
+        → IsPast (IsRenamed (λ f es. es ≡ events_of f)) folder.new old }
 {
-    let given = Given::of(rt, &asked);
+    let mut given = Given::of(rt, &asked);
+    if let Some(given) = &mut given {
+        given.names = store.names(rt).ok();
+    }
     let mut input = Counted::new(rt.stdin());
     let mut out = Counted::new(rt.stdout());
     let mut err = Counted::new(Heard::new(rt.alloc(), rt.stderr()));

@@ -1,22 +1,57 @@
 //! `update [FOLDER]`: the databases that are not what their sources say, each made by `compile`.
-use crate::messages::{REFUSED, refuse, refuse_device, refuse_memory};
+use crate::messages::{REFUSED, refuse, refuse_device, refuse_memory, refuse_place};
 use crate::named::warn_of_missing_ones;
 use crate::runs::run_in_turn;
 use crate::sources::{Unread, is_folder, names_in, source_folder};
-use dconf_args::{Command, Replaced, updates};
+use dconf_args::{Command, Replaced, SourceFolder, updates};
 use dconf_cli::{Counted, is_made};
 use dconf_disk::StdFolder;
-use dconf_places::EVERYONES_FOLDER;
-use std::io::ErrorKind;
+use dconf_habits::in_dconfs_place;
+use dconf_places::{EVERYONES_FOLDER, Given};
+use dconf_surroundings::{NotFound, Surroundings};
+use std::alloc::AllocError;
+use std::io::{self, ErrorKind};
 use std::{env, fs};
+
+/// Where dconf has its databases of the system.
+const DCONFS_FOLDER: &str = "/etc/dconf/db";
+
+/// How the databases of a folder are named.
+#[derive(Clone, Copy)]
+enum Naming {
+    /// NAME.db: our own.
+    Own,
+    /// NAME: dconf's.
+    Dconfs,
+}
 
 /// Makes the databases of a folder that are not what their sources say.
 pub(crate) fn update(rt: &HostRuntime, folder: Option<String>) -> u8 {
-    let folder = folder.as_deref().unwrap_or(EVERYONES_FOLDER);
+    match folder {
+        Some(folder) => update_in(rt, folder.as_str(), Naming::Own),
+        None => match machines_naming(rt) {
+            Ok(Naming::Own) => update_in(rt, EVERYONES_FOLDER, Naming::Own),
+            Ok(Naming::Dconfs) => update_in(rt, DCONFS_FOLDER, Naming::Dconfs),
+            Err(fault) => refuse_place(rt, fault),
+        },
+    }
+}
+
+/// How those of the machine's kind of store are named.
+fn machines_naming(rt: &HostRuntime) -> Result<Naming, NotFound> {
+    if Surroundings::of_machine(rt)?.is_dconfs(Given::Nobody)? {
+        Ok(Naming::Dconfs)
+    } else {
+        Ok(Naming::Own)
+    }
+}
+
+/// Makes those of a folder.
+fn update_in(rt: &HostRuntime, folder: &str, naming: Naming) -> u8 {
     match env::set_current_dir(rt, folder) {
         Ok(()) => {
-            let status = update_here(rt, folder);
-            match warn_of_missing_ones(rt, ".", folder) {
+            let status = update_here(rt, folder, naming);
+            match warn_of_missing(rt, folder, naming) {
                 Ok(()) => status,
                 Err(_) => REFUSED,
             }
@@ -29,21 +64,29 @@ pub(crate) fn update(rt: &HostRuntime, folder: Option<String>) -> u8 {
     }
 }
 
+/// A profile of our own kind is beside its databases of the system.
+fn warn_of_missing(rt: &HostRuntime, folder: &str, naming: Naming) -> io::Result<()> {
+    match naming {
+        Naming::Own => warn_of_missing_ones(rt, ".", folder),
+        Naming::Dconfs => Ok(()),
+    }
+}
+
 /// Makes those of the current folder, which was given as `folder`.
-fn update_here(rt: &HostRuntime, folder: &str) -> u8 {
+fn update_here(rt: &HostRuntime, folder: &str, naming: Naming) -> u8 {
     match names_in(rt, ".") {
-        Ok(names) => update_each(rt, &names),
+        Ok(names) => update_each(rt, &names, naming),
         Err(Unread::Folder(_)) => refuse_device(rt, folder),
         Err(Unread::Memory) => refuse_memory(rt),
     }
 }
 
 /// Makes those of the folders with these names. A fault of one leaves the others.
-fn update_each(rt: &HostRuntime, names: &[String]) -> u8 {
+fn update_each(rt: &HostRuntime, names: &[String], naming: Naming) -> u8 {
     let mut status = 0;
     for name in names {
         if let Some(database) = database_of(rt, name.as_str()) {
-            status |= update_one(rt, database);
+            status |= update_one(rt, database, naming);
         }
     }
     status
@@ -59,15 +102,32 @@ fn database_of<'a>(rt: &HostRuntime, name: &'a str) -> Option<&'a str> {
 }
 
 /// Makes the database of one folder, if it isn't made.
-fn update_one(rt: &HostRuntime, name: &str) -> u8 {
+fn update_one(rt: &HostRuntime, name: &str, naming: Naming) -> u8 {
     match source_folder(rt, name) {
-        Ok(folder) => match updates(rt.alloc(), &[folder]) {
+        Ok(folder) => match commands_of(rt, folder, naming) {
             Ok(commands) => run_each(rt, commands),
             Err(_) => refuse_memory(rt),
         },
         Err(Unread::Folder(folder)) => refuse_device(rt, folder.as_str()),
         Err(Unread::Memory) => refuse_memory(rt),
     }
+}
+
+/// The commands that make a folder's database.
+fn commands_of(
+    rt: &HostRuntime,
+    folder: SourceFolder,
+    naming: Naming,
+) -> Result<Vec<Command>, AllocError> {
+    let alloc = rt.alloc();
+    let name = String::from_str(alloc, folder.name.as_str())?;
+    let mut commands = updates(alloc, &[folder])?;
+    if let Naming::Dconfs = naming
+        && let Some(command) = commands.pop()
+    {
+        commands.push(in_dconfs_place(command, name))?;
+    }
+    Ok(commands)
 }
 
 /// Runs commands one after another, each in its turn.

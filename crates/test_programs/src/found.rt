@@ -16,7 +16,8 @@ fn a_bad_database_is_no_refusal(rt: HostRuntime) -> Result<(), Fail> {
     let alloc = rt.alloc();
     let files = folder_of(alloc, &[("user.user", "no database")])?;
     let profile = String::from_str(alloc, "x")?;
-    let mut folder = FoundFolder::new(alloc, files, profile, false, false, true);
+    let made = "user-db:user".as_bytes().to_vec(alloc)?;
+    let mut folder = FoundFolder::new(alloc, files, profile, Some(made), false, true);
     runs(alloc, SCRIPT, &mut folder)?;
     if folder.bad().len() == 3 {
         Ok(())

@@ -245,20 +245,24 @@ fn are_made() -> bool {
         has_store: false,
         ..there
     };
-    change_number(0, true, &empty) == 5
-        && change_number(0, true, &refused) == 6
+    change_number(0, true, &empty) == 7
+        && change_number(0, true, &refused) == 8
         && change_number(0, true, &PLAIN) == 1
         && change_number(1, true, &PLAIN) == 3
-        && change_number(3, true, &PLAIN) == 5
-        && change_number(3, true, &watched) == 4
+        && change_number(3, true, &PLAIN) == 4
+        && change_number(4, true, &PLAIN) == 7
         && change_number(4, true, &watched) == 5
+        && change_number(5, true, &watched) == 7
         && change_number(1, true, &there) == 2
-        && change_number(2, true, &there) == 5
+        && change_number(2, true, &there) == 4
         && change_number(2, false, &there) == 3
-        && change_number(1, false, &PLAIN) == 7
+        && change_number(1, false, &PLAIN) == 9
         && change_number(3, false, &locked) == 6
+        && change_number(6, true, &locked) == 8
         && change_number(1, true, &userless) == 6
-        && change_number(1, true, &closed) == 7
+        && change_number(6, true, &userless) == 8
+        && change_number(1, true, &closed) == 6
+        && change_number(6, true, &closed) == 9
 }
 
 #[test]
