@@ -16,12 +16,12 @@ typedef struct {
 /* The edits of all changes, the oldest first, and what becomes of each. */
 typedef struct {
     size_t count, taken;
-    bool is_closed; /* nobody who has this program's rights may write there: no key is writable */
+    DconfdbQueue queue;
+    bool is_closed; /* once it was written: nobody who has this program's rights may write there, and no key is writable */
     DconfdbQueued *queued; /* with all that follows in one block */
     const DconfdbEdit **edits;
     uint64_t *moments;
-    DconfdbEdit *asked; /* those that were taken for the next write, and the number, the moment and the change of each */
-    size_t *numbers;
+    DconfdbEdit *asked; /* those that were taken for the next write, and the moment and the change of each */
     Made *made;
 } Batch;
 

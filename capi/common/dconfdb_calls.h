@@ -222,13 +222,20 @@ size_t dconfdb_count_children(const uint8_t *type_text, size_t type_text_len, co
 size_t dconfdb_put_children(const uint8_t *type_text, size_t type_text_len, const uint8_t *value, size_t value_len, size_t origin,
                             DconfdbChild *room, size_t room_len);
 
+/* As what a fault of a file is told. */
+enum {
+    DCONFDB_TELLING_NOTHING, /* there is none, or it isn't */
+    DCONFDB_TELLING_REFUSES, /* as why the store can't be opened */
+    DCONFDB_TELLING_KEPT     /* the store keeps it */
+};
+
 /* Opens a layer of a file's bytes, or an empty one if there is no file (is_there false: the
  * bytes are not looked at). Else SHORT to BAD_TABLE, or UNSOUND with what is broken, which is all
  * zeros of the others; the layer is as it was. `old` is the layer of the file that this one replaced, or any other: what is as in that isn't
  * asked anew. Where its file was mapped, and may have been written over (`was_mapped`), or it is an empty one, each rule is asked of each
- * item. */
-uint32_t dconfdb_open(const DconfdbLayer *old, bool was_mapped, const uint8_t *file, size_t len, bool is_there, DconfdbLayer *layer,
-                      DconfdbUnsound *unsound);
+ * item. `telling` is as what the fault is told: to a lenient store it is KEPT, and what dconfdb_mend makes of the file counts. */
+uint32_t dconfdb_open(const DconfdbLayer *old, bool was_mapped, const uint8_t *file, size_t len, bool is_there, bool is_lenient, DconfdbLayer *layer,
+                      DconfdbUnsound *unsound, uint32_t *telling);
 
 /* The value that is seen at a key's path through layers, the first first. False, and `found` as it
  * was, where nothing is seen and where the text is no key's path. */
@@ -253,7 +260,8 @@ enum {
     DCONFDB_LIST_NAMES, /* of what it has in any layer; a directory's ends in '/' */
     DCONFDB_LIST_OWN,   /* the same of the first layer alone, if it is the user's; else there are none */
     DCONFDB_LIST_PATHS, /* of the keys below it that any layer has. Each item of the layers is named once, and nothing is searched for */
-    DCONFDB_LIST_LOCKS  /* the paths of the locks that start with it, of keys and of directories, of the layers after the first */
+    DCONFDB_LIST_LOCKS, /* the paths of the locks that start with it, of keys and of directories, of the layers after the first */
+    DCONFDB_LIST_CLOSED /* what of it nobody may write: the same; or the directory itself, if no layer is the user's */
 };
 
 /* They come in the order of their bytes, a zero byte after each. `len` is how many bytes there are; where they are more than the room,
@@ -300,10 +308,10 @@ enum {
     DCONFDB_MENDED_NOTHING /* it is no database, or that would have over 4,294,967,295 bytes */
 };
 
-/* Its bytes, which dconfdb_open opens, and how many values and locks were saved; of NOTHING none. `len` as dconfdb_list has it.
- * MEMORY, and then nothing is written. */
-uint32_t dconfdb_mend(const uint8_t *file, size_t len, uint8_t *room, size_t room_len, size_t *mended_len, uint32_t *standing, size_t *keys,
-                      size_t *locks);
+/* Its bytes, which dconfdb_open opens, and how many values and locks were saved; of NOTHING none. `is_told`: what is wrong with it is told. `len` as
+ * dconfdb_list has it. MEMORY, and then nothing is written. */
+uint32_t dconfdb_mend(const uint8_t *file, size_t len, uint8_t *room, size_t room_len, size_t *mended_len, uint32_t *standing, bool *is_told,
+                      size_t *keys, size_t *locks);
 
 /* Whether a file that begins so may be a database: its signature and its version are one's, as far as they are there. */
 bool dconfdb_is_database_head(const uint8_t *head, size_t len);
@@ -319,15 +327,13 @@ uint32_t dconfdb_fate_text(size_t keys, size_t locks, bool is_first, bool is_asi
 #define MOST_DATABASES 64
 #endif
 
-/* The databases that a profile's text names, 64 at most. `names` is how many; where they are more
- * than the room, nothing is put into it. MEMORY, NOT_TEXT, or BAD_LINE to TOO_MANY with the line,
- * counted from 1; of the others it is 0.
- *
- * Where `is_lenient`, bad lines are passed over: those that would be refused after the databases
- * so far, and those that are not UTF-8. `fault` is the number of the first one's, NOT_TEXT to TOO_MANY, and
- * `line` is its line; both are 0 where no line is bad. MEMORY, and then nothing is written. */
-uint32_t dconfdb_profile(const uint8_t *text, size_t len, bool is_lenient, DconfdbName *room, size_t room_len, size_t *names, uint32_t *fault,
-                         size_t *line);
+/* The databases that a profile names, 64 at most, by the step to which the looks at profiles came (DCONFDB_PROFILE_COUNTS, of that text, or another one).
+ * `names` is how many; where they are more than the room, nothing is put into it. `fault` is the number of the first bad line's, NOT_TEXT to TOO_MANY, and
+ * `line` is its line, counted from 1; both are 0 where no line is bad. A lenient store passes over bad lines: those that would be refused after
+ * the databases so far, and those that are not UTF-8. Else there are no names then. MEMORY, with the line 0, and then nothing else is written.
+ * It gives as what the fault is told, DCONFDB_TELLING_NOTHING and so on; `has_kept`: the store has kept a fault of a profile. */
+uint32_t dconfdb_profile(uint32_t step, const uint8_t *text, size_t len, bool is_lenient, bool has_kept, DconfdbName *room, size_t room_len,
+                         size_t *names, uint32_t *fault, size_t *line);
 
 /* ---- where a store is, which profile it has, and which file a line of that means */
 
@@ -353,14 +359,19 @@ enum {
     DCONFDB_GIVEN_BY_USER
 };
 
-/* Which kind of store is found. */
+/* Which kind of store is found, or what is asked first. */
 enum {
-    DCONFDB_KIND_OWN,    /* a folder that has all */
-    DCONFDB_KIND_DCONFS, /* each part is where dconf has it */
-    DCONFDB_KIND_UNKNOWN /* nobody knows: there is none */
+    DCONFDB_KIND_OWN,             /* a folder that has all */
+    DCONFDB_KIND_DCONFS,          /* each part is where dconf has it */
+    DCONFDB_KIND_UNKNOWN,         /* nobody knows: there is none */
+    DCONFDB_KIND_ASK_ENVIRONMENT, /* all but what the machine's file says */
+    DCONFDB_KIND_ASK_MACHINE      /* that file */
 };
 
-uint32_t dconfdb_place_kind(const DconfdbEnvironment *environment, uint32_t giver);
+/* What is known of the environment. What isn't asked makes no difference. */
+enum { DCONFDB_KNOWN_NOTHING, DCONFDB_KNOWN_ENVIRONMENT, DCONFDB_KNOWN_MACHINE };
+
+uint32_t dconfdb_place_kind(const DconfdbEnvironment *environment, uint32_t giver, uint32_t known);
 
 /* What is wanted of a store that is found. */
 enum {
@@ -407,24 +418,25 @@ enum {
 /* A look at one, and what is known of it. */
 typedef struct {
     uint32_t which;
+    uint32_t errnum;           /* by which it can't be read, or 0 */
     size_t dir;                /* of DATA, which folder: counted from 0 */
-    bool fails, is_own;        /* reading it failed, by a fault of its own */
     bool is_there;
     bool is_lenient, has_kept; /* of whoever opens the store; which has kept a fault of a profile */
+    bool lists;                /* it isn't looked at: all that may count are listed, as if none were there */
 } DconfdbProfileLook;
 
-/* As what it is told why that one isn't the profile. */
-enum {
-    DCONFDB_TELLING_NOTHING,
-    DCONFDB_TELLING_REFUSES, /* as why the store can't be opened */
-    DCONFDB_TELLING_KEPT     /* the store keeps it */
-};
+/* What comes first, or after a look; and what is told of that: why the one that was looked at isn't the profile. */
+typedef struct {
+    DconfdbPath path; /* of a look that comes */
+    DconfdbPath name; /* by which it is told */
+    size_t dir;       /* of a look that comes, for the next one */
+    uint32_t step;
+    uint32_t telling, errnum;
+    bool looks;    /* another one is looked at: which one `step` says, */
+    bool has_path; /* and if there is no such place there is nothing to look at */
+} DconfdbProfileNext;
 
-/* `dir` is that of the next look. */
-uint32_t dconfdb_profile_step(const DconfdbPlace *place, const DconfdbProfileLook *look, size_t *dir, uint32_t *telling);
-
-/* The path of its file. False: there is no such place, nothing is looked at, and nothing is written. */
-bool dconfdb_profile_path(const DconfdbPlace *place, uint32_t which, size_t dir, DconfdbPath *path);
+void dconfdb_profile_step(const DconfdbPlace *place, const DconfdbProfileLook *look, DconfdbProfileNext *next);
 
 /* The path of a database's file, by that of the profile that names it; and whether it is the user's, which can be changed, and comes first. `flag` is
  * the path of the flag of dconf's readers, which who replaces the file sets then; empty: there are none. Kind and name are those of a
@@ -440,8 +452,9 @@ uint32_t dconfdb_change(const DconfdbLayer *layers, size_t n, bool writable, con
                         const uint8_t *old, size_t old_len, uint8_t *room, size_t room_len, size_t *len, size_t *at, bool *is_same);
 
 /* Whether the user's database has what a change asks for already: this value, whatever its bytes, or none, or none below the directory.
- * At a path that is no key's there is none. `writable`: the first layer is the user's. MEMORY, and then it has not. */
-uint32_t dconfdb_is_made(const DconfdbLayer *layers, size_t n, bool writable, const DconfdbChange *change, bool *is);
+ * At a path that is no key's there is none. `writable`: the first layer is the user's. `may_be`: a write may have left it there; else it isn't asked,
+ * and has not. MEMORY, and then it has not. */
+uint32_t dconfdb_is_made(const DconfdbLayer *layers, size_t n, bool writable, bool may_be, const DconfdbChange *change, bool *is);
 
 /* What stands at the name of the user's file. */
 enum {
@@ -581,7 +594,7 @@ enum {
 
 uint32_t dconfdb_beside(uint32_t purpose, const DconfdbFileStamp *old, const DconfdbFileStamp *now, const DconfdbPartSeen *seen);
 
-/* What stands under a name; as a link it counts only if it is to be set aside. `is_read`: it is the very file that was read. */
+/* What stands under a name. `is_read`: it is the very file that was read. */
 typedef struct {
     uint32_t user, group, bits;
     bool is_there, is_regular, is_link, is_read;
@@ -596,9 +609,11 @@ typedef struct {
     uint32_t user, group, bits;
 } DconfdbNewFile;
 
-/* `above`: whose the folder is. `keeps`: the old file is set aside. Gives 0, and then `given` is written; or an errno: EACCES, root would give it to
- * whom it was not read from, or EAGAIN, what was read is another file's by now. */
-uint32_t dconfdb_owner_and_bits(const DconfdbOldFile *old, const DconfdbFileOwner *above, bool is_root, bool keeps, DconfdbNewFile *given);
+/* By what has the old file's name, of which a link is not followed at first. `above`: whose the folder is. `is_bad`: something was wrong with it, so
+ * that it is set aside, be it a link; then the bits are 512 more, as a turn asks for them. Gives 0, and then `given` is written; or an errno: EACCES, root
+ * would give it to whom it was not read from; EAGAIN, what was read is another file's by now; or ELOOP, it is a link, and is asked of once more by what
+ * is there where that leads. */
+uint32_t dconfdb_owner_and_bits(const DconfdbOldFile *old, const DconfdbFileOwner *above, bool is_root, bool is_bad, DconfdbNewFile *given);
 
 /* What was just made, and is to become somebody's. */
 enum {
@@ -660,9 +675,6 @@ uint32_t dconfdb_entry(const DconfdbNewEdit *edits, size_t count, bool *is_there
  * dconfdb_queue_answered. Nothing is refused but for a fault that stays. */
 uint32_t dconfdb_verdict(uint32_t code, uint32_t fault);
 
-/* The header's code by which a program is told of an errno, of a file or of the lock by which programs take turns. */
-uint32_t dconfdb_error_code(bool of_lock, uint32_t fault);
-
 /* What the system says of what has a name, or is open; of some purposes `fault` alone counts. */
 typedef struct {
     uint32_t fault; /* the errno by which it could not be done, or looked at; 0: it was */
@@ -716,7 +728,7 @@ enum {
 
 uint32_t dconfdb_standing(uint32_t purpose, const DconfdbStood *stood, uint32_t *fault);
 
-/* What is asked of a change before it is written, in this order, and what came of it. */
+/* What is asked of a change before it is written, in this order, and what came of it; and of its notes. */
 enum {
     DCONFDB_MAKING_EXPECT,    /* is the same seen at its paths as was expected? */
     DCONFDB_MAKING_LEAVE_OUT, /* are edits left, once those are left out that others overtook? */
@@ -725,7 +737,13 @@ enum {
     DCONFDB_MAKING_OPEN,      /* do the bytes open? */
     DCONFDB_MAKING_READY,     /* over: they are to be written */
     DCONFDB_MAKING_NOTHING,   /* over: nothing is to be written */
-    DCONFDB_MAKING_FAILED     /* over: a fault is told */
+    DCONFDB_MAKING_FAILED,    /* over: a fault is told */
+    DCONFDB_MAKING_BEGINS,    /* nothing is asked yet; any answer will do */
+    DCONFDB_MAKING_ENDED,     /* its turn ends: is what it asks for in the file? */
+    DCONFDB_MAKING_NOTE,      /* is there a note of all that it asks for? */
+    DCONFDB_MAKING_WRITE,     /* are the notes written? */
+    DCONFDB_MAKING_NOTED,     /* over: they are */
+    DCONFDB_MAKING_UNNOTED    /* over: they aren't, and what others changed is known still */
 };
 
 /* The answers. */
@@ -736,8 +754,9 @@ enum {
 };
 
 /* What is asked after that answer, or what came of it. `makes_file`: one is to be made; else it is only said what is wrong with the
- * change. `is_unsettled`: a change that failed may have left the file so, and it is written once more. */
-uint32_t dconfdb_making_after(bool makes_file, bool is_unsettled, uint32_t ask, uint32_t found);
+ * change. `is_unsettled`: a change that failed may have left the file so, and it is written once more. `is_expected`: something is expected to be
+ * seen at its paths, and other settings are the newest by now. */
+uint32_t dconfdb_making_after(bool makes_file, bool is_unsettled, bool is_expected, uint32_t ask, uint32_t found);
 
 /* What a program has of a change. */
 typedef struct {
@@ -768,6 +787,67 @@ enum {
 /* By a turn's outcome and its first fault. `before`: a change before this one may not be on the disk. `is_aside`: the old file has another
  * name. */
 void dconfdb_ending(uint32_t outcome, uint32_t fault, bool before, bool is_aside, DconfdbEnding *ending);
+
+/* A fault of which a program is told, and what is known of it. */
+typedef struct {
+    uint32_t of;
+    uint32_t number;        /* the errno; of a call, the number of its fault */
+    uint32_t told, outcome; /* of a change that ended, as DconfdbEnding has them */
+    uint32_t wait;          /* of the lock: how many milliseconds it was waited for */
+    uint32_t looked;        /* .. the errno by which its file can't be looked at, or 0 */
+    bool is_there;          /* .. that file is there */
+    bool has_user;          /* .. a database is the user's */
+    bool has_text;          /* of a call: the number has a text, */
+    bool has_line;          /* a line is at fault, */
+    bool has_rule;          /* it may break a rule of sound databases, */
+    bool has_item;          /* and an item does */
+} DconfdbFaultMet;
+
+enum {
+    DCONFDB_FAULT_OF_FILE,
+    DCONFDB_FAULT_OF_LOCK,
+    DCONFDB_FAULT_OF_CALL,
+    DCONFDB_FAULT_OF_CHANGE /* that ended */
+};
+
+/* Which sentence is said. */
+enum {
+    DCONFDB_SAYS_NOTHING, /* there is no fault */
+    DCONFDB_SAYS_ALREADY, /* the fault was told when it was met */
+    DCONFDB_SAYS_NO_MEMORY,
+    DCONFDB_SAYS_TOO_BIG,
+    DCONFDB_SAYS_SYSTEM, /* what the system says of the errno */
+    DCONFDB_SAYS_NO_FILE, /* the lock is no regular file */
+    DCONFDB_SAYS_TEN_SECONDS, /* others have been changing it for so long, */
+    DCONFDB_SAYS_BUSY,        /* or for so many milliseconds */
+    DCONFDB_SAYS_EITHER,      /* it is perhaps replaced, */
+    DCONFDB_SAYS_UNSETTLED,   /* or replaced, but perhaps not on the disk, */
+    DCONFDB_SAYS_UNSYNCED,    /* or as it was to be, but perhaps not on the disk; and what the system says */
+    DCONFDB_SAYS_DOUBLE,
+    DCONFDB_SAYS_NUMBER,  /* the fault's number */
+    DCONFDB_SAYS_TEXT,    /* the number's text, */
+    DCONFDB_SAYS_TEXT_AT, /* at that line */
+    DCONFDB_SAYS_RULE,    /* which rule is broken, */
+    DCONFDB_SAYS_RULE_AT  /* and by which item */
+};
+
+/* Which name stands in front. */
+enum {
+    DCONFDB_NAMES_IT, /* that which is at fault */
+    DCONFDB_NAMES_LOCK,
+    DCONFDB_NAMES_FOLDER
+};
+
+typedef struct {
+    uint32_t says;
+    uint32_t code;    /* the header's */
+    uint32_t errnum;  /* 0: no call of the system failed */
+    uint32_t outcome; /* the header's */
+    uint32_t names;
+    bool is_placed; /* the edit, the database or the line at fault is told */
+} DconfdbSentence;
+
+void dconfdb_sentence(const DconfdbFaultMet *met, DconfdbSentence *sentence);
 
 /* Whether what the user's file is, is on the disk: what is asked of it, in this order, and what is known then. */
 enum {
@@ -807,7 +887,7 @@ typedef struct {
 enum {
     DCONFDB_STORE_FOUND,  /* a look found other files: is that news? */
     DCONFDB_STORE_TOLD,   /* whoever asked for news was told */
-    DCONFDB_STORE_SEEN,   /* what others changed is remembered from now on */
+    DCONFDB_STORE_SEEN,   /* others changed something: is that remembered, for which memory may be lacking? */
     DCONFDB_STORE_NOTED,  /* it noted what was set: is what was asked for in its file? `number` is the time of the last of that, or 0 */
     DCONFDB_STORE_ENDED,  /* a change did: may it not be on the disk? `number` says which settings are the newest */
     DCONFDB_STORE_FOLLOWS /* it was opened in the place of `old`: are they of the same user's file? */
@@ -820,7 +900,7 @@ enum {
     DCONFDB_CALL_OPEN,      /* of a file that is to be read, without a wait */
     DCONFDB_CALL_LOCK,      /* without a wait */
     DCONFDB_CALL_SET_ASIDE, /* gives what has the name another one, too */
-    DCONFDB_CALL_PLACE      /* gives the new file the name */
+    DCONFDB_CALL_PLACE      /* the new file, which has another name, and what has the name change places */
 };
 
 /* What it is to them. */
@@ -835,8 +915,16 @@ enum {
     DCONFDB_ANSWER_UNSURE    /* the system may have done it all the same: nobody knows which file has the name */
 };
 
-/* Each errno of a call has one answer. */
-uint32_t dconfdb_fault_answer(uint32_t call, uint32_t fault);
+/* What a call leaves that gives the old file another name, too, or by which the new one, which has that other name, and the old one change places. */
+typedef struct {
+    uint32_t fault; /* the errno by which the step failed; 0: it didn't */
+    bool is_nameless; /* what has the name can have no other one beside it */
+    bool is_aside;    /* the old file has the other name */
+    bool goes;        /* the other name is the new file's still, and is to go */
+} DconfdbRenamed;
+
+/* Each errno of a call, or 0, has one answer. `renamed` is of SET_ASIDE and PLACE. */
+uint32_t dconfdb_fault_answer(uint32_t call, uint32_t fault, DconfdbRenamed *renamed);
 
 /* An edit that waits, and what became of it. Of each change the first edit says whether it is refused. */
 typedef struct {
@@ -844,18 +932,22 @@ typedef struct {
     bool sets, is_left_out, is_refused;
 } DconfdbQueued;
 
-/* The changes that wait to be written. */
+/* The changes that wait to be written. Nobody else writes its fields. */
 typedef struct {
-    uint32_t stage;
-    size_t at;
-    bool has_marked;
+    struct {
+        uint32_t stage;
+        size_t at;
+        bool has_marked;
+    } queue;
+    bool has_taken;
+    bool is_closed; /* nobody who has this program's rights may write there */
 } DconfdbQueue;
 
 /* Its steps. `number` is the edit. */
 enum {
     DCONFDB_QUEUE_TAKE,    /* take it for the change that is to be written next */
     DCONFDB_QUEUE_PASS,    /* don't */
-    DCONFDB_QUEUE_WRITE,   /* write those that were taken since the last time, as one change */
+    DCONFDB_QUEUE_WRITE,   /* write those that were taken since the last time, as one change; there are some */
     DCONFDB_QUEUE_ASK,     /* may its key be written? */
     DCONFDB_QUEUE_WRITTEN, /* over: all changes that are not refused are written */
     DCONFDB_QUEUE_WAITING  /* over: none is written, and those that are not refused go on waiting */
@@ -865,7 +957,7 @@ enum {
 enum {
     DCONFDB_QUEUE_YES,
     DCONFDB_QUEUE_LOCKED, /* of a write: a key was locked. Of a key: it may not be written */
-    DCONFDB_QUEUE_FAULT,  /* the edit `at` has a fault of its own */
+    DCONFDB_QUEUE_FAULT,  /* an edit has a fault of its own: that one, `at`, of those that were taken */
     DCONFDB_QUEUE_LATER,  /* nothing was written, by no fault of an edit */
     DCONFDB_QUEUE_CLOSED, /* of a write: nobody who has this program's rights may write there, so no key may be written */
     DCONFDB_QUEUE_FULL,   /* of a write: the file would be too large; the newest edit that sets something has that fault */
@@ -873,8 +965,15 @@ enum {
     DCONFDB_QUEUE_BEGINS  /* nothing is done yet of these edits */
 };
 
-/* It marks edits that are left out, and changes that are refused. */
-void dconfdb_queue_answered(DconfdbQueue *queue, DconfdbQueued *edits, size_t count, uint32_t answer, size_t at, DconfdbNext *step);
+typedef struct {
+    uint32_t kind;
+    size_t number;
+    bool keeps_fault; /* what the write just failed by is kept, in the place of what was */
+    bool tells;       /* it is over, and what is kept is told: a change is refused, or nobody may write there */
+} DconfdbQueueStep;
+
+/* It marks edits that are left out, and changes that are refused. The fault that is kept in the end is that for which the first one is. */
+void dconfdb_queue_answered(DconfdbQueue *queue, DconfdbQueued *edits, size_t count, uint32_t answer, size_t at, DconfdbQueueStep *step);
 
 /* A try to take the lock of a folder: all bits 0 at first. */
 typedef struct {
@@ -1011,9 +1110,32 @@ enum {
 };
 
 /* Of a name in a folder; the root's path is empty. `minds`: much that happens is minded. `is_last`: it is the file's own name. `mode` and
- * `links` are st_mode and st_nlink of what stands there, 0 where nothing does. `role`: what is heard of a change of the file. */
+ * `links` are st_mode and st_nlink of what stands there, 0 where nothing does. `followed`: so many links were followed on the way. `is_profile`: if the
+ * file changes, other files may be the store's. */
 void dconfdb_watched_name(bool minds, const uint8_t *folder, size_t folder_len, const uint8_t *name, size_t name_len, bool is_last, uint32_t mode,
-                          uint64_t links, uint32_t role, DconfdbWatchedName *watched);
+                          uint64_t links, uint64_t followed, bool is_profile, DconfdbWatchedName *watched);
+
+/* A folder may come between the look at its name and the watch there: so the names are gone through in rounds. All bits 0 at first. */
+typedef struct {
+    uint32_t count;
+    bool missed, more;
+} DconfdbWatchRounds;
+
+/* What happened. */
+enum {
+    DCONFDB_WATCHING_BEGINS,
+    DCONFDB_WATCHING_NAME /* one was gone through */
+};
+
+/* What comes after a round. */
+enum {
+    DCONFDB_WATCHING_AGAIN,
+    DCONFDB_WATCHING_WHOLE, /* over: all is watched */
+    DCONFDB_WATCHING_PARTLY /* over: not all is */
+};
+
+/* Of a name: it is watched so already, or could be watched, or can't be; and something is missed without it. */
+uint32_t dconfdb_watch_round(DconfdbWatchRounds *rounds, uint32_t what, bool is_known, bool is_had, bool is_needed);
 
 /* What is heard of inotify's event at a name; or what was heard before, if that means more. `has_name`: it isn't the folder's own.
  * `is_same`: it is of the name that is watched, at which that stands by now. */
@@ -1057,20 +1179,7 @@ enum {
 /* The task that is due after that one. */
 uint32_t dconfdb_round_after(uint32_t task, const DconfdbRound *known);
 
-/* What whoever wants to know that all is on the disk does, in this order. */
-enum {
-    DCONFDB_SYNC_BEGINS,
-    DCONFDB_SYNC_ASK,    /* the thread that writes for a try now; any answer will do */
-    DCONFDB_SYNC_WRITE,  /* what waits, since no other thread does */
-    DCONFDB_SYNC_AWAIT,  /* that all is settled that waits now: is it? */
-    DCONFDB_SYNC_TAKE,   /* the turn to look at the files: is it had? */
-    DCONFDB_SYNC_LOOK,   /* at them */
-    DCONFDB_SYNC_SETTLE, /* what was there already when it was set: is it on the disk? */
-    DCONFDB_SYNC_YES,    /* over: all is there */
-    DCONFDB_SYNC_NO      /* over: not yet */
-};
-
-/* What is known; the last two from when the turn is had. */
+/* What else is known of a sync; the last two from when the turn is had. */
 typedef struct {
     bool has_writer;   /* another thread writes what waits */
     bool has_failed;   /* a try has failed by a fault that lasts, and is to be made again later */
@@ -1079,8 +1188,83 @@ typedef struct {
     bool is_to_settle; /* nobody knows yet that what was there already is on the disk */
 } DconfdbSync;
 
+/* What is known of the thread that writes what waits. */
+typedef struct {
+    uint64_t settled, added;    /* how many changes are settled, and how many there were */
+    uint32_t begun_in, process; /* the process that began it, and this one: in a child of fork() they differ */
+    DconfdbSync sync;
+    bool has_store;   /* there is a place for one */
+    bool has_ended;   /* the program ends, or nobody holds what the thread works for */
+    bool has_thread;
+    bool has_wake;    /* there is something by which one is woken */
+    bool has_line;    /* a thread of its own waits in line for the turn */
+    bool is_wanted;   /* a thread is to be there */
+    bool is_news;     /* something is new for it */
+    bool is_owed;     /* somebody has to do it */
+    bool exits;       /* the program ends */
+    bool is_thread;   /* this thread is the one that writes */
+    bool is_let_go;   /* nobody held it any longer, some time before */
+} DconfdbWriter;
+
+/* What is done about what waits. */
+enum {
+    DCONFDB_WRITER_NEED, /* about something new */
+    DCONFDB_WRITER_LINE, /* to come to the turn */
+    DCONFDB_WRITER_END,  /* at the end of the program, or where nobody holds it any longer */
+    DCONFDB_WRITER_SYNC  /* by whoever wants to know that all is on the disk */
+};
+
+enum { DCONFDB_WRITER_BEGINS };
+
+/* About something new, in this order. */
+enum {
+    DCONFDB_NEED_WAKE = 1, /* make that by which a thread is woken */
+    DCONFDB_NEED_THREAD,   /* begin it */
+    DCONFDB_NEED_TOLD,     /* over: it does that, and is to be woken */
+    DCONFDB_NEED_HERE,     /* over: this thread does it, as no other does */
+    DCONFDB_NEED_OVER      /* over: nothing is to be done, or the thread is awake */
+};
+
+/* To come to the turn. */
+enum {
+    DCONFDB_LINE_TRY = 1, /* ask for it, without a wait: is that over, as others don't have it? */
+    DCONFDB_LINE_BEGIN,   /* begin a thread that waits in line: is there one? */
+    DCONFDB_LINE_AWAIT,   /* ask that one: is its wait over? */
+    DCONFDB_LINE_HAD,     /* over: the turn is had, or why not is known */
+    DCONFDB_LINE_WAITS,   /* over for now: the other thread wakes this one */
+    DCONFDB_LINE_AGAIN    /* over for now: it is asked for again later */
+};
+
+/* At the end, in this order. */
+enum {
+    DCONFDB_END_MARK = 1, /* say that it ends, and ask for one more try: could it be said? */
+    DCONFDB_END_ROUNDS,   /* do what is due, as this thread is the one that writes */
+    DCONFDB_END_JOIN,     /* wait until the thread is over */
+    DCONFDB_END_WATCH,    /* wait until all is settled, or given up: the thread is another's to wait for */
+    DCONFDB_END_AWAIT,    /* wait for the thread, as long as the program goes on: is it over? */
+    DCONFDB_END_LEAVE,    /* leave all to it, as it goes on */
+    DCONFDB_END_REAP,     /* take it away, as it is over */
+    DCONFDB_END_COUNT,    /* count what is settled: could that be done? */
+    DCONFDB_END_TELL,     /* say that what was set last isn't on the disk */
+    DCONFDB_END_DOUBT,    /* say that nobody knows whether it is */
+    DCONFDB_END_DONE,     /* over: nothing is left to be done */
+    DCONFDB_END_LEFT      /* over: the thread has it all */
+};
+
+/* By whoever wants to know that all is on the disk, in this order. */
+enum {
+    DCONFDB_SYNC_ASK = 1, /* the thread that writes for a try now; any answer will do */
+    DCONFDB_SYNC_WRITE,   /* what waits, since no other thread does */
+    DCONFDB_SYNC_AWAIT,   /* that all is settled that waits now: then `settled` and `added` are known */
+    DCONFDB_SYNC_TAKE,    /* the turn to look at the files: is it had? */
+    DCONFDB_SYNC_LOOK,    /* at them */
+    DCONFDB_SYNC_SETTLE,  /* what was there already when it was set: is it on the disk? */
+    DCONFDB_SYNC_YES,     /* over: all is there */
+    DCONFDB_SYNC_NO       /* over: not yet */
+};
+
 /* The task that is due after that one, by its answer; of the first any will do. */
-uint32_t dconfdb_sync_after(uint32_t task, bool yes, const DconfdbSync *known);
+uint32_t dconfdb_writer_after(uint32_t what, uint32_t task, bool yes, const DconfdbWriter *known);
 
 /* What whoever looks at the files of a store does, in this order; of the first three, one comes. */
 enum {
@@ -1170,6 +1354,7 @@ bool dconfdb_is_at_work(bool has_ended, uint32_t begun_in, uint32_t process);
 /* What is known of what is told. */
 typedef struct {
     size_t taken;     /* how many paths were taken for the next notice */
+    uint32_t list;    /* the last list that was told, as dconfdb_tell_next named it; 0: none was */
     bool is_first;    /* nobody has seen anything before */
     bool ends;        /* the program ends */
     bool is_other;    /* what is the newest is another than before */
@@ -1177,20 +1362,25 @@ typedef struct {
     bool is_found;    /* the paths that are seen otherwise are known; else no memory is left */
     bool has_path;    /* here is another one; else those were all */
     bool is_listened; /* somebody listens to it; or, of all, to what they begin with */
+    bool is_between;  /* no list is being told: it is asked which comes next */
+    bool has_rights;  /* it may be otherwise what may be written */
 } DconfdbTelling;
 
-/* What is done with a path. */
+/* What is done with a path, or which list comes next. */
 enum {
     DCONFDB_TELL_NOTHING,
     DCONFDB_TELL_TAKE,        /* take it for the next notice */
     DCONFDB_TELL_THEN_TAKE,   /* tell what was taken, which are as many as one notice may have, and then take it */
     DCONFDB_TELL_WHAT_IS_TAKEN,
-    DCONFDB_TELL_ALL          /* as if everything were seen otherwise */
+    DCONFDB_TELL_ALL,         /* as if everything were seen otherwise */
+    DCONFDB_TELL_RIGHTS,      /* the list of what may be written or no longer */
+    DCONFDB_TELL_VALUES,      /* the list of what is seen otherwise */
+    DCONFDB_TELL_OVER
 };
 
 uint32_t dconfdb_tell_next(const DconfdbTelling *known);
 
-/* What is known of a change that the D-Bus service is called for, and of those that wait. */
+/* What is known of a change that the D-Bus service is called for, of those that wait, and of the service. */
 typedef struct {
     uint64_t size;                  /* how many bytes it was sent in; of what is told, how many the paths have */
     uint64_t waiting, waiting_size; /* how many changes wait, and how many bytes they have together */
@@ -1201,14 +1391,27 @@ typedef struct {
     bool has_edits;                 /* something of it is to be made */
     bool is_written;                /* what can be made of it, and of those that are written with it, is on the disk */
     bool is_closed;                 /* nobody with the rights of this process may write there */
+    bool ends;                      /* the service ends: nothing is tried again */
+    bool is_amid;                   /* a try to write it is under way */
+    bool is_same;                   /* it is of the database whose changes are taken to be written together */
+    bool is_open;                   /* the store of its database alone is open */
+    bool is_profile_open;           /* .. and that of the profile */
+    bool has_same_file;             /* the user's file of both is the same */
+    bool had_name;                  /* the service had its name */
+    bool is_bus_closed;             /* the bus is gone */
 } DconfdbServed;
 
-/* What was done with it. */
+/* What was done with it, or what happened. Of each its own fields count, and no others. */
 enum {
     DCONFDB_SERVED_CAME,
     DCONFDB_SERVED_READ,
     DCONFDB_SERVED_TRIED,
-    DCONFDB_SERVED_TOLD /* what is seen otherwise by it is about to be told: of that its size alone counts */
+    DCONFDB_SERVED_TOLD,   /* what is seen otherwise by it is about to be told: of that its size alone counts */
+    DCONFDB_SERVED_ENDING, /* the service ends, and it isn't answered */
+    DCONFDB_SERVED_WAITS,  /* it waits behind those that are taken to be written */
+    DCONFDB_SERVED_OPENED, /* the stores are open that may have its database, or can't be opened */
+    DCONFDB_SERVED_LEFT,   /* of the service: all are answered that can be at its end; so many weren't when it came */
+    DCONFDB_SERVED_NAMELESS /* it hasn't its name */
 };
 
 /* What becomes of it then. */
@@ -1220,7 +1423,13 @@ enum {
     DCONFDB_SERVED_ODD,     /* its bytes aren't in normal form, and too many to be brought into it */
     DCONFDB_SERVED_TOO_LARGE, /* of what is told: the directory is named in which all is */
     DCONFDB_SERVED_TOO_MUCH, /* too much waits */
-    DCONFDB_SERVED_TOO_MANY_NAMES
+    DCONFDB_SERVED_TOO_MANY_NAMES,
+    DCONFDB_SERVED_LATE,     /* the service ends: that is its answer, and nothing of it is written; or the thread is left, whatever it is at */
+    DCONFDB_SERVED_LATER,    /* it is for a later write */
+    DCONFDB_SERVED_PROFILES, /* the profile's store has its database */
+    DCONFDB_SERVED_ALONE,    /* the store of its database alone has it */
+    DCONFDB_SERVED_ENDS,     /* the service ends, and takes what it was sent before */
+    DCONFDB_SERVED_TAKEN     /* another service has the name */
 };
 
 uint32_t dconfdb_served_after(uint32_t done, const DconfdbServed *known);
@@ -1274,8 +1483,9 @@ typedef struct {
     DconfdbBytes path;
     uint64_t when;
     size_t change;
-    bool is_own;       /* the program's last write may have left what it says, and it is there */
-    bool is_as_before; /* the program looked before it was asked for, and the same is there */
+    uint64_t was, is; /* numbers for what was there when the program looked before, and for what is there now */
+    bool is_own;          /* the program's last write may have left what it says, and it is there */
+    bool has_looked;      /* the program looked before it was asked for */
 } DconfdbAsked;
 
 /* A path at which a file was seen to differ. `when` is the file's time, and `value` what is there. */
@@ -1581,19 +1791,6 @@ bool dconfdb_line(bool is_of_locks, DconfdbCursor *cursor, DconfdbLine *line);
 
 /* ---- as what the files of a site are looked at */
 
-/* As what `update` takes a file, or those of a folder. */
-enum {
-    DCONFDB_ROLE_BY_ITS_TEXT, /* it lies in no folder NAME.d: what it is, its text says */
-    DCONFDB_ROLE_KEYFILE,
-    DCONFDB_ROLE_LOCKS,
-    DCONFDB_ROLE_HIDDEN, /* it leaves it out */
-    DCONFDB_ROLE_UNREAD  /* it doesn't read it: it lies in another folder below NAME.d */
-};
-
-/* Of what has that name in a folder of that role: of the files in a folder, or of a file. A path is gone through from the root, whose
- * files are what their text says; behind each folder NAME.d the role is that of keyfiles. */
-uint32_t dconfdb_role_after(uint32_t role, const uint8_t *name, size_t name_len, bool is_folder);
-
 /* As what a file is looked at, or why not. */
 enum {
     DCONFDB_READ_KEYFILE,
@@ -1607,9 +1804,12 @@ enum {
     DCONFDB_READ_NEITHER
 };
 
-/* Of a file of so many bytes, of which these are there: all that a text has, or the first of another file. `is_one_read`: of the files that
- * are asked for, `update` reads one of the same folder NAME.d. Before anything is read of it, its role alone says whether it is to be. */
-uint32_t dconfdb_read_as(uint32_t role, bool is_one_read, uint64_t size, const uint8_t *text, size_t len);
+/* Of a file of so many bytes, of which these are there: all that a text has, or the first of another file. It has that name in the last of these
+ * folders, the first of which is in the root. `is_one_read`: of the files that are asked for, `update` reads one of the same folder NAME.d.
+ * Before anything is read of it, its place alone says whether it is to be. `sources` is how many of the folders there are up to the last
+ * NAME.d, with that, or 0; and `is_source`, whether `update` reads the file there. */
+uint32_t dconfdb_read_as(const DconfdbBytes *folders, size_t count, const uint8_t *name, size_t name_len, bool is_one_read, uint64_t size,
+                         const uint8_t *text, size_t len, size_t *sources, bool *is_source);
 
 /* A key that is set, or a lock, and what the installed schemas have of it. */
 typedef struct {
@@ -1641,6 +1841,53 @@ enum {
 /* What a schema without a path may have is passed over, but where the directory is a slip away from one of these, where schemas have such a key: a
  * letter is more, less or otherwise, or two have changed places. */
 uint32_t dconfdb_finding(const DconfdbFinding *known, const uint8_t *directory, size_t directory_len, const DconfdbBytes *others, size_t count);
+
+/* What was compared with a name that is missing. Of each such name it begins with `found` 0, and of all that a run looks for `used` goes on. */
+typedef struct {
+    uint64_t used;  /* how many pairs of letters; a run compares 100,000,000, and finds nothing after that */
+    uint64_t found; /* one more than the letters that are otherwise in the nearest one; 0: none is near */
+    bool is_half;   /* half of the letters may be otherwise; else one, and one more for each five, but 64 at most */
+} DconfdbNearing;
+
+enum {
+    DCONFDB_NEARING_NO,
+    DCONFDB_NEARING_YES,
+    DCONFDB_NEARING_MEMORY /* nothing was compared: no memory is left */
+};
+
+/* Whether another name is near, and nearer than those before: so many letters are put in, left out, replaced, or swapped with the next one, and
+ * no two of these touch the same. */
+uint32_t dconfdb_is_nearer(DconfdbNearing *nearing, const uint8_t *name, size_t name_len, const uint8_t *other, size_t other_len);
+
+/* ---- the words of `watch` and of `lint` */
+
+/* What the words before say; {0} at first, but for the program. Nobody else writes it. */
+typedef struct {
+    uint32_t wants;  /* the next word is the argument of an option */
+    bool is_lint;    /* they are the words of `lint`, and not of `watch` */
+    bool is_over;    /* `--` came */
+    bool has_folder; /* `--store` or `--schemas` came */
+    bool is_user;    /* `--user` came */
+    bool has_name;   /* a PATH or a FILE came */
+} DconfdbWords;
+
+/* What is said of a word. */
+enum {
+    DCONFDB_SAID_NOTHING, /* it is taken, or, at the end, all is there */
+    DCONFDB_SAID_FOLDER,  /* it has that of `--store` or `--schemas` */
+    DCONFDB_SAID_SCHEMA,  /* .. that of `--schema` */
+    DCONFDB_SAID_NAME,    /* it is the PATH, or one more FILE */
+    DCONFDB_SAID_HELP,
+    DCONFDB_SAID_UNKNOWN, /* and from here on why it is refused */
+    DCONFDB_SAID_TWICE,
+    DCONFDB_SAID_EXCLUDED,
+    DCONFDB_SAID_TOO_MANY,
+    DCONFDB_SAID_LACKING,
+    DCONFDB_SAID_NO_NAME
+};
+
+/* The next word, or the end of all. What it has begins at `from`. */
+uint32_t dconfdb_option(DconfdbWords *read, bool is_end, const uint8_t *word, size_t len, size_t *from);
 
 #ifdef __cplusplus
 }

@@ -9,7 +9,8 @@
  * process's, the disk's or a server's fault, and then a sound file must not be replaced. */
 static inline bool is_files_own(int fault)
 {
-    return dconfdb_fault_answer(DCONFDB_CALL_OPEN, (uint32_t)fault) == DCONFDB_ANSWER_OWN;
+    DconfdbRenamed none;
+    return dconfdb_fault_answer(DCONFDB_CALL_OPEN, (uint32_t)fault, &none) == DCONFDB_ANSWER_OWN;
 }
 
 /* What a change that failed by this fault is answered to, as dconfdb_queue_answered has it: only what is refused doesn't wait. */

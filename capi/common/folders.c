@@ -83,7 +83,7 @@ static int hand_over(int made, const struct stat *above)
         return errno;
     it.is_beside = found.st_dev == above->st_dev;
     it.is_empty = is_empty(made);
-    return handed_over(made, DCONFDB_MADE_FOLDER, &it);
+    return handed_over(made, DCONFDB_MADE_FOLDER, 0, &it);
 }
 
 /* Makes a folder with a name that nobody has. */

@@ -25,12 +25,13 @@ static int give(int file, uint32_t what, uid_t user, gid_t group)
     return is != 0 ? errno : 0;
 }
 
-int handed_over(int file, uint32_t what, const DconfdbMadeFile *made)
+int handed_over(int file, uint32_t what, int fault, const DconfdbMadeFile *made)
 {
     struct stat found;
     DconfdbMadeFile it = *made;
     uint32_t number = 0, done = DCONFDB_HANDING_MAKE;
-    int fault = fstat(file, &found) != 0 ? errno : 0;
+    if (fault == 0 && fstat(file, &found) != 0)
+        fault = errno;
     if (fault == 0)
         it.made = owner_of(&found);
     it.is_root = geteuid() == 0;

@@ -15,7 +15,7 @@ static inline DconfdbNewFile owner_of(const struct stat *found)
 /* The bits with which it is made. */
 mode_t handed_at_first(uint32_t what, const DconfdbMadeFile *made);
 
-/* Hands over what is open. Of `made` is known for whom it is, and, of a folder, what was seen of it. Gives 0, or errno. */
-int handed_over(int file, uint32_t what, const DconfdbMadeFile *made);
+/* Hands over what is open. Of `made` is known for whom it is, and, of a folder, what was seen of it; or that isn't, by that errno. Gives 0, or errno. */
+int handed_over(int file, uint32_t what, int fault, const DconfdbMadeFile *made);
 
 #endif

@@ -129,9 +129,9 @@ static void unlist(const FolderLock *lock)
 /* Gives a file that was just made the folder's owner and group, as far as this user may, and opens it to those who may write in the folder. */
 static void hand_over(int folder, int file)
 {
-    struct stat above;
-    if (fstat(folder, &above) == 0)
-        handed_over(file, DCONFDB_MADE_LOCK, &(DconfdbMadeFile){.wanted = owner_of(&above)});
+    struct stat above = {.st_mode = 0};
+    int fault = fstat(folder, &above) != 0 ? errno : 0;
+    handed_over(file, DCONFDB_MADE_LOCK, fault, &(DconfdbMadeFile){.wanted = owner_of(&above)});
 }
 
 /* With the bits that a lock has at first. */

@@ -8,6 +8,7 @@
 typedef struct {
     size_t keys, locks;
     uint32_t standing;
+    bool is_told; /* what is wrong with the file is */
 } Saved;
 
 /* The sound database that a file counts as; none where it counts as nothing. The bytes are the caller's. OK, or MEMORY. */

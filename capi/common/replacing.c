@@ -32,13 +32,12 @@ static DconfdbOldFile old_file(const struct stat *old, const FileState *read)
 }
 
 /* What stands there. What is kept aside may not even be readable, nor a link that leads somewhere. */
-static int look_at_old(const Replacing *it, bool keeps, const FileState *read, DconfdbOldFile *old)
+static int look_at_old(const Replacing *it, int how, const FileState *read, DconfdbOldFile *old)
 {
     struct stat found;
-    if (fstatat(it->folder, it->name, &found, keeps ? AT_SYMLINK_NOFOLLOW : 0) == 0)
-        *old = old_file(&found, read);
-    else
+    if (fstatat(it->folder, it->name, &found, how) != 0)
         return file_fault(DCONFDB_TO_LOOK, errno);
+    *old = old_file(&found, read);
     return 0;
 }
 
@@ -138,20 +137,31 @@ void replacing_end(Replacing *it)
     free(it->aside);
 }
 
-int replacing_look(Replacing *it, bool keeps, const FileState *read, size_t *bits)
+/* Whose the new file is to be, by a look at the old one that follows a link or not; `is_link`: it is to follow it. */
+static int find_owner(const Replacing *it, int how, bool is_bad, const FileState *read, const DconfdbFileOwner *above, DconfdbNewFile *given, bool *is_link)
 {
     DconfdbOldFile old = {.is_there = false};
-    DconfdbFileOwner above = {0, 0};
-    DconfdbNewFile given = {0, 0, 0};
-    int fault = look_at_old(it, keeps, read, &old);
-    if (fault == 0)
-        fault = look_above(it, &above);
+    int fault = look_at_old(it, how, read, &old);
     if (fault != 0)
         return fault;
-    fault = (int)dconfdb_owner_and_bits(&old, &above, geteuid() == 0, keeps, &given);
+    fault = (int)dconfdb_owner_and_bits(&old, above, geteuid() == 0, is_bad, given);
+    *is_link = fault == ELOOP;
+    return fault;
+}
+
+int replacing_look(Replacing *it, bool is_bad, const FileState *read, size_t *bits)
+{
+    DconfdbFileOwner above = {0, 0};
+    DconfdbNewFile given = {0, 0, 0};
+    bool is_link = false;
+    int fault = look_above(it, &above);
+    if (fault == 0)
+        fault = find_owner(it, AT_SYMLINK_NOFOLLOW, is_bad, read, &above, &given, &is_link);
+    if (is_link)
+        fault = find_owner(it, 0, is_bad, read, &above, &given, &is_link);
     it->user = given.user;
     it->group = given.group;
-    *bits = given.bits + (keeps ? SET_ASIDE : 0);
+    *bits = given.bits;
     return fault;
 }
 
@@ -183,7 +193,7 @@ int replacing_sync(Replacing *it, size_t bits, FileState *state)
 {
     struct stat made;
     DconfdbMadeFile handed = made_for(it, bits);
-    int file = it->file, fault = handed_over(file, DCONFDB_MADE_FILE, &handed);
+    int file = it->file, fault = handed_over(file, DCONFDB_MADE_FILE, 0, &handed);
     it->file = NO_FOLDER;
     if (fault == 0 && ((!it->is_unsynced && fsync(file) != 0) || fstat(file, &made) != 0))
         fault = errno;
@@ -196,11 +206,12 @@ int replacing_sync(Replacing *it, size_t bits, FileState *state)
 
 int replacing_set_aside(Replacing *it, size_t *cannot)
 {
+    DconfdbRenamed is;
     int fault = to_other_name(it->folder, it->name, DCONFDB_TO_SET_ASIDE, &it->aside);
-    uint32_t answer = dconfdb_fault_answer(DCONFDB_CALL_SET_ASIDE, (uint32_t)fault);
-    it->is_aside = fault == 0;
-    *cannot = fault != 0 && answer == DCONFDB_ANSWER_NAMELESS;
-    return *cannot || answer == DCONFDB_ANSWER_NOTHING ? 0 : fault;
+    dconfdb_fault_answer(DCONFDB_CALL_SET_ASIDE, (uint32_t)fault, &is);
+    it->is_aside = is.is_aside;
+    *cannot = is.is_nameless;
+    return (int)is.fault;
 }
 
 /* The new file has the name: its time is that of this. Where another one has it by now, that is not looked at. */
@@ -214,20 +225,19 @@ static void is_placed(const Replacing *it, FileState *state)
         *state = placed;
 }
 
-/* The new file's other name goes, unless what it is by now may be the old one. */
 int replacing_exchange(Replacing *it, FileState *state)
 {
+    DconfdbRenamed is;
     if (renameat2(it->folder, it->new_name, it->folder, it->aside, RENAME_NOREPLACE) != 0)
         return file_fault(DCONFDB_TO_EXCHANGE, errno);
-    if (renameat2(it->folder, it->aside, it->folder, it->name, RENAME_EXCHANGE) != 0) {
-        int fault = file_fault(DCONFDB_TO_EXCHANGE, errno);
-        if (dconfdb_fault_answer(DCONFDB_CALL_PLACE, (uint32_t)fault) != DCONFDB_ANSWER_UNSURE)
-            unlinkat(it->folder, it->aside, 0);
-        return fault;
-    }
-    it->is_aside = true;
-    is_placed(it, state);
-    return 0;
+    int fault = renameat2(it->folder, it->aside, it->folder, it->name, RENAME_EXCHANGE) != 0 ? file_fault(DCONFDB_TO_EXCHANGE, errno) : 0;
+    dconfdb_fault_answer(DCONFDB_CALL_PLACE, (uint32_t)fault, &is);
+    it->is_aside = is.is_aside;
+    if (is.goes)
+        unlinkat(it->folder, it->aside, 0);
+    if (fault == 0)
+        is_placed(it, state);
+    return (int)is.fault;
 }
 
 int replacing_rename(const Replacing *it, FileState *state)

@@ -23,15 +23,12 @@ typedef struct {
     bool is_unsynced; /* nothing is brought to the disk */
 } Replacing;
 
-/* What a look answers more if the old file is to be set aside. */
-enum { SET_ASIDE = 512 };
-
 int replacing_begin(Replacing *it, int folder, const char *name);
 void replacing_end(Replacing *it);
 
-/* The permission bits that the new file is to have. What is to be set aside may be no file. `read`: the state of what was read of the
- * old one. EAGAIN: this is root, and another file has the name by now. */
-int replacing_look(Replacing *it, bool keeps, const FileState *read, size_t *bits);
+/* The permission bits that the new file is to have, and 512 more where the old one is to be set aside, as a turn asks for them. `is_bad`: something
+ * was wrong with what was read of that; it may be no file. `read`: its state then. EAGAIN: this is root, and another file has the name by now. */
+int replacing_look(Replacing *it, bool is_bad, const FileState *read, size_t *bits);
 
 int replacing_create(Replacing *it, size_t bits);
 int replacing_append(const Replacing *it, const uint8_t *bytes, size_t len, size_t *count);

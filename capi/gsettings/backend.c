@@ -4,6 +4,7 @@
 
 #include "catch_up.h"
 
+#include <errno.h>
 #include <pthread.h>
 #include <unistd.h>
 
@@ -78,22 +79,22 @@ static void dconfdb_backend_finalize(GObject *object)
     G_OBJECT_CLASS(dconfdb_backend_parent_class)->finalize(object);
 }
 
-/* When the program ends by exit(), or main() returns. A child of fork() leaves all to its parent.
+/* When the program ends by exit(), or main() returns. A child of fork() leaves all to its parent, as the proved call has it.
  * `living_lock` isn't held meanwhile, since a fork() of the program's wants it; nor waited for for long, since
  * a handler of a signal may have called exit() in the thread that has it. What a backend holds is left to the
  * system. */
 static void __attribute__((destructor)) end_all(void)
 {
-    if (!mutex_lock_until(&living_lock, g_get_monotonic_time() + G_USEC_PER_SEC))
+    if (!mutex_lock_until(&living_lock, g_get_monotonic_time() + G_USEC_PER_SEC)) {
+        worker_end_unseen();
         return;
+    }
     GSList *all = living;
     for (GSList *at = all; at; at = at->next)
         g_object_ref(at->data);
     g_mutex_unlock(&living_lock);
-    for (GSList *at = all; at; at = at->next) {
-        if (!is_forked(at->data))
-            worker_end(at->data);
-    }
+    for (GSList *at = all; at; at = at->next)
+        worker_end(at->data);
 }
 
 /* ---- libdconf.so.1 in the same program (catch_up.h) */
@@ -167,6 +168,13 @@ static const char default_file[] = "/etc/dconfdb/default";
 /* GIO takes the backend of the highest priority if the environment names none; dconf's has 100. */
 enum { BELOW_ALL_OTHERS = 0, ABOVE_DCONF = 110 };
 
+static bool is_default(void)
+{
+    DconfdbStood stood = {.fault = access(default_file, F_OK) == 0 ? 0 : (uint32_t)errno};
+    uint32_t fault;
+    return dconfdb_standing(DCONFDB_TO_LOOK, &stood, &fault) == DCONFDB_IS_GOOD;
+}
+
 G_MODULE_EXPORT void g_io_module_load(GIOModule *module);
 G_MODULE_EXPORT void g_io_module_unload(GIOModule *module);
 G_MODULE_EXPORT char **g_io_module_query(void);
@@ -178,7 +186,7 @@ void g_io_module_load(GIOModule *module)
     dconfdb_backend_register_type(G_TYPE_MODULE(module));
     static CatchUp catch_up = {catch_up_all};
     g_type_set_qdata(dconfdb_backend_get_type(), g_quark_from_static_string(CATCH_UP_DATA), &catch_up);
-    gint priority = access(default_file, F_OK) == 0 ? ABOVE_DCONF : BELOW_ALL_OTHERS;
+    gint priority = is_default() ? ABOVE_DCONF : BELOW_ALL_OTHERS;
     g_io_extension_point_implement(G_SETTINGS_BACKEND_EXTENSION_POINT_NAME, dconfdb_backend_get_type(), "dconfdb", priority);
 }
 

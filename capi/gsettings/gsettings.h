@@ -265,7 +265,14 @@ static inline bool is_at_work(const DconfdbBackend *self)
 void know_what_waits(const DconfdbBackend *self, DconfdbRound *known);
 void know_before_write(const DconfdbBackend *self, DconfdbRound *known);
 
-void worker_begin(DconfdbBackend *self);
+/* What is asked of it: to be there; `is_news`, to see to something new; `is_owed`, which else is done by who asks. */
+typedef struct {
+    bool is_wanted, is_news, is_owed;
+} Need;
+
+/* Begins it, and wakes it, as the proved call says, whose last word it gives: DCONFDB_NEED_TOLD, it sees to what is new; DCONFDB_NEED_HERE, who asks
+ * is to do it. */
+uint32_t worker_need(DconfdbBackend *self, const Need *need);
 
 /* If there is one. */
 void worker_wake(DconfdbBackend *self);
@@ -276,6 +283,9 @@ bool worker_is_this(const DconfdbBackend *self);
 /* `lock` isn't held. At the program's end: until what waits is written, five seconds at most, and as long again after each turn
  * of other programs, up to a minute. Where the disk goes on being full or failing, until one more write has failed. */
 void worker_end(DconfdbBackend *self);
+
+/* The same where it isn't even known which backends there are. */
+void worker_end_unseen(void);
 
 /* The same where nobody holds the backend any longer. False: the worker holds it as long as something waits. */
 bool worker_let_go(DconfdbBackend *self);
@@ -316,8 +326,8 @@ void notice_tell_and_free(DconfdbBackend *self, Notice *notice);
 /* The same, but what is told is told by the worker, if there is one. */
 void notice_tell_elsewhere(DconfdbBackend *self, Notice *notice);
 
-/* The worker notifies, and what the notice holds is its own. */
-void worker_tells(DconfdbBackend *self, Notice *notice);
+/* The worker notifies, and what the notice holds is its own; without one, this thread. `is_news`: there is something to be told, or warned of. */
+void worker_tells(DconfdbBackend *self, Notice *notice, bool is_news);
 
 /* Warns. When the program ends, what it warns by may be gone. */
 void say(DconfdbBackend *self, const char *text);

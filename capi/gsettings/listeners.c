@@ -29,8 +29,7 @@ static gboolean has_turned(gpointer data)
         return G_SOURCE_REMOVE;
     g_mutex_lock(&self->lock);
     self->is_to_watch = true;
-    worker_begin(self);
-    worker_wake(self);
+    worker_need(self, &(const Need){.is_wanted = true, .is_news = true});
     g_mutex_unlock(&self->lock);
     g_object_unref(self);
     return G_SOURCE_REMOVE;
@@ -63,9 +62,7 @@ void dconfdb_backend_subscribe(GSettingsBackend *backend, const char *name)
     if (!self->has_ended) {
         guint count = GPOINTER_TO_UINT(g_hash_table_lookup(self->subscribed, name));
         g_hash_table_insert(self->subscribed, g_strdup(name), GUINT_TO_POINTER(count + 1));
-        worker_begin(self);
-        if (self->is_to_watch)
-            worker_wake(self);
+        worker_need(self, &(const Need){.is_wanted = true, .is_news = self->is_to_watch});
     }
     g_mutex_unlock(&self->lock);
     ask_whether_it_turns(self);

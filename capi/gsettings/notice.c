@@ -145,23 +145,37 @@ static void send_writable(DconfdbBackend *self, DconfdbTelling *telling, const c
     }
 }
 
+/* The list that comes next, as the proved call has it. */
+static uint32_t next_list(DconfdbTelling *telling)
+{
+    telling->is_between = true;
+    telling->list = dconfdb_tell_next(telling);
+    telling->is_between = false;
+    return telling->list;
+}
+
+static bool is_found(Told *told, uint32_t list, const Notice *notice)
+{
+    return list == DCONFDB_TELL_RIGHTS ? seen_relocked(told, notice->before, notice->after, NULL) : is_told(told, notice);
+}
+
 static void send(DconfdbBackend *self, const Notice *notice, DconfdbTelling *telling)
 {
     Told told;
-    telling->is_found = is_told(&told, notice);
-    send_changed(self, telling, telling->is_found ? told.paths : "");
-    if (telling->is_found)
-        seen_free(&told);
-    telling->is_found = seen_relocked(&told, notice->before, notice->after, NULL);
-    send_writable(self, telling, telling->is_found ? told.paths : "");
+    telling->is_found = is_found(&told, telling->list, notice);
+    const char *paths = telling->is_found ? told.paths : "";
+    if (telling->list == DCONFDB_TELL_RIGHTS)
+        send_writable(self, telling, paths);
+    else
+        send_changed(self, telling, paths);
     if (telling->is_found)
         seen_free(&told);
 }
 
 /* Whether anything is told, whatever is found. */
-static bool is_news(const DconfdbTelling *telling)
+static bool is_news(DconfdbTelling telling)
 {
-    return dconfdb_tell_next(telling) != DCONFDB_TELL_NOTHING;
+    return next_list(&telling) != DCONFDB_TELL_OVER;
 }
 
 static bool has_ended(DconfdbBackend *self)
@@ -184,14 +198,14 @@ void say(DconfdbBackend *self, const char *text)
 static DconfdbTelling telling_of(const Notice *notice)
 {
     return (DconfdbTelling){
-        .is_first = notice->is_first, .is_other = notice->before != notice->after, .has_edits = notice->edited != NULL};
+        .is_first = notice->is_first, .is_other = notice->before != notice->after, .has_edits = notice->edited != NULL, .has_rights = true};
 }
 
 void notice_tell(DconfdbBackend *self, Notice *notice)
 {
     DconfdbTelling telling = telling_of(notice);
-    telling.ends = is_news(&telling) && has_ended(self);
-    if (is_news(&telling))
+    telling.ends = is_news(telling) && has_ended(self);
+    while (next_list(&telling) != DCONFDB_TELL_OVER)
         send(self, notice, &telling);
     for (guint i = 0; notice->faults && i < notice->faults->len; i++)
         say(self, notice->faults->pdata[i]);
@@ -211,9 +225,5 @@ void notice_tell_and_free(DconfdbBackend *self, Notice *notice)
 
 void notice_tell_elsewhere(DconfdbBackend *self, Notice *notice)
 {
-    DconfdbTelling telling = telling_of(notice);
-    if (is_news(&telling) || notice->faults)
-        worker_tells(self, notice);
-    else
-        notice_tell(self, notice);
+    worker_tells(self, notice, is_news(telling_of(notice)) || notice->faults);
 }

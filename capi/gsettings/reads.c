@@ -39,17 +39,13 @@ typedef struct {
 
 static Source source_of(DconfdbBackend *self, const char *key)
 {
-    Source source = {false, NULL, NULL, false};
     look_if_unwatched(self);
     lock_opened(self);
-    if (self->now) {
-        const Edit *edit = waiting_find(&self->waiting, key);
-        source.is_edited = edit != NULL;
-        if (edit && edit->value)
-            source.value = g_variant_ref(edit->value);
-        source.now = dconfdb_snapshot_ref(self->now);
-        source.has_user = self->has_user;
-    }
+    const Edit *edit = waiting_find(&self->waiting, key);
+    Source source = {.is_edited = edit != NULL,
+                     .value = edit && edit->value ? g_variant_ref(edit->value) : NULL,
+                     .now = self->now ? dconfdb_snapshot_ref(self->now) : NULL,
+                     .has_user = self->has_user};
     g_mutex_unlock(&self->lock);
     return source;
 }
@@ -104,7 +100,7 @@ GVariant *dconfdb_backend_read(GSettingsBackend *backend, const char *key, const
     DconfdbKnown known = {.waits = source.is_edited,
                           .sets = source.value != NULL,
                           .writable = source.has_user,
-                          .may_write = source.is_edited && dconfdb_snapshot_is_writable(source.now, key),
+                          .may_write = source.is_edited && seen_is_writable(source.now, true, key),
                           .edit_fits = fits(source.value, expected),
                           .stored_fits = fits(stored, expected)};
     bool is_odd;

@@ -8,15 +8,11 @@
 /* In microseconds: how long a set waits for others where no worker can be had. */
 enum { LONGEST_WRITE = 10000000 };
 
-/* `lock` is held. True: there is no worker, and it is to be written here. */
+/* `lock` is held. True: there is no worker, and it is to be written here. For those before it the worker is awake, or is to try again. */
 static bool add(DconfdbBackend *self, Change *change)
 {
-    bool is_first = waiting_add(&self->waiting, change);
-    worker_begin(self);
-    /* For those before it, it is awake, or is to try again. */
-    if (is_first)
-        worker_wake(self);
-    return !self->has_worker;
+    const Need need = {.is_wanted = true, .is_news = waiting_add(&self->waiting, change), .is_owed = true};
+    return worker_need(self, &need) == DCONFDB_NEED_HERE;
 }
 
 /* Lets the change wait, or frees it. No file is looked at: by the newest snapshot it is known what is seen, and the worker finds

@@ -10,7 +10,8 @@ struct Wait {
     DconfdbBackend *backend;
     FolderLock lock;
     DconfdbFailing failing; /* others have their turn */
-    bool has_thread;
+    DconfdbWriter known;    /* whether a thread waits in line */
+    uint32_t task;          /* the last one */
     pthread_t thread;
     int fault; /* EWOULDBLOCK: it isn't had yet */
     bool is_over; /* the thread's; guarded by `lock` of the backend, as is `fault` until then */
@@ -40,19 +41,22 @@ static bool is_thread_over(DconfdbBackend *self, Wait *wait, gint64 end)
     bool is_over = wait->is_over;
     g_mutex_unlock(&self->lock);
     if (is_over)
-        wait->has_thread = pthread_join(wait->thread, NULL) != 0;
+        wait->known.has_line = pthread_join(wait->thread, NULL) != 0;
     return is_over;
 }
 
-static bool is_over(DconfdbBackend *self, Wait *wait, gint64 end)
+static bool carry_out(DconfdbBackend *self, Wait *wait, gint64 end)
 {
-    if (!wait->has_thread) {
+    switch (wait->task) {
+    case DCONFDB_LINE_TRY:
         wait->fault = folder_lock(self->place.folder, 0, &wait->lock);
-        if (wait->fault != EWOULDBLOCK)
-            return true;
-        wait->has_thread = thread_begin(&wait->thread, wait_in_kernel, wait);
+        return wait->fault != EWOULDBLOCK;
+    case DCONFDB_LINE_BEGIN:
+        wait->known.has_line = thread_begin(&wait->thread, wait_in_kernel, wait);
+        return wait->known.has_line;
+    default: /* DCONFDB_LINE_AWAIT */
+        return is_thread_over(self, wait, end);
     }
-    return wait->has_thread && is_thread_over(self, wait, end);
 }
 
 static void meet_others(DconfdbBackend *self, Wait *wait)
@@ -64,26 +68,36 @@ static void meet_others(DconfdbBackend *self, Wait *wait)
     say(self, text);
 }
 
+static Wait *wait_new(DconfdbBackend *self)
+{
+    Wait *wait = g_new0(Wait, 1);
+    wait->backend = self;
+    wait->fault = EWOULDBLOCK;
+    return wait;
+}
+
 Turn turn_take(DconfdbBackend *self, gint64 end)
 {
+    bool yes = true;
+    if (!self->wait)
+        self->wait = wait_new(self);
     Wait *wait = self->wait;
-    if (!wait) {
-        wait = self->wait = g_new0(Wait, 1);
-        wait->backend = self;
-        wait->fault = EWOULDBLOCK;
-    }
-    if (is_over(self, wait, end))
+    wait->task = DCONFDB_WRITER_BEGINS;
+    while ((wait->task = dconfdb_writer_after(DCONFDB_WRITER_LINE, wait->task, yes, &wait->known)) < DCONFDB_LINE_HAD)
+        yes = carry_out(self, wait, end);
+    if (wait->task == DCONFDB_LINE_HAD)
         return (Turn){&wait->lock, wait->fault};
     meet_others(self, wait);
     return (Turn){NULL, EWOULDBLOCK};
 }
 
+/* Who waits in line is woken, but for what is said of that. */
 gint64 turn_next(const DconfdbBackend *self)
 {
     const Wait *wait = self->wait;
     if (!wait)
         return 0;
-    return (gint64)(wait->has_thread ? wait->failing.due : wait->failing.again);
+    return (gint64)(wait->task == DCONFDB_LINE_WAITS ? wait->failing.due : wait->failing.again);
 }
 
 void turn_give(DconfdbBackend *self)
@@ -96,7 +110,7 @@ void turn_give(DconfdbBackend *self)
 /* No thread that waits can be called back: it wakes the worker when it has the turn. */
 void turn_leave(DconfdbBackend *self)
 {
-    if (self->wait && (!self->wait->has_thread || is_thread_over(self, self->wait, 0)))
+    if (self->wait && (!self->wait->known.has_line || is_thread_over(self, self->wait, 0)))
         turn_give(self);
 }
 

@@ -11,6 +11,7 @@
 #include <poll.h>
 #include <stddef.h>
 #include <stdint.h>
+#include <string.h>
 #include <sys/eventfd.h>
 #include <time.h>
 #include <unistd.h>
@@ -197,15 +198,37 @@ static void *work(void *data)
 
 /* ---- `lock` is held */
 
-void worker_begin(DconfdbBackend *self)
+
+static void see_to(DconfdbBackend *self, uint32_t task, DconfdbWriter *known)
 {
-    if (self->has_worker || !self->place.folder || !is_at_work(self))
-        return;
-    if (self->wakes < 0)
+    switch (task) {
+    case DCONFDB_NEED_WAKE:
         self->wakes = eventfd(0, EFD_CLOEXEC | EFD_NONBLOCK);
-    if (self->wakes < 0)
-        return;
-    self->has_worker = thread_begin(&self->worker, work, self);
+        known->has_wake = self->wakes >= 0;
+        break;
+    default: /* DCONFDB_NEED_THREAD */
+        self->has_worker = thread_begin(&self->worker, work, self);
+        known->has_thread = self->has_worker;
+    }
+}
+
+uint32_t worker_need(DconfdbBackend *self, const Need *need)
+{
+    DconfdbWriter known = {.begun_in = (uint32_t)self->process,
+                           .process = (uint32_t)getpid(),
+                           .has_store = self->place.folder != NULL,
+                           .has_ended = self->has_ended,
+                           .has_thread = self->has_worker,
+                           .has_wake = self->wakes >= 0,
+                           .is_wanted = need->is_wanted,
+                           .is_news = need->is_news,
+                           .is_owed = need->is_owed};
+    uint32_t task = DCONFDB_WRITER_BEGINS;
+    while ((task = dconfdb_writer_after(DCONFDB_WRITER_NEED, task, true, &known)) < DCONFDB_NEED_TOLD)
+        see_to(self, task, &known);
+    if (task == DCONFDB_NEED_TOLD)
+        worker_wake(self);
+    return task;
 }
 
 void worker_wake(DconfdbBackend *self)
@@ -223,120 +246,227 @@ bool worker_is_this(const DconfdbBackend *self)
 
 /* ---- `lock` isn't held */
 
-void worker_tells(DconfdbBackend *self, Notice *notice)
+void worker_tells(DconfdbBackend *self, Notice *notice, bool is_news)
 {
+    const Need need = {is_news, is_news, is_news};
     g_mutex_lock(&self->lock);
-    worker_begin(self);
-    bool tells = self->has_worker && !self->has_ended;
+    bool tells = worker_need(self, &need) == DCONFDB_NEED_TOLD;
     if (tells) {
         Notice *untold = g_new(Notice, 1);
         *untold = *notice;
         g_queue_push_tail(&self->untold, untold);
-        worker_wake(self);
     }
     g_mutex_unlock(&self->lock);
     if (!tells)
         notice_tell(self, notice);
 }
 
-/* ---- the end of the program, or of the backend */
+/* ---- the end of the program, or of the backend: as the proved call says. What waits then is written, or it is told. */
 
-static bool is_settled(DconfdbBackend *self)
+/* `lock` is held. */
+static void know_at_end(const DconfdbBackend *self, DconfdbWriter *known)
 {
-    if (!mutex_lock_until(&self->lock, g_get_monotonic_time() + TICK))
-        return false;
-    bool is = self->waiting.tally.settled == self->waiting.added;
-    g_mutex_unlock(&self->lock);
-    return is;
+    known->has_thread = self->has_worker;
+    known->is_thread = worker_is_this(self);
+    known->is_let_go = g_atomic_int_get(&self->is_let_go);
 }
 
-/* Whether the thread has ended, or does so in a moment. */
-static bool is_joined(DconfdbBackend *self)
+/* `lock` is held. */
+static void count(const DconfdbBackend *self, DconfdbWriter *known)
 {
-    struct timespec end;
-    if (clock_gettime(CLOCK_REALTIME, &end) != 0)
-        return false;
-    end.tv_nsec += TICK * NANOSECONDS;
-    end.tv_sec += end.tv_nsec / SECOND;
-    end.tv_nsec %= SECOND;
-    return pthread_timedjoin_np(self->worker, NULL, &end) == 0;
+    known->settled = self->waiting.tally.settled;
+    known->added = self->waiting.added;
 }
 
-/* The thread is another one's to wait for, where the backend was let go. */
-static bool has_done(DconfdbBackend *self)
+/* Whatever takes warnings may be gone. */
+static void say_at_end(uint32_t task)
 {
-    if (!g_atomic_int_get(&self->is_let_go))
-        return is_joined(self);
-    g_usleep(TICK);
-    return g_atomic_int_get(&self->has_given_up) || is_settled(self);
-}
-
-static void say_what_waits(DconfdbBackend *self)
-{
-    static const char words[] = "dconfdb: what was set last isn't on the disk yet\n";
-    if (!is_settled(self) && write(STDERR_FILENO, words, sizeof words - 1) < 0)
+    static const char waits[] = "dconfdb: what was set last isn't on the disk yet\n";
+    static const char may_wait[] = "dconfdb: nobody knows whether what was set last is on the disk\n";
+    const char *words = task == DCONFDB_END_TELL ? waits : may_wait;
+    if (write(STDERR_FILENO, words, strlen(words)) < 0)
         return;
 }
 
-/* The same where exit() was called in the worker itself, by a handler of the program's that a warning came to: nobody else writes
- * what waits. */
-static bool has_done_here(DconfdbBackend *self)
+/* The lock is had until then. */
+static bool counts_until(DconfdbBackend *self, DconfdbWriter *known, gint64 end)
 {
-    if (!takes_turn(self))
+    if (!mutex_lock_until(&self->lock, end))
+        return false;
+    count(self, known);
+    g_mutex_unlock(&self->lock);
+    return true;
+}
+
+/* ---- a moment of a wait, and what it shows */
+
+typedef void Passes(DconfdbBackend *self, DconfdbProgress *progress);
+
+/* Whether the thread has ended, or does so in a moment. */
+static void joins(DconfdbBackend *self, DconfdbProgress *progress)
+{
+    struct timespec end;
+    if (clock_gettime(CLOCK_REALTIME, &end) != 0)
+        return;
+    end.tv_nsec += TICK * NANOSECONDS;
+    end.tv_sec += end.tv_nsec / SECOND;
+    end.tv_nsec %= SECOND;
+    progress->settled = pthread_timedjoin_np(self->worker, NULL, &end) == 0;
+}
+
+/* The thread is another one's to wait for. */
+static void watches(DconfdbBackend *self, DconfdbProgress *progress)
+{
+    DconfdbWriter known = {.added = progress->added};
+    g_usleep(TICK);
+    counts_until(self, &known, g_get_monotonic_time() + TICK);
+    progress->added = known.added;
+    progress->settled = known.settled;
+    progress->failed = (uint64_t)g_atomic_int_get(&self->has_given_up);
+}
+
+/* exit() was called in the worker itself, by a handler of the program's that a warning came to: nobody else writes what waits. */
+static void does_rounds(DconfdbBackend *self, DconfdbProgress *progress)
+{
+    progress->settled = !takes_turn(self);
+    if (progress->settled == 0)
+        await(self, TICK / MILLISECOND);
+}
+
+/* Without `lock` nothing more is known of the thread than that it moves. */
+static void wait_by(DconfdbBackend *self, Passes *passes, DconfdbPatience *patience)
+{
+    gint64 now = g_get_monotonic_time();
+    DconfdbProgress progress = {.added = 1, .moved = (uint64_t)now};
+    DconfdbFileTime changed = patience->changed;
+    while (dconfdb_patience_goes_on(patience, &progress, &changed, (uint64_t)now)) {
+        passes(self, &progress);
+        changed = folder_written(self->place.folder);
+        now = g_get_monotonic_time();
+        if (g_atomic_int_get(&self->is_writing))
+            progress.moved = (uint64_t)now;
+    }
+}
+
+/* ---- the program's */
+
+static bool mark_exit(DconfdbBackend *self, DconfdbWriter *known)
+{
+    if (!mutex_lock_until(&self->lock, g_get_monotonic_time() + LONGEST_REST))
+        return false;
+    know_at_end(self, known);
+    self->has_ended = self->is_asked = true;
+    self->last_try = self->tries;
+    worker_wake(self);
+    g_mutex_unlock(&self->lock);
+    return true;
+}
+
+static bool carry_out_exit(DconfdbBackend *self, uint32_t task, DconfdbWriter *known, DconfdbPatience *patience)
+{
+    switch (task) {
+    case DCONFDB_END_MARK:
+        *patience = patience_of(self, LONGEST_END);
+        return mark_exit(self, known);
+    case DCONFDB_END_ROUNDS:
+        wait_by(self, does_rounds, patience);
         return true;
-    await(self, TICK / MILLISECOND);
-    return false;
+    case DCONFDB_END_JOIN:
+        wait_by(self, joins, patience);
+        return true;
+    case DCONFDB_END_WATCH:
+        wait_by(self, watches, patience);
+        return true;
+    case DCONFDB_END_COUNT:
+        return counts_until(self, known, g_get_monotonic_time() + TICK);
+    default:
+        say_at_end(task);
+        return true;
+    }
 }
 
 /* exit() may be called by a handler of a signal, amid anything that its thread does: in malloc(), say, or in
  * a lock that the worker then waits for. So nothing here waits without a bound, or takes memory. */
 void worker_end(DconfdbBackend *self)
 {
-    gint64 now = g_get_monotonic_time();
-    DconfdbPatience patience = patience_of(self, LONGEST_END);
-    if (!mutex_lock_until(&self->lock, now + LONGEST_REST))
-        return; /* this very thread has it */
-    bool has_worker = self->has_worker, is_this = worker_is_this(self);
-    /* Without `lock` nothing more is known of the thread, if there is one, than that it moves, and that it is over. */
-    DconfdbProgress progress = {.added = has_worker, .moved = (uint64_t)now};
-    self->has_ended = self->is_asked = true;
-    self->last_try = self->tries;
-    worker_wake(self);
-    g_mutex_unlock(&self->lock);
-    DconfdbFileTime changed = patience.changed;
-    while (dconfdb_patience_goes_on(&patience, &progress, &changed, (uint64_t)now)) {
-        progress.settled = is_this ? has_done_here(self) : has_done(self);
-        changed = folder_written(self->place.folder);
-        now = g_get_monotonic_time();
-        if (g_atomic_int_get(&self->is_writing))
-            progress.moved = (uint64_t)now;
-    }
-    say_what_waits(self);
+    DconfdbWriter known = {.begun_in = (uint32_t)self->process, .process = (uint32_t)getpid(), .exits = true};
+    DconfdbPatience patience = {.each = 0};
+    uint32_t task = DCONFDB_WRITER_BEGINS;
+    bool yes = true;
+    while ((task = dconfdb_writer_after(DCONFDB_WRITER_END, task, yes, &known)) < DCONFDB_END_DONE)
+        yes = carry_out_exit(self, task, &known, &patience);
 }
 
-/* `lock` is held, and let go of meanwhile: until the thread is over, or a later write than these has failed. */
-static void await_over(DconfdbBackend *self, guint64 tries)
+void worker_end_unseen(void)
+{
+    const DconfdbWriter known = {.exits = true};
+    uint32_t task = DCONFDB_END_COUNT;
+    while ((task = dconfdb_writer_after(DCONFDB_WRITER_END, task, false, &known)) < DCONFDB_END_DONE)
+        say_at_end(task);
+}
+
+/* ---- the backend's; `lock` is held, and let go of meanwhile */
+
+/* Until the thread is over, or a later write than these has failed. */
+static bool await_over(DconfdbBackend *self, guint64 tries)
 {
     DconfdbPatience patience = patience_of(self, LONGEST_END);
     while (patience_goes_on(&patience, self->is_over, 1, self->failed, tries))
         g_cond_wait_until(&self->settles, &self->lock, (gint64)patience.end);
+    return self->is_over;
+}
+
+static void mark_let_go(DconfdbBackend *self, DconfdbWriter *known)
+{
+    know_at_end(self, known);
+    self->has_ended = self->is_asked = true;
+    g_atomic_int_set(&self->is_let_go, TRUE);
+    worker_wake(self);
+}
+
+/* It is over, and needs no lock any more. */
+static void take_away(DconfdbBackend *self)
+{
+    g_mutex_unlock(&self->lock);
+    bool is_gone = pthread_join(self->worker, NULL) == 0;
+    g_mutex_lock(&self->lock);
+    self->has_worker = !is_gone;
+}
+
+static bool carry_out_let_go(DconfdbBackend *self, uint32_t task, DconfdbWriter *known)
+{
+    switch (task) {
+    case DCONFDB_END_MARK:
+        mark_let_go(self, known);
+        return true;
+    case DCONFDB_END_AWAIT:
+        return await_over(self, self->tries);
+    case DCONFDB_END_LEAVE:
+        self->is_left = true;
+        g_object_ref(self);
+        return true;
+    case DCONFDB_END_REAP:
+        take_away(self);
+        return true;
+    case DCONFDB_END_COUNT:
+        count(self, known);
+        return true;
+    default:
+        g_mutex_unlock(&self->lock);
+        say_at_end(task);
+        g_mutex_lock(&self->lock);
+        return true;
+    }
 }
 
 bool worker_let_go(DconfdbBackend *self)
 {
+    DconfdbWriter known = {.begun_in = (uint32_t)self->process, .process = (uint32_t)getpid()};
+    uint32_t task = DCONFDB_WRITER_BEGINS;
+    bool yes = true;
     g_mutex_lock(&self->lock);
-    bool has_worker = self->has_worker, is_this = worker_is_this(self);
-    guint64 tries = self->tries;
-    self->has_ended = self->is_asked = true;
-    g_atomic_int_set(&self->is_let_go, TRUE);
-    worker_wake(self);
-    if (has_worker && !is_this)
-        await_over(self, tries);
-    self->is_left = has_worker && !self->is_over;
-    if (self->is_left)
-        g_object_ref(self);
+    while ((task = dconfdb_writer_after(DCONFDB_WRITER_END, task, yes, &known)) < DCONFDB_END_DONE)
+        yes = carry_out_let_go(self, task, &known);
     g_mutex_unlock(&self->lock);
-    if (has_worker && !self->is_left && pthread_join(self->worker, NULL) == 0)
-        self->has_worker = false;
-    return !self->is_left;
+    return task == DCONFDB_END_DONE;
 }

@@ -184,16 +184,15 @@ static void await_news(DconfdbBackend *self, DconfdbPatience *patience)
 }
 
 /* Until all that waits now is settled, or a later write than these has failed after others had for long. */
-static bool await_settled(DconfdbBackend *self, DconfdbPatience *patience, guint64 tries)
+static void await_settled(DconfdbBackend *self, DconfdbPatience *patience, guint64 tries, DconfdbWriter *known)
 {
     g_mutex_lock(&self->lock);
     const DconfdbTally *tally = &self->waiting.tally;
-    guint64 added = self->waiting.added;
-    while (patience_goes_on(patience, tally->settled, added, self->failed, tries))
+    known->added = self->waiting.added;
+    while (patience_goes_on(patience, tally->settled, known->added, self->failed, tries))
         await_news(self, patience);
-    bool is_settled = tally->settled >= added;
+    known->settled = tally->settled;
     g_mutex_unlock(&self->lock);
-    return is_settled;
 }
 
 /* `turn` is held. Another program may have written what was set once more, and not brought it to the disk. */
@@ -217,7 +216,7 @@ typedef struct {
     guint begun;
     guint64 tries;
     DconfdbPatience patience;
-    DconfdbSync known;
+    DconfdbWriter known;
     Notice notice;
 } Sync;
 
@@ -226,9 +225,9 @@ static bool take_turn(DconfdbBackend *self, Sync *sync)
 {
     if (!mutex_lock_until(&self->turn, (gint64)sync->patience.end))
         return false;
-    sync->known.has_looked = has_looked_since(self, sync->begun);
+    sync->known.sync.has_looked = has_looked_since(self, sync->begun);
     g_mutex_lock(&self->lock);
-    sync->known.is_to_settle = self->is_to_settle && self->store;
+    sync->known.sync.is_to_settle = self->is_to_settle && self->store;
     g_mutex_unlock(&self->lock);
     return true;
 }
@@ -244,7 +243,8 @@ static bool carry_out(DconfdbBackend *self, uint32_t task, Sync *sync)
         store_write_alone(self, (gint64)sync->patience.end);
         return true;
     case DCONFDB_SYNC_AWAIT:
-        return await_settled(self, &sync->patience, sync->tries);
+        await_settled(self, &sync->patience, sync->tries, &sync->known);
+        return true;
     case DCONFDB_SYNC_TAKE:
         return take_turn(self, sync);
     case DCONFDB_SYNC_LOOK:
@@ -257,15 +257,15 @@ static bool carry_out(DconfdbBackend *self, uint32_t task, Sync *sync)
 bool store_sync(DconfdbBackend *self)
 {
     Sync sync = {.begun = (guint)g_atomic_int_get(&self->looks_begun), .patience = patience_of(self, LONGEST_SYNC)};
-    uint32_t task = DCONFDB_SYNC_BEGINS;
+    uint32_t task = DCONFDB_WRITER_BEGINS;
     bool yes = true, has_turn = false;
     g_mutex_lock(&self->lock);
     sync.tries = self->tries;
-    sync.known = (DconfdbSync){.has_writer = self->has_worker && !worker_is_this(self),
-                               .has_failed = self->failed != 0,
-                               .has_store = self->place.folder != NULL};
+    sync.known.sync = (DconfdbSync){.has_writer = self->has_worker && !worker_is_this(self),
+                                    .has_failed = self->failed != 0,
+                                    .has_store = self->place.folder != NULL};
     g_mutex_unlock(&self->lock);
-    while ((task = dconfdb_sync_after(task, yes, &sync.known)) < DCONFDB_SYNC_YES) {
+    while ((task = dconfdb_writer_after(DCONFDB_WRITER_SYNC, task, yes, &sync.known)) < DCONFDB_SYNC_YES) {
         yes = carry_out(self, task, &sync);
         has_turn = has_turn || (task == DCONFDB_SYNC_TAKE && yes);
     }

@@ -21,7 +21,10 @@ static int set_home(void)
 /* In the words of the proved program. It returns 1. */
 static int refuse(int fault, const char *of)
 {
-    if (dconfdb_error_code(false, (uint32_t)fault) == DCONFDB_MEMORY)
+    const DconfdbFaultMet met = {.of = DCONFDB_FAULT_OF_FILE, .number = (uint32_t)fault};
+    DconfdbSentence sentence;
+    dconfdb_sentence(&met, &sentence);
+    if (sentence.code == DCONFDB_MEMORY)
         fprintf(stderr, "error: Memory\n");
     else
         fprintf(stderr, "error: %s %s\n", fault == ENOENT ? "NoFile" : "Device", of);

@@ -4,13 +4,15 @@
 #include <stdio.h>
 #include <string.h>
 
-uint32_t dconfdb_open(const void *old, bool was_mapped, const uint8_t *file, size_t len, bool is_there, void *layer, void *unsound);
+uint32_t dconfdb_open(const void *old, bool was_mapped, const uint8_t *file, size_t len, bool is_there, bool is_lenient, void *layer, void *unsound,
+                      uint32_t *telling);
 bool dconfdb_read(const void *layers, size_t n, const uint8_t *path, size_t path_len, void *found);
 bool dconfdb_fault_text(uint32_t number, void *text);
 bool dconfdb_child_at(void *whole, bool of_variant, size_t index, void *found);
 size_t dconfdb_put_children(const uint8_t *type_text, size_t type_text_len, const uint8_t *value, size_t value_len, size_t origin, void *room,
                             size_t room_len);
-uint32_t dconfdb_profile(const uint8_t *text, size_t len, bool is_lenient, void *room, size_t room_len, size_t *names, uint32_t *fault, size_t *line);
+uint32_t dconfdb_profile(uint32_t step, const uint8_t *text, size_t len, bool is_lenient, bool has_kept, void *room, size_t room_len, size_t *names,
+                         uint32_t *fault, size_t *line);
 uint32_t dconfdb_change(const void *layers, size_t n, bool writable, const void *changes, size_t changes_len, const uint8_t *old,
                         size_t old_len, uint8_t *room, size_t room_len, size_t *len, size_t *at, bool *is_same);
 
@@ -59,7 +61,8 @@ static void finds_bytes(void)
 static void opens(const uint8_t *bytes, size_t len, bool is_there, uint8_t *layer)
 {
     _Alignas(16) uint8_t unused[ROOM];
-    is_so(dconfdb_open(empty_layer(), false, bytes, len, is_there, layer, unused) == 0, "dconfdb_open");
+    uint32_t telling = UNTOUCHED;
+    is_so(dconfdb_open(empty_layer(), false, bytes, len, is_there, false, layer, unused, &telling) == 0 && telling == 0, "dconfdb_open");
 }
 
 /* The fields of a table, which takes so many bytes. */
@@ -127,8 +130,9 @@ static void finds_unsound(void)
 {
     Written room = room_of("DconfdbUnsound");
     _Alignas(16) uint8_t unused[ROOM];
+    uint32_t telling = UNTOUCHED;
     file[THIRD_HASH] ^= 1;
-    is_so(dconfdb_open(empty_layer(), false, file, sizeof file, true, unused, room.bytes) != 0, "dconfdb_open");
+    is_so(dconfdb_open(empty_layer(), false, file, sizeof file, true, true, unused, room.bytes, &telling) != 0 && telling == 2, "dconfdb_open");
     file[THIRD_HASH] ^= 1;
     finds_number(&room, "rule", 4);
     finds_number(&room, "item", 2);
@@ -181,6 +185,9 @@ static void finds_child(void)
     is_so(ends(&one) == size, "DconfdbChild");
 }
 
+/* The step of a profile's file. */
+enum { COUNTS = 4 };
+
 /* Two elements of an array: the second is as far from the first as the struct is long. */
 static void finds_name(void)
 {
@@ -188,8 +195,8 @@ static void finds_name(void)
     Written one = room_of("DconfdbName"), two = one;
     size_t count, line;
     uint32_t fault;
-    is_so(dconfdb_profile(text, 13, false, one.bytes, 2, &count, &fault, &line) == 0 && count == 1, "dconfdb_profile");
-    is_so(dconfdb_profile(text, sizeof text - 1, false, two.bytes, 2, &count, &fault, &line) == 0 && count == 2, "dconfdb_profile");
+    is_so(dconfdb_profile(COUNTS, text, 13, false, false, one.bytes, 2, &count, &fault, &line) == 0 && count == 1, "dconfdb_profile");
+    is_so(dconfdb_profile(COUNTS, text, sizeof text - 1, false, false, two.bytes, 2, &count, &fault, &line) == 0 && count == 2, "dconfdb_profile");
     uint8_t lent[LENT];
     lends(lent, text + 22, 3);
     size_t name = finds_lent(&one, "name", text + 8, 5), size = place_of(&two, 0, ROOM, lent, LENT) - name;

@@ -8,6 +8,7 @@ bool dconfdb_patience_goes_on(void *patience, const void *progress, const void *
 uint32_t dconfdb_failing_met(void *failing, bool is_there, bool is_momentary, bool tries_again, uint64_t now);
 uint32_t dconfdb_tell_next(const void *known);
 uint32_t dconfdb_served_after(uint32_t done, const void *known);
+void dconfdb_sentence(const void *met, void *sentence);
 
 /* One that is to take so long, and begins at moment 7, with nothing that waits. */
 enum { PATIENCE = 5 };
@@ -82,26 +83,37 @@ static void finds_failing(void)
     printf("TAKES(DconfdbFailing, %d);\n", (FAULT_FLAGS + 1) * WORD);
 }
 
-enum { TAKEN_PATHS = 0, TELL_FLAGS = 8, TELL_IS_FIRST = 8, TELL_ENDS = 9, TELL_IS_OTHER = 10, TELL_HAS_EDITS = 11, TELL_IS_FOUND = 12,
-       TELL_HAS_PATH = 13, TELL_IS_LISTENED = 14, TELLING = 16 };
+enum { TAKEN_PATHS = 0, TELL_LIST = 8, TELL_FLAGS = 12, TELL_IS_FIRST = 12, TELL_ENDS = 13, TELL_IS_OTHER = 14, TELL_HAS_EDITS = 15, TELL_IS_FOUND = 16,
+       TELL_HAS_PATH = 17, TELL_IS_LISTENED = 18, TELL_IS_BETWEEN = 19, TELL_HAS_RIGHTS = 20, TELLING = 24 };
 
-static bool is_told(size_t taken_paths, unsigned fields, uint32_t next)
+static uint32_t told_by(size_t taken_paths, uint32_t list, unsigned fields)
 {
     _Alignas(16) uint8_t known[TELLING] = {0};
     memcpy(known, &taken_paths, WORD);
-    for (int i = 0; i < TELL_IS_LISTENED + 1 - TELL_FLAGS; i++)
+    memcpy(known + TELL_LIST, &list, NUMBER);
+    for (int i = 0; i < TELL_HAS_RIGHTS + 1 - TELL_FLAGS; i++)
         known[TELL_FLAGS + i] = fields >> i & 1;
-    return dconfdb_tell_next(known) == next;
+    return dconfdb_tell_next(known);
+}
+
+static bool is_told(size_t taken_paths, unsigned fields, uint32_t next)
+{
+    return told_by(taken_paths, 0, fields) == next;
 }
 
 static void finds_telling(void)
 {
     enum { FIRST = 1, PROGRAM_ENDS = 2, OTHER = 4, HAS_EDITS = 8, FOUND = 16, HERE = 32, LISTENED = 64, HEARD = FOUND | HERE | LISTENED };
+    enum { BETWEEN = 128, RIGHTS = 256 };
     is_so(is_told(0, OTHER | HEARD, 1) && is_told(255, OTHER | HEARD, 2) && is_told(0, HAS_EDITS | HEARD, 1), "DconfdbTelling");
     is_so(is_told(0, HEARD, 0) && is_told(0, OTHER | HEARD | FIRST, 0) && is_told(0, OTHER | HEARD | PROGRAM_ENDS, 0), "DconfdbTelling");
     is_so(is_told(0, OTHER | HERE | LISTENED, 4) && is_told(1, OTHER | FOUND | HERE, 0) && is_told(1, OTHER | FOUND | LISTENED, 3),
           "DconfdbTelling");
+    is_so(told_by(0, 0, OTHER | BETWEEN | RIGHTS) == 5 && told_by(0, 0, OTHER | BETWEEN) == 6 && told_by(0, 5, OTHER | BETWEEN | RIGHTS) == 6,
+          "DconfdbTelling");
+    is_so(told_by(0, 6, OTHER | BETWEEN) == 7 && told_by(0, 0, BETWEEN | RIGHTS) == 7, "DconfdbTelling");
     lies("DconfdbTelling", "taken", TAKEN_PATHS, WORD);
+    lies("DconfdbTelling", "list", TELL_LIST, NUMBER);
     lies("DconfdbTelling", "is_first", TELL_IS_FIRST, FLAG);
     lies("DconfdbTelling", "ends", TELL_ENDS, FLAG);
     lies("DconfdbTelling", "is_other", TELL_IS_OTHER, FLAG);
@@ -109,21 +121,36 @@ static void finds_telling(void)
     lies("DconfdbTelling", "is_found", TELL_IS_FOUND, FLAG);
     lies("DconfdbTelling", "has_path", TELL_HAS_PATH, FLAG);
     lies("DconfdbTelling", "is_listened", TELL_IS_LISTENED, FLAG);
+    lies("DconfdbTelling", "is_between", TELL_IS_BETWEEN, FLAG);
+    lies("DconfdbTelling", "has_rights", TELL_HAS_RIGHTS, FLAG);
     printf("TAKES(DconfdbTelling, %d);\n", TELLING);
 }
 
 /* What is known of a change is read alone: the numbers, what is said, and the fields of which these are so. */
 enum { SERVED_SIZE = 0, SERVED_WAITING = 8, SERVED_WAITING_SIZE = 16, SERVED_NAMES = 24, SERVED_SAID = 32, SERVED_FLAGS = 36, SERVED_IS_USED = 36,
-       SERVED_IS_NORMAL = 37, SERVED_HAS_EDITS = 38, SERVED_IS_WRITTEN = 39, SERVED_IS_CLOSED = 40, SERVED = 48 };
+       SERVED_IS_NORMAL = 37, SERVED_HAS_EDITS = 38, SERVED_IS_WRITTEN = 39, SERVED_IS_CLOSED = 40, SERVED_ENDS = 41, SERVED_IS_AMID = 42,
+       SERVED_IS_SAME = 43, SERVED_IS_OPEN = 44, SERVED_IS_PROFILE_OPEN = 45, SERVED_HAS_SAME_FILE = 46, SERVED_HAD_NAME = 47,
+       SERVED_IS_BUS_CLOSED = 48, SERVED = 56 };
 
 static bool is_served(uint32_t done, const uint64_t numbers[4], uint32_t said, unsigned fields, uint32_t next)
 {
     _Alignas(16) uint8_t known[SERVED] = {0};
     memcpy(known, numbers, SERVED_SAID);
     memcpy(known + SERVED_SAID, &said, NUMBER);
-    for (int i = 0; i < SERVED_IS_CLOSED + 1 - SERVED_FLAGS; i++)
+    for (int i = 0; i < SERVED_IS_BUS_CLOSED + 1 - SERVED_FLAGS; i++)
         known[SERVED_FLAGS + i] = fields >> i & 1;
     return dconfdb_served_after(done, known) == next;
+}
+
+/* Of what happens at the end, and before it is written, one field counts, or a few. */
+static void finds_ending(const uint64_t none[4], const uint64_t one[4])
+{
+    enum { EDITS = 4 | 2, ENDS = 32, AMID = 64, SAME = 128, OPEN = 256, PROFILE = 512, SAME_FILE = 1024, HAD_NAME = 2048, BUS_CLOSED = 4096 };
+    is_so(is_served(2, none, 0, EDITS, 0) && is_served(2, none, 0, ENDS | EDITS, 2) && is_served(4, none, 0, 0, 8) && is_served(4, none, 0, AMID, 0), "DconfdbServed");
+    is_so(is_served(5, none, 0, 0, 9) && is_served(5, none, 0, SAME, 0) && is_served(7, none, 0, 0, 0) && is_served(7, one, 0, 0, 8), "DconfdbServed");
+    is_so(is_served(6, none, 0, OPEN, 2) && is_served(6, none, 0, PROFILE, 2) && is_served(6, none, 0, OPEN | PROFILE, 11)
+              && is_served(6, none, 0, OPEN | PROFILE | SAME_FILE, 10), "DconfdbServed");
+    is_so(is_served(8, none, 0, 0, 13) && is_served(8, none, 0, HAD_NAME, 12) && is_served(8, none, 0, BUS_CLOSED, 12), "DconfdbServed");
 }
 
 static void finds_served(void)
@@ -146,7 +173,68 @@ static void finds_served(void)
     lies("DconfdbServed", "has_edits", SERVED_HAS_EDITS, FLAG);
     lies("DconfdbServed", "is_written", SERVED_IS_WRITTEN, FLAG);
     lies("DconfdbServed", "is_closed", SERVED_IS_CLOSED, FLAG);
+    finds_ending((const uint64_t[4]){0, 0, 0, 0}, few);
+    lies("DconfdbServed", "ends", SERVED_ENDS, FLAG);
+    lies("DconfdbServed", "is_amid", SERVED_IS_AMID, FLAG);
+    lies("DconfdbServed", "is_same", SERVED_IS_SAME, FLAG);
+    lies("DconfdbServed", "is_open", SERVED_IS_OPEN, FLAG);
+    lies("DconfdbServed", "is_profile_open", SERVED_IS_PROFILE_OPEN, FLAG);
+    lies("DconfdbServed", "has_same_file", SERVED_HAS_SAME_FILE, FLAG);
+    lies("DconfdbServed", "had_name", SERVED_HAD_NAME, FLAG);
+    lies("DconfdbServed", "is_bus_closed", SERVED_IS_BUS_CLOSED, FLAG);
     printf("TAKES(DconfdbServed, %d);\n", SERVED);
+}
+
+/* What is known of a fault is read alone: the numbers, and the fields of which these are so. */
+enum { MET_OF = 0, MET_NUMBER = 4, MET_TOLD = 8, MET_OUTCOME = 12, MET_WAIT = 16, MET_LOOKED = 20, MET_FLAGS = 24, MET_IS_THERE = 24, MET_HAS_USER = 25,
+       MET_HAS_TEXT = 26, MET_HAS_LINE = 27, MET_HAS_RULE = 28, MET_HAS_ITEM = 29, MET = 32 };
+
+/* The sentence of them: which it is, its code, errno and outcome, and what it names. */
+static bool is_said(const uint32_t numbers[6], unsigned fields, const uint32_t said[5], bool is_placed)
+{
+    _Alignas(16) uint8_t met[MET] = {0};
+    Written sentence = room_of("DconfdbSentence");
+    memcpy(met, numbers, MET_FLAGS);
+    for (int i = 0; i < MET_HAS_ITEM + 1 - MET_FLAGS; i++)
+        met[MET_FLAGS + i] = fields >> i & 1;
+    dconfdb_sentence(met, sentence.bytes);
+    return memcmp(sentence.bytes, said, 5 * NUMBER) == 0 && sentence.bytes[5 * NUMBER] == is_placed && sentence.bytes[6 * NUMBER] == UNTOUCHED;
+}
+
+static void finds_sentence(void)
+{
+    enum { IS_THERE = 1, HAS_USER = 2, HAS_TEXT = 4, HAS_LINE = 8, HAS_RULE = 16, HAS_ITEM = 32 };
+    static const uint32_t no_memory[6] = {0, 12}, busy[6] = {1, 11, 0, 0, 10000}, soon[6] = {1, 11, 0, 0, 7}, fails[6] = {1, 13},
+                          unlooked[6] = {1, 13, 0, 0, 0, 13}, call[6] = {2, 7}, ended[6] = {3, 5, 3, 2};
+    is_so(is_said(no_memory, 0, (const uint32_t[5]){2, 1, 0, 1, 0}, false) && is_said(busy, HAS_USER, (const uint32_t[5]){6, 65, 0, 1, 0}, true)
+              && is_said(soon, 0, (const uint32_t[5]){7, 65, 0, 1, 2}, true),
+          "DconfdbFaultMet");
+    is_so(is_said(fails, IS_THERE, (const uint32_t[5]){4, 64, 13, 1, 1}, true) && is_said(unlooked, IS_THERE, (const uint32_t[5]){4, 64, 13, 1, 2}, true),
+          "DconfdbFaultMet");
+    is_so(is_said(call, HAS_TEXT, (const uint32_t[5]){13, 7, 0, 1, 0}, true) && is_said(call, HAS_TEXT | HAS_LINE, (const uint32_t[5]){14, 7, 0, 1, 0}, true)
+              && is_said(call, HAS_RULE, (const uint32_t[5]){15, 7, 0, 1, 0}, true) && is_said(call, HAS_RULE | HAS_ITEM, (const uint32_t[5]){16, 7, 0, 1, 0}, true),
+          "DconfdbFaultMet");
+    is_so(is_said(ended, 0, (const uint32_t[5]){8, 64, 5, 2, 0}, true), "DconfdbSentence");
+    lies("DconfdbFaultMet", "of", MET_OF, NUMBER);
+    lies("DconfdbFaultMet", "number", MET_NUMBER, NUMBER);
+    lies("DconfdbFaultMet", "told", MET_TOLD, NUMBER);
+    lies("DconfdbFaultMet", "outcome", MET_OUTCOME, NUMBER);
+    lies("DconfdbFaultMet", "wait", MET_WAIT, NUMBER);
+    lies("DconfdbFaultMet", "looked", MET_LOOKED, NUMBER);
+    lies("DconfdbFaultMet", "is_there", MET_IS_THERE, FLAG);
+    lies("DconfdbFaultMet", "has_user", MET_HAS_USER, FLAG);
+    lies("DconfdbFaultMet", "has_text", MET_HAS_TEXT, FLAG);
+    lies("DconfdbFaultMet", "has_line", MET_HAS_LINE, FLAG);
+    lies("DconfdbFaultMet", "has_rule", MET_HAS_RULE, FLAG);
+    lies("DconfdbFaultMet", "has_item", MET_HAS_ITEM, FLAG);
+    printf("TAKES(DconfdbFaultMet, %d);\n", MET);
+    lies("DconfdbSentence", "says", 0, NUMBER);
+    lies("DconfdbSentence", "code", NUMBER, NUMBER);
+    lies("DconfdbSentence", "errnum", 2 * NUMBER, NUMBER);
+    lies("DconfdbSentence", "outcome", 3 * NUMBER, NUMBER);
+    lies("DconfdbSentence", "names", 4 * NUMBER, NUMBER);
+    lies("DconfdbSentence", "is_placed", 5 * NUMBER, FLAG);
+    printf("TAKES(DconfdbSentence, %d);\n", 6 * NUMBER);
 }
 
 void finds_faults(void)
@@ -155,4 +243,5 @@ void finds_faults(void)
     finds_failing();
     finds_telling();
     finds_served();
+    finds_sentence();
 }

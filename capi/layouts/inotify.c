@@ -6,7 +6,7 @@
 #include <sys/stat.h>
 
 void dconfdb_watched_name(bool minds, const uint8_t *folder, size_t folder_len, const uint8_t *name, size_t name_len, bool is_last, uint32_t mode,
-                          uint64_t links, uint32_t role, void *watched);
+                          uint64_t links, uint64_t followed, bool is_profile, void *watched);
 uint32_t dconfdb_heard(uint32_t before, uint32_t watch, uint32_t comes, uint32_t mask, bool has_name, bool is_same, uint32_t mode, uint64_t links);
 
 enum { OF_FILE = 0, OF_FOLDER = 1, NOTHING = 2, ITSELF = 1, PASSAGE = 2, OWN = 3, AWAITED = 4 };
@@ -15,7 +15,7 @@ enum { OF_FILE = 0, OF_FOLDER = 1, NOTHING = 2, ITSELF = 1, PASSAGE = 2, OWN = 3
 static bool is_watched_so(uint32_t mode, uint64_t links, bool is_last, uint32_t watch, uint32_t asked)
 {
     _Alignas(16) uint32_t name[WATCHED_NAME / NUMBER];
-    dconfdb_watched_name(true, (const uint8_t *)"/a", 2, (const uint8_t *)"b", 1, is_last, mode, links, 0, name);
+    dconfdb_watched_name(true, (const uint8_t *)"/a", 2, (const uint8_t *)"b", 1, is_last, mode, links, 0, false, name);
     return name[0] == watch && name[1] == asked;
 }
 

@@ -5,6 +5,8 @@
 #include <string.h>
 
 bool dconfdb_line(bool is_of_locks, void *cursor, void *line);
+uint32_t dconfdb_is_nearer(void *nearing, const char *name, size_t name_len, const char *other, size_t other_len);
+uint32_t dconfdb_option(void *read, bool is_end, const char *word, size_t len, size_t *from);
 uint32_t dconfdb_finding(const void *known, const char *directory, size_t directory_len, const void *others, size_t count);
 
 /* Of two lines, the first names the group of the second's key. */
@@ -46,6 +48,49 @@ static void finds_finding(void)
     printf("TAKES(DconfdbFinding, %d);\n", FINDING);
 }
 
+enum { NEARING_USED = 0, NEARING_FOUND = 8, NEARING_IS_HALF = 16, NEARING = 24 };
+
+/* Of two names of four letters, of which two are otherwise: that is half of them. */
+static void finds_nearing(void)
+{
+    _Alignas(16) uint8_t nearing[NEARING] = {0}, half[NEARING] = {0};
+    const uint64_t pairs = 25, found = 3, nothing = 0;
+    half[NEARING_IS_HALF] = true;
+    is_so(dconfdb_is_nearer(nearing, "abcd", 4, "abxy", 4) == 0 && dconfdb_is_nearer(half, "abcd", 4, "abxy", 4) == 1, "DconfdbNearing");
+    is_so(memcmp(nearing + NEARING_USED, &pairs, WORD) == 0 && memcmp(nearing + NEARING_FOUND, &nothing, WORD) == 0, "DconfdbNearing");
+    is_so(memcmp(half + NEARING_USED, &pairs, WORD) == 0 && memcmp(half + NEARING_FOUND, &found, WORD) == 0, "DconfdbNearing");
+    lies("DconfdbNearing", "used", NEARING_USED, WORD);
+    lies("DconfdbNearing", "found", NEARING_FOUND, WORD);
+    lies("DconfdbNearing", "is_half", NEARING_IS_HALF, FLAG);
+    printf("TAKES(DconfdbNearing, %d);\n", NEARING);
+}
+
+enum { WORDS_WANTS = 0, WORDS_IS_LINT = 4, WORDS_IS_OVER = 5, WORDS_HAS_FOLDER = 6, WORDS_IS_USER = 7, WORDS_HAS_NAME = 8, WORDS = 12 };
+
+/* A word after those that say just the byte at that place; it says the byte at another one. */
+static bool is_word(size_t before, const char *word, uint32_t said, size_t begins, size_t after)
+{
+    _Alignas(16) uint8_t read[WORDS] = {0};
+    size_t from = 0;
+    read[before] = before != WORDS_WANTS;
+    return dconfdb_option(read, false, word, strlen(word), &from) == said && from == begins && read[after] == 1;
+}
+
+static void finds_words(void)
+{
+    is_so(is_word(WORDS_WANTS, "--store", 0, 0, WORDS_WANTS) && is_word(WORDS_WANTS, "--store=x", 1, 8, WORDS_HAS_FOLDER), "DconfdbWords");
+    is_so(is_word(WORDS_IS_LINT, "--schemas=x", 1, 10, WORDS_HAS_FOLDER) && is_word(WORDS_IS_OVER, "--user", 3, 0, WORDS_HAS_NAME), "DconfdbWords");
+    is_so(is_word(WORDS_WANTS, "--", 0, 0, WORDS_IS_OVER) && is_word(WORDS_WANTS, "--user", 0, 0, WORDS_IS_USER), "DconfdbWords");
+    is_so(is_word(WORDS_HAS_FOLDER, "--user", 7, 0, WORDS_HAS_FOLDER) && is_word(WORDS_IS_USER, "--user", 6, 0, WORDS_IS_USER), "DconfdbWords");
+    lies("DconfdbWords", "wants", WORDS_WANTS, NUMBER);
+    lies("DconfdbWords", "is_lint", WORDS_IS_LINT, FLAG);
+    lies("DconfdbWords", "is_over", WORDS_IS_OVER, FLAG);
+    lies("DconfdbWords", "has_folder", WORDS_HAS_FOLDER, FLAG);
+    lies("DconfdbWords", "is_user", WORDS_IS_USER, FLAG);
+    lies("DconfdbWords", "has_name", WORDS_HAS_NAME, FLAG);
+    printf("TAKES(DconfdbWords, %d);\n", WORDS);
+}
+
 void finds_lines(void)
 {
     static const char text[] = "[g]\nk=vv\nrest";
@@ -69,4 +114,6 @@ void finds_lines(void)
     finds_number(&line, "kind", 1);
     ends(&line);
     finds_finding();
+    finds_nearing();
+    finds_words();
 }

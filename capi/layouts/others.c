@@ -78,7 +78,7 @@ static void tries_most_noted(void)
 
 /* ---- edits that are asked for, beside the guess that the second path was set at 5, and what was seen */
 
-enum { ASKED_WHEN = 16, ASKED_CHANGE = 24, IS_OWN = 32, IS_AS_BEFORE = 33, ASKED = 40, IS_NOTED = 32, SEEN = 40 };
+enum { ASKED_WHEN = 16, ASKED_CHANGE = 24, ASKED_WAS = 32, ASKED_IS = 40, IS_OWN = 48, HAS_LOOKED = 49, ASKED = 56, IS_NOTED = 32, SEEN = 40 };
 
 static void makes_asked(uint8_t *asked, const char *path, uint64_t when, size_t change)
 {
@@ -110,8 +110,11 @@ static void tries_asked(void)
     edits[ASKED + IS_OWN] = 1;
     is_so(left_of(edits, 3, seen, 0) == 0, "DconfdbAsked");
     edits[ASKED + IS_OWN] = 0;
-    edits[ASKED + IS_AS_BEFORE] = 1;
+    edits[ASKED + HAS_LOOKED] = edits[ASKED + ASKED_WAS] = edits[ASKED + ASKED_IS] = 1;
     is_so(left_of(edits, 3, seen, 0) == 0, "DconfdbAsked");
+    edits[ASKED + ASKED_IS] = 2;
+    is_so(left_of(edits, 3, seen, 0) == 6, "DconfdbAsked");
+    edits[ASKED + ASKED_IS] = 1;
     makes_time(seen, "/k", 5);
     is_so(left_of(edits, 3, seen, 1) == 6, "DconfdbSeen");
     makes_asked(edits + ASKED, "/k", 5, 8);
@@ -120,7 +123,9 @@ static void tries_asked(void)
     lies("DconfdbAsked", "when", ASKED_WHEN, WORD);
     lies("DconfdbAsked", "change", ASKED_CHANGE, WORD);
     lies("DconfdbAsked", "is_own", IS_OWN, FLAG);
-    lies("DconfdbAsked", "is_as_before", IS_AS_BEFORE, FLAG);
+    lies("DconfdbAsked", "was", ASKED_WAS, WORD);
+    lies("DconfdbAsked", "is", ASKED_IS, WORD);
+    lies("DconfdbAsked", "has_looked", HAS_LOOKED, FLAG);
     printf("TAKES(DconfdbAsked, %d);\n", ASKED);
 }
 

@@ -4,13 +4,12 @@
 #include <stdio.h>
 #include <string.h>
 
-uint32_t dconfdb_place_kind(const void *environment, uint32_t giver);
+uint32_t dconfdb_place_kind(const void *environment, uint32_t giver, uint32_t known);
 uint32_t dconfdb_place(const void *environment, uint32_t giver, const uint8_t *folder, size_t folder_len, uint32_t wanted, bool is_asked,
                        const uint8_t *base, size_t base_len, void *path);
-bool dconfdb_profile_path(const void *place, uint32_t which, size_t dir, void *path);
 bool dconfdb_database_path(const void *place, const uint8_t *profile, size_t profile_len, uint32_t kind, const uint8_t *name, size_t name_len,
                            void *path, void *flag);
-uint32_t dconfdb_profile_step(const void *place, const void *look, size_t *dir, uint32_t *telling);
+void dconfdb_profile_step(const void *place, const void *look, void *next);
 
 /* ---- a place, of which each text in turn is in a path */
 
@@ -40,15 +39,22 @@ static void finds_path(void)
     ends(&path);
 }
 
-/* Whether that text lies there: it is that part of the path of such a profile. */
-static void tries_text(const char *field, size_t at, uint32_t which, size_t part)
+enum { A_PATH = PART_OF_PATH * LENT, NAME = A_PATH, NEXT_DIR = 2 * A_PATH, STEP = 136, TELLING = 140, ERRNUM = 144, LOOKS = 148, HAS_PATH = 149, NEXT = 152 };
+enum { WHICH = 0, FAILS = 4, DIR = 8, IS_THERE = 16, IS_LENIENT = 17, HAS_KEPT = 18, LISTS = 19, PROFILE_LOOK = 24 };
+enum { MANDATORY = 8, IN_RUNTIME = 10, SYSTEM = 11, IN_DATA = 12, BEGINS = 7 };
+
+/* Whether that text lies there: it is that part of the path of the profile that is listed after such a one. */
+static void tries_text(const char *field, size_t at, uint32_t which, bool is_dconfs, size_t part)
 {
-    _Alignas(16) uint8_t place[A_PLACE], path[PART_OF_PATH * LENT];
+    _Alignas(16) uint8_t place[A_PLACE], look[PROFILE_LOOK] = {0}, next[NEXT];
     const char *const text = "/a text";
     begins_place(place);
     lends(place + at, text, strlen(text));
-    bool is = dconfdb_profile_path(place, which, 0, path);
-    is_so(is && is_lent(path + part * LENT, text, strlen(text)), "DconfdbPlace");
+    place[IS_DCONFS] = is_dconfs;
+    look[WHICH] = (uint8_t)which;
+    look[LISTS] = 1;
+    dconfdb_profile_step(place, look, next);
+    is_so(next[HAS_PATH] == 1 && is_lent(next + part * LENT, text, strlen(text)), "DconfdbPlace");
     lies("DconfdbPlace", field, at, LENT);
 }
 
@@ -74,12 +80,12 @@ static void tries_flags(void)
 
 static void tries_place(void)
 {
-    tries_text("folder", FOLDER, 1, 2);
-    tries_text("named", NAMED, 0, 3);
-    tries_text("profile", DCONFS, 9, 3);
-    tries_text("runtime", SESSION, 10, 1);
-    tries_text("data_dirs", DATA, 12, 1);
-    tries_text("user", USER, 8, 3);
+    tries_text("folder", FOLDER, BEGINS, false, 2);
+    tries_text("named", NAMED, BEGINS, false, 3);
+    tries_text("profile", DCONFS, MANDATORY, true, 3);
+    tries_text("runtime", SESSION, MANDATORY, true, 1);
+    tries_text("data_dirs", DATA, SYSTEM, true, 1);
+    tries_text("user", USER, BEGINS, true, 3);
     tries_flags();
     printf("TAKES(DconfdbPlace, %d);\n", A_PLACE);
 }
@@ -114,11 +120,11 @@ static void tries_variable(uint8_t *said, const char *field, size_t at, uint32_t
 /* What the machine's file says. */
 static void tries_machine(uint8_t *said)
 {
-    bool are = dconfdb_place_kind(said, 0) == 0;
+    bool are = dconfdb_place_kind(said, 0, 2) == 0;
     lends(said + MACHINE, "dconf\n", 6);
-    are = are && dconfdb_place_kind(said, 0) == 1;
+    are = are && dconfdb_place_kind(said, 0, 2) == 1;
     said[IS_UNREADABLE] = 1;
-    is_so(are && dconfdb_place_kind(said, 0) == 2, "DconfdbEnvironment");
+    is_so(are && dconfdb_place_kind(said, 0, 2) == 2, "DconfdbEnvironment");
     said[IS_UNREADABLE] = 0;
     lies("DconfdbEnvironment", "machine", MACHINE, LENT);
     lies("DconfdbEnvironment", "is_unreadable", IS_UNREADABLE, FLAG);
@@ -146,48 +152,86 @@ static void tries_environment(void)
 
 /* ---- a look at a profile, of which each field in turn changes what is told */
 
-enum { DIR = 8, FAILS = 16, IS_OWN = 17, IS_THERE = 18, IS_LENIENT = 19, HAS_KEPT = 20, PROFILE_LOOK = 24, IN_DATA = 12 };
-
 static bool leads(const uint8_t *place, const uint8_t *look, uint32_t step, size_t dir, uint32_t telling)
 {
-    uint32_t told = UNTOUCHED;
-    size_t next = UNTOUCHED;
-    return dconfdb_profile_step(place, look, &next, &told) == step && next == dir && told == telling;
+    _Alignas(16) uint8_t next[NEXT];
+    dconfdb_profile_step(place, look, next);
+    return memcmp(next + STEP, &step, NUMBER) == 0 && memcmp(next + NEXT_DIR, &dir, WORD) == 0 && memcmp(next + TELLING, &telling, NUMBER) == 0;
 }
 
 /* That of the second of three folders. */
 static void tries_dir(uint8_t *place, uint8_t *look)
 {
     lends(place + DATA, "/a:/b:/c", 8);
-    look[0] = IN_DATA;
+    look[WHICH] = IN_DATA;
     look[DIR] = 1;
     is_so(leads(place, look, IN_DATA, 2, 0), "DconfdbProfileLook");
     lies("DconfdbProfileLook", "dir", DIR, WORD);
 }
 
+/* By EIO, which is no fault of the file's own, and by EACCES. */
 static void tries_profile_look(void)
 {
+    enum { NO_RIGHTS = 13, NO_DISK = 5 };
     _Alignas(16) uint8_t place[A_PLACE], look[PROFILE_LOOK] = {1}, missing[PROFILE_LOOK] = {0};
     begins_place(place);
     bool are = leads(place, look, 2, 0, 0);
     look[IS_THERE] = 1;
     are = are && leads(place, look, 4, 0, 0);
-    look[FAILS] = 1;
+    look[LISTS] = 1;
+    are = are && leads(place, look, 2, 0, 0);
+    look[LISTS] = 0;
+    look[FAILS] = NO_DISK;
     are = are && leads(place, look, 6, 0, 1);
     look[IS_LENIENT] = 1;
     are = are && leads(place, look, 6, 0, 1);
-    look[IS_OWN] = 1;
+    look[FAILS] = NO_RIGHTS;
     are = are && leads(place, look, 2, 0, 2);
     look[HAS_KEPT] = 1;
     is_so(are && leads(place, look, 2, 0, 0), "DconfdbProfileLook");
-    lies("DconfdbProfileLook", "which", 0, NUMBER);
-    lies("DconfdbProfileLook", "fails", FAILS, FLAG);
-    lies("DconfdbProfileLook", "is_own", IS_OWN, FLAG);
+    lies("DconfdbProfileLook", "which", WHICH, NUMBER);
+    lies("DconfdbProfileLook", "errnum", FAILS, NUMBER);
     lies("DconfdbProfileLook", "is_there", IS_THERE, FLAG);
     lies("DconfdbProfileLook", "is_lenient", IS_LENIENT, FLAG);
     lies("DconfdbProfileLook", "has_kept", HAS_KEPT, FLAG);
+    lies("DconfdbProfileLook", "lists", LISTS, FLAG);
     tries_dir(place, missing);
     printf("TAKES(DconfdbProfileLook, %d);\n", PROFILE_LOOK);
+}
+
+/* The session's that may not be read: the machine's comes; and one in a third folder, and none. */
+static void finds_profile_next(void)
+{
+    _Alignas(16) uint8_t place[A_PLACE], look[PROFILE_LOOK] = {IN_RUNTIME, 0, 0, 0, 13}, listed[PROFILE_LOOK] = {MANDATORY};
+    Written next = room_of("DconfdbProfileNext"), other = next, last = next;
+    const uint32_t third = 2;
+    begins_place(place);
+    lends(place + SESSION, "/session", 8);
+    place[IS_DCONFS] = 1;
+    look[IS_LENIENT] = 1;
+    dconfdb_profile_step(place, look, next.bytes);
+    is_so(is_lent(next.bytes + LENT, "/etc/dconf/profile/", 19) && is_lent(next.bytes + NAME + LENT, "/session", 8), "DconfdbProfileNext");
+    takes(&next, "path", 0, A_PATH);
+    takes(&next, "name", NAME, A_PATH);
+    takes(&next, "step", place_of(&next, NEXT_DIR, NEXT, &(uint32_t){SYSTEM}, NUMBER), NUMBER);
+    takes(&next, "telling", place_of(&next, NEXT_DIR, NEXT, &third, NUMBER), NUMBER);
+    takes(&next, "errnum", place_of(&next, NEXT_DIR, NEXT, &(uint32_t){13}, NUMBER), NUMBER);
+    lends(place + SESSION, "", 0);
+    listed[LISTS] = 1;
+    dconfdb_profile_step(place, listed, other.bytes);
+    listed[WHICH] = IN_DATA;
+    listed[DIR] = 1;
+    lends(place + DATA, "/a:/b:/c", 8);
+    dconfdb_profile_step(place, listed, last.bytes);
+    takes(&next, "dir", place_of(&last, NEXT_DIR, NEXT, &(size_t){third}, WORD), WORD);
+    is_so(next.bytes[HAS_PATH] == 1 && other.bytes[HAS_PATH] == 0 && other.bytes[LOOKS] == 1, "DconfdbProfileNext");
+    takes(&next, "has_path", HAS_PATH, FLAG);
+    listed[DIR] = 2;
+    dconfdb_profile_step(place, listed, last.bytes);
+    is_so(next.bytes[LOOKS] == 1 && last.bytes[LOOKS] == 0, "DconfdbProfileNext");
+    takes(&next, "looks", LOOKS, FLAG);
+    next.widest = WORD;
+    is_so(ends(&next) == NEXT, "DconfdbProfileNext");
 }
 
 void finds_places(void)
@@ -196,4 +240,5 @@ void finds_places(void)
     tries_place();
     tries_environment();
     tries_profile_look();
+    finds_profile_next();
 }

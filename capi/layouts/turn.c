@@ -8,7 +8,8 @@ void dconfdb_turn_begin(void *turn, void *step);
 void dconfdb_turn_answered(void *turn, uint32_t fault, size_t n, void *step);
 void dconfdb_refresh_begin(void *refresh, size_t count, bool has_old, bool in_turn, bool is_lenient, void *step);
 uint32_t dconfdb_same_file(const void *old, const void *now, uint64_t opened, bool is_held);
-uint32_t dconfdb_owner_and_bits(const void *old, const void *above, bool is_root, bool keeps, void *given);
+uint32_t dconfdb_owner_and_bits(const void *old, const void *above, bool is_root, bool is_bad, void *given);
+uint32_t dconfdb_fault_answer(uint32_t call, uint32_t fault, void *renamed);
 uint32_t dconfdb_handing_after(uint32_t what, uint32_t done, uint32_t fault, const void *file, uint32_t *number);
 uint32_t dconfdb_standing(uint32_t purpose, const void *stood, uint32_t *fault);
 void dconfdb_refresh_answered(void *refresh, bool yes, uint32_t fault, void *step);
@@ -209,7 +210,8 @@ static void finds_owner(void)
     is_so(dconfdb_owner_and_bits(old, above, true, false, given.bytes) == 0, "DconfdbOldFile");
     is_so(memcmp(given.bytes, numbers, sizeof numbers) == 0, "DconfdbOldFile");
     old[OLD_IS_LINK] = 1;
-    is_so(dconfdb_owner_and_bits(old, above, true, true, given.bytes) == 13, "DconfdbOldFile");
+    is_so(dconfdb_owner_and_bits(old, above, true, true, given.bytes) == 13 && dconfdb_owner_and_bits(old, above, true, false, given.bytes) == 40,
+          "DconfdbOldFile");
     lies("DconfdbOldFile", "user", OLD_USER, NUMBER);
     lies("DconfdbOldFile", "group", OLD_GROUP, NUMBER);
     lies("DconfdbOldFile", "bits", OLD_BITS, NUMBER);
@@ -339,6 +341,31 @@ static void finds_stood(void)
     printf("TAKES(DconfdbStood, %d);\n", STOOD);
 }
 
+/* ---- a name that is given to another file: what has it can have none (EPERM), and of a fault of the disk (EIO) nobody knows which it is */
+
+enum { RENAMED_FAULT = 0, RENAMED_IS_NAMELESS = 4, RENAMED_IS_ASIDE = 5, RENAMED_GOES = 6, RENAMED = 8 };
+enum { SETS_ASIDE = 2, PLACES = 3 };
+
+static bool is_renamed(uint32_t call, uint32_t errnum, uint32_t fault, bool is_nameless, bool is_aside, bool goes)
+{
+    Written it = room_of("DconfdbRenamed");
+    dconfdb_fault_answer(call, errnum, it.bytes);
+    return memcmp(it.bytes + RENAMED_FAULT, &fault, NUMBER) == 0 && it.bytes[RENAMED_IS_NAMELESS] == is_nameless && it.bytes[RENAMED_IS_ASIDE] == is_aside
+        && it.bytes[RENAMED_GOES] == goes && it.bytes[RENAMED] == UNTOUCHED;
+}
+
+static void finds_renamed(void)
+{
+    is_so(is_renamed(SETS_ASIDE, 1, 0, true, false, false) && is_renamed(SETS_ASIDE, 0, 0, false, true, false) && is_renamed(PLACES, 95, 95, false, false, true)
+              && is_renamed(PLACES, 5, 5, false, false, false),
+          "DconfdbRenamed");
+    lies("DconfdbRenamed", "fault", RENAMED_FAULT, NUMBER);
+    lies("DconfdbRenamed", "is_nameless", RENAMED_IS_NAMELESS, FLAG);
+    lies("DconfdbRenamed", "is_aside", RENAMED_IS_ASIDE, FLAG);
+    lies("DconfdbRenamed", "goes", RENAMED_GOES, FLAG);
+    printf("TAKES(DconfdbRenamed, %d);\n", RENAMED);
+}
+
 void finds_turns(void)
 {
     finds_turn();
@@ -348,6 +375,7 @@ void finds_turns(void)
     tries_part();
     tries_left();
     finds_owner();
+    finds_renamed();
     finds_made();
     finds_stood();
 }

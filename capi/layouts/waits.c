@@ -8,7 +8,7 @@ uint32_t dconfdb_entry(const void *edits, size_t count, bool *is_there);
 uint32_t dconfdb_found(bool of_user, bool of_default, const void *known, bool *is_odd);
 uint32_t dconfdb_round_after(uint32_t task, const void *known);
 uint32_t dconfdb_glance_after(uint32_t task, const void *known);
-uint32_t dconfdb_sync_after(uint32_t task, bool yes, const void *known);
+uint32_t dconfdb_writer_after(uint32_t what, uint32_t task, bool yes, const void *known);
 size_t dconfdb_waiting_line(void *line, size_t count, bool is_written, void *tally);
 bool dconfdb_patience_goes_on(void *patience, const void *progress, const void *changed, uint64_t now);
 void dconfdb_queue_answered(void *queue, void *edits, size_t count, uint32_t answer, size_t at, void *step);
@@ -19,7 +19,8 @@ void dconfdb_taking_answered(void *taking, const void *stood);
 uint32_t dconfdb_notice_told(void *notice, uint32_t what, uint32_t event, bool listens, uint64_t now);
 uint64_t dconfdb_notice_answered(void *notice, bool yes, uint64_t now);
 void dconfdb_watched_name(bool minds, const uint8_t *folder, size_t folder_len, const uint8_t *name, size_t name_len, bool is_last, uint32_t mode,
-                          uint64_t links, uint32_t role, void *watched);
+                          uint64_t links, uint64_t followed, bool is_profile, void *watched);
+uint32_t dconfdb_watch_round(void *rounds, uint32_t what, bool is_known, bool is_had, bool is_needed);
 
 /* The first has an end, the second hasn't. */
 static void finds_wait(void)
@@ -188,13 +189,64 @@ static void finds_round(void)
 }
 
 enum { SYNC_HAS_WRITER = 0, SYNC_HAS_FAILED = 1, SYNC_HAS_STORE = 2, SYNC_HAS_LOOKED = 3, SYNC_IS_TO_SETTLE = 4, SYNC = 5 };
+enum { WRITER_SETTLED = 0, WRITER_ADDED = 8, WRITER_BEGUN_IN = 16, WRITER_PROCESS = 20, WRITER_SYNC = 24, WRITER_HAS_STORE = 29, WRITER_HAS_ENDED = 30,
+       WRITER_HAS_THREAD = 31, WRITER_HAS_WAKE = 32, WRITER_HAS_LINE = 33, WRITER_IS_WANTED = 34, WRITER_IS_NEWS = 35, WRITER_IS_OWED = 36,
+       WRITER_EXITS = 37, WRITER_IS_THREAD = 38, WRITER_IS_LET_GO = 39, WRITER_END = 40 };
+
+/* Which call is asked, and what is answered to it. */
+typedef struct {
+    uint32_t what, task;
+    bool yes;
+} AskedOf;
+
+/* What comes next, by the numbers and the flags of what is known of who writes: `flags` from those of a sync on. */
+static uint32_t written_by(AskedOf asked, uint64_t settled, uint64_t added, uint32_t process, unsigned flags)
+{
+    _Alignas(16) uint8_t known[WRITER_END] = {0};
+    memcpy(known + WRITER_SETTLED, &settled, sizeof settled);
+    memcpy(known + WRITER_ADDED, &added, sizeof added);
+    memcpy(known + WRITER_PROCESS, &process, sizeof process);
+    for (int i = 0; i < WRITER_END - WRITER_SYNC; i++)
+        known[WRITER_SYNC + i] = flags >> i & 1;
+    return dconfdb_writer_after(asked.what, asked.task, asked.yes, known);
+}
 
 static bool is_due(uint32_t task, unsigned fields, uint32_t next)
 {
-    uint8_t known[SYNC];
-    for (int i = 0; i < SYNC; i++)
-        known[i] = fields >> i & 1;
-    return dconfdb_sync_after(task, true, known) == next;
+    return written_by((AskedOf){3, task, true}, 0, 0, 0, fields) == next;
+}
+
+/* At first nothing is to be done; each flag changes that, or what else is so. */
+static void finds_writer(void)
+{
+    enum { A_STORE = 32, ENDED = 64, THREAD = 128, WAKE = 256, LINE = 512, WANTED = 1024, NEWS = 2048, OWED = 4096, EXITS = 8192, ITSELF = 16384,
+           GONE = 32768 };
+    const AskedOf need = {0, 0, true}, line = {1, 0, true}, end = {2, 0, true}, marked = {2, 1, true}, counted = {2, 8, true}, waited = {3, 3, true};
+    is_so(written_by(need, 0, 0, 0, 0) == 5 && written_by(need, 0, 0, 0, WANTED | A_STORE) == 1, "DconfdbWriter");
+    is_so(written_by(need, 0, 0, 0, WANTED | A_STORE | WAKE) == 2 && written_by(need, 0, 0, 1, WANTED | A_STORE | WAKE) == 5, "DconfdbWriter");
+    is_so(written_by(need, 0, 0, 0, WANTED | A_STORE | WAKE | ENDED) == 5 && written_by(need, 0, 0, 0, THREAD | NEWS) == 3, "DconfdbWriter");
+    is_so(written_by(need, 0, 0, 0, OWED) == 4 && written_by(line, 0, 0, 0, LINE) == 3 && written_by(line, 0, 0, 0, 0) == 1, "DconfdbWriter");
+    is_so(written_by(end, 0, 0, 0, EXITS) == 1 && written_by(end, 0, 0, 1, EXITS) == 11 && written_by(end, 0, 0, 1, 0) == 1, "DconfdbWriter");
+    is_so(written_by(marked, 0, 0, 0, EXITS | THREAD) == 3 && written_by(marked, 0, 0, 0, EXITS | THREAD | ITSELF) == 2, "DconfdbWriter");
+    is_so(written_by(marked, 0, 0, 0, EXITS | THREAD | GONE) == 4 && written_by(marked, 0, 0, 0, THREAD) == 5, "DconfdbWriter");
+    is_so(written_by(counted, 4, 5, 0, 0) == 9 && written_by(counted, 5, 5, 0, 0) == 11 && written_by(waited, 4, 5, 0, 0) == 8, "DconfdbWriter");
+    lies("DconfdbWriter", "settled", WRITER_SETTLED, WORD);
+    lies("DconfdbWriter", "added", WRITER_ADDED, WORD);
+    lies("DconfdbWriter", "begun_in", WRITER_BEGUN_IN, NUMBER);
+    lies("DconfdbWriter", "process", WRITER_PROCESS, NUMBER);
+    lies("DconfdbWriter", "sync", WRITER_SYNC, SYNC);
+    lies("DconfdbWriter", "has_store", WRITER_HAS_STORE, FLAG);
+    lies("DconfdbWriter", "has_ended", WRITER_HAS_ENDED, FLAG);
+    lies("DconfdbWriter", "has_thread", WRITER_HAS_THREAD, FLAG);
+    lies("DconfdbWriter", "has_wake", WRITER_HAS_WAKE, FLAG);
+    lies("DconfdbWriter", "has_line", WRITER_HAS_LINE, FLAG);
+    lies("DconfdbWriter", "is_wanted", WRITER_IS_WANTED, FLAG);
+    lies("DconfdbWriter", "is_news", WRITER_IS_NEWS, FLAG);
+    lies("DconfdbWriter", "is_owed", WRITER_IS_OWED, FLAG);
+    lies("DconfdbWriter", "exits", WRITER_EXITS, FLAG);
+    lies("DconfdbWriter", "is_thread", WRITER_IS_THREAD, FLAG);
+    lies("DconfdbWriter", "is_let_go", WRITER_IS_LET_GO, FLAG);
+    printf("TAKES(DconfdbWriter, %d);\n", WRITER_END);
 }
 
 static void finds_sync(void)
@@ -348,8 +400,8 @@ static void finds_notice(void)
 static void finds_watched_name(void)
 {
     Written name = room_of("DconfdbWatchedName"), other = name;
-    dconfdb_watched_name(true, (const uint8_t *)"/a", 2, (const uint8_t *)"b", 1, false, 0, 0, 0, name.bytes);
-    dconfdb_watched_name(true, (const uint8_t *)"/a", 2, (const uint8_t *)".", 1, false, 0, 0, 0, other.bytes);
+    dconfdb_watched_name(true, (const uint8_t *)"/a", 2, (const uint8_t *)"b", 1, false, 0, 0, 0, false, name.bytes);
+    dconfdb_watched_name(true, (const uint8_t *)"/a", 2, (const uint8_t *)".", 1, false, 0, 0, 0, false, other.bytes);
     takes(&name, "is_needed", flag_of(&name, &other), FLAG);
     finds_number(&name, "watch", 2);
     finds_number(&name, "asked", 0x3c0);
@@ -358,7 +410,30 @@ static void finds_watched_name(void)
     is_so(ends(&name) == WATCHED_NAME, "DconfdbWatchedName");
 }
 
+/* So many rounds, the last of which missed something, or found something new. */
+enum { ROUNDS = 7, WATCH_ROUNDS = 8 };
+
+static Written rounds_after(bool is_had)
+{
+    Written rounds = room_of("DconfdbWatchRounds");
+    memset(rounds.bytes, 0, WATCH_ROUNDS);
+    for (int i = 0; i < ROUNDS; i++)
+        dconfdb_watch_round(rounds.bytes, 0, false, false, false);
+    dconfdb_watch_round(rounds.bytes, 1, false, is_had, true);
+    return rounds;
+}
+
+static void finds_rounds(void)
+{
+    Written missed = rounds_after(false), more = rounds_after(true);
+    takes(&missed, "missed", flag_of(&missed, &more), FLAG);
+    takes(&missed, "more", flag_of(&more, &missed), FLAG);
+    finds_number(&missed, "count", ROUNDS);
+    is_so(ends(&missed) == WATCH_ROUNDS, "DconfdbWatchRounds");
+}
+
 /* Edits are read and written: a set, and a reset that is of the same change. */
+enum { TAKEN_AND_CLOSED = 24 }; /* of a queue */
 enum { OF_CHANGE = 0, EDIT_SETS = 8, IS_LEFT_OUT = 9, IS_REFUSED = 10, EDIT = 16, EDITS = 6 };
 
 static void makes_edit(uint8_t *edit, size_t change, bool sets)
@@ -368,11 +443,48 @@ static void makes_edit(uint8_t *edit, size_t change, bool sets)
     edit[EDIT_SETS] = sets;
 }
 
-/* What comes next is left aside. */
+/* The step is as that of another machine, and says whether the fault is kept, and whether what is kept is told. */
+enum { STEP_KIND = 0, STEP_NUMBER = 8, STEP_KEEPS = 16, STEP_TELLS = 17, QUEUE_STEP = 24 };
+
+static Written answered(uint8_t *queue, uint8_t *edits, uint32_t answer)
+{
+    Written step = room_of("DconfdbQueueStep");
+    dconfdb_queue_answered(queue, edits, EDITS, answer, 0, step.bytes);
+    return step;
+}
+
 static void answers(uint8_t *queue, uint8_t *edits, uint32_t answer)
 {
-    Written step = room_of("DconfdbNext");
-    dconfdb_queue_answered(queue, edits, EDITS, answer, 0, step.bytes);
+    (void)answered(queue, edits, answer);
+}
+
+static bool is_step(const Written *step, uint32_t kind, size_t number, bool keeps, bool tells)
+{
+    return memcmp(step->bytes + STEP_KIND, &kind, NUMBER) == 0 && (kind > 3 || memcmp(step->bytes + STEP_NUMBER, &number, WORD) == 0)
+        && step->bytes[STEP_KEEPS] == keeps && step->bytes[STEP_TELLS] == tells && step->bytes[QUEUE_STEP] == UNTOUCHED;
+}
+
+/* All are taken, and nobody may write there; then the first one, a reset, is left out, and so are the others: there is nothing to be written. */
+static void finds_queue_step(void)
+{
+    _Alignas(16) uint8_t edits[EDITS * EDIT];
+    Written queue = room_of("DconfdbQueue"), step = room_of("DconfdbQueueStep");
+    for (size_t i = 0; i < EDITS; i++)
+        makes_edit(edits + i * EDIT, i, false);
+    step = answered(queue.bytes, edits, 7);
+    is_so(is_step(&step, 0, 0, false, false), "DconfdbQueueStep");
+    for (size_t i = 0; i < EDITS; i++)
+        step = answered(queue.bytes, edits, 0);
+    step = answered(queue.bytes, edits, 4);
+    is_so(is_step(&step, 3, 0, true, false), "DconfdbQueueStep");
+    for (size_t i = 0; i < 2 * EDITS; i++)
+        step = answered(queue.bytes, edits, 1);
+    is_so(is_step(&step, 4, 0, false, true), "DconfdbQueueStep");
+    lies("DconfdbQueueStep", "kind", STEP_KIND, NUMBER);
+    lies("DconfdbQueueStep", "number", STEP_NUMBER, WORD);
+    lies("DconfdbQueueStep", "keeps_fault", STEP_KEEPS, FLAG);
+    lies("DconfdbQueueStep", "tells", STEP_TELLS, FLAG);
+    printf("TAKES(DconfdbQueueStep, %d);\n", QUEUE_STEP);
 }
 
 /* A queue whose edits were all taken, and which found a key locked; then so many keys were asked about. */
@@ -413,9 +525,19 @@ static void finds_queue(void)
     asks(queue.bytes, edits, 5);
     asks(marked.bytes, edits, 3);
     answers(marked.bytes, edits, 1);
-    finds_first(&queue, "stage", 1);
-    finds_word(&queue, "at", 5);
-    takes(&queue, "has_marked", bit_of(&queue, &marked, queue.end, queue.end + 1, 0, 1), FLAG);
+    finds_first(&queue, "queue.stage", 1);
+    finds_word(&queue, "queue.at", 5);
+    takes(&queue, "queue.has_marked", bit_of(&queue, &marked, queue.end, queue.end + 1, 0, 1), FLAG);
+    /* What was taken, and that nobody may write there. */
+    asks(queue.bytes, edits, 0);
+    memcpy(marked.bytes, queue.bytes, ROOM);
+    answers(queue.bytes, edits, 7);
+    for (int i = 0; i < EDITS; i++)
+        answers(queue.bytes, edits, 0);
+    takes(&queue, "has_taken", bit_of(&queue, &marked, TAKEN_AND_CLOSED, TAKEN_AND_CLOSED + 1, 1, 0), FLAG);
+    memcpy(marked.bytes, queue.bytes, ROOM);
+    answers(queue.bytes, edits, 4);
+    takes(&queue, "is_closed", bit_of(&queue, &marked, TAKEN_AND_CLOSED + 1, TAKEN_AND_CLOSED + 2, 1, 0), FLAG);
     ends(&queue);
 }
 
@@ -427,10 +549,13 @@ void finds_waits(void)
     finds_known();
     finds_round();
     finds_sync();
+    finds_writer();
     finds_glance();
     finds_patience();
     finds_waiter();
     finds_notice();
     finds_watched_name();
+    finds_rounds();
     finds_queue();
+    finds_queue_step();
 }

@@ -3,6 +3,7 @@
 
 #include "dconfdb_calls.h"
 #include "seen.h"
+#include "snapshot.h"
 
 #include <stdlib.h>
 #include <string.h>
@@ -80,21 +81,20 @@ gchar **dconf_client_list(DConfClient *client, const gchar *dir, gint *length)
     return array_of(names, length);
 }
 
+static uint32_t lists_closed(const DconfdbSnapshot *now, const void *dir, uint8_t *room, size_t room_len, size_t *len)
+{
+    return dconfdb_list(now->layers, now->count, now->is_writable, dir, strlen(dir), DCONFDB_LIST_CLOSED, room, room_len, len);
+}
+
+/* Where no store can be opened, nobody may write. */
 gchar **dconf_client_list_locks(DConfClient *client, const gchar *dir, gint *length)
 {
     g_return_val_if_fail (DCONF_IS_CLIENT (client), NULL);
     g_return_val_if_fail (dconf_is_dir (dir, NULL), NULL);
-    DconfdbSnapshot *now = engine_current(client->engine);
-    char *locks = now ? dconfdb_snapshot_locks(now, dir, NULL, NULL) : NULL;
+    DconfdbSnapshot *current = engine_current(client->engine), *now = current ? current : snapshot_new(0, false);
+    char *locks = now ? snapshot_listed(lists_closed, now, dir, dir, NULL, NULL) : NULL;
     dconfdb_snapshot_unref(now);
-    /* Where not even its reset may be made, the directory is locked as a whole. */
-    if (dconfdb_may_be_made((const uint8_t *)dir, strlen(dir), false, engine_has_user(client->engine), false))
-        return array_of(locks, length);
-    const gchar *all[] = {dir, NULL};
-    free(locks);
-    if (length)
-        *length = 1;
-    return g_strdupv((gchar **)all);
+    return array_of(locks, length);
 }
 
 gboolean dconf_client_is_writable(DConfClient *client, const gchar *key)

@@ -6,59 +6,102 @@
 
 #include <string.h>
 
-/* Gives the pause before it is tried again; 0: it is written. */
-static guint64 flush(Engine *self, gboolean tries_again, DconfdbError *fault)
+/* In microseconds. */
+enum { MILLISECOND = 1000 };
+
+/* Gives whether what waited is written. `again`: when it is tried again. */
+static bool flush(Engine *self, gboolean tries_again, DconfdbError *fault, uint64_t *again)
 {
     g_mutex_lock(&self->turn);
-    guint64 pause = write_waiting(self, tries_again, fault) ? 0 : self->failing.pause;
+    bool is_written = write_waiting(self, tries_again, fault);
+    *again = self->failing.again;
     g_mutex_unlock(&self->turn);
-    return pause;
+    return is_written;
 }
 
-static gboolean ends(Engine *self)
+static void carry_out(Engine *self, uint32_t task, DconfdbRound *known)
+{
+    DconfdbError fault = DCONFDB_ERROR_INIT;
+    switch (task) {
+    case DCONFDB_ROUND_TAKE: /* who writes does */
+        known->has_asked = true;
+        break;
+    case DCONFDB_ROUND_WRITE:
+        flush(self, TRUE, &fault, &known->again);
+        break;
+    default: /* DCONFDB_ROUND_LEAVE */
+        known->again = 0;
+    }
+}
+
+/* The task that is due after that one. Whoever lets something wait later begins a thread once this one is over. */
+static uint32_t after(Engine *self, uint32_t task, DconfdbRound *known)
 {
     g_mutex_lock(&self->lock);
-    gboolean is_idle = !self->waiting;
-    self->has_thread = !is_idle;
+    known->waits = self->waiting != NULL;
+    uint32_t next = dconfdb_round_after(task, known);
+    self->has_thread = next != DCONFDB_ROUND_ENDS;
     g_mutex_unlock(&self->lock);
-    return is_idle;
+    return next;
 }
 
+/* Does what is due, as the proved call says. False: nothing waits. */
+static bool takes_turn(Engine *self, DconfdbRound *known)
+{
+    uint32_t task = DCONFDB_ROUND_BEGINS;
+    known->moment = (uint64_t)g_get_monotonic_time();
+    known->has_asked = false;
+    while ((task = after(self, task, known)) < DCONFDB_ROUND_RESTS)
+        carry_out(self, task, known);
+    return task == DCONFDB_ROUND_RESTS;
+}
+
+static void rest(const DconfdbRound *known)
+{
+    uint64_t wait = 0;
+    dconfdb_sleep_until(known->again, 0, (uint64_t)g_get_monotonic_time(), &wait);
+    g_usleep((gulong)wait * MILLISECOND);
+}
+
+/* It ends once nothing waits; till then nothing is given up. */
 static void *write_behind(void *data)
 {
     Engine *self = data;
-    DconfdbError fault = DCONFDB_ERROR_INIT;
-    guint64 pause = 0;
+    DconfdbRound known = {.last_try = UINT64_MAX, .ends = true, .is_watched = true};
     pthread_setname_np(pthread_self(), "dconf");
-    do {
-        pause = flush(self, TRUE, &fault);
-        if (pause > 0)
-            g_usleep(pause);
-    } while (!ends(self));
+    while (takes_turn(self, &known))
+        rest(&known);
     engine_unref(self);
     return NULL;
 }
 
-/* A thread writes what waits, or this one, where none can be had. */
-static void begin_thread(Engine *self)
+/* `lock` is held. */
+static bool begin_thread(Engine *self)
 {
     pthread_t thread;
-    DconfdbError fault = DCONFDB_ERROR_INIT;
-    g_mutex_lock(&self->lock);
-    gboolean is_new = !self->has_thread;
-    self->has_thread = TRUE;
-    g_mutex_unlock(&self->lock);
-    if (!is_new)
-        return;
-    if (thread_begin(&thread, write_behind, engine_ref(self))) {
-        pthread_detach(thread);
-        return;
+    if (!thread_begin(&thread, write_behind, engine_ref(self))) {
+        engine_unref(self);
+        return false;
     }
-    flush(self, FALSE, &fault);
+    pthread_detach(thread);
+    return true;
+}
+
+/* A thread writes what waits, or this one, where none can be had. */
+static void have_written(Engine *self)
+{
+    DconfdbError fault = DCONFDB_ERROR_INIT;
+    uint32_t task = DCONFDB_WRITER_BEGINS;
+    uint64_t again;
     g_mutex_lock(&self->lock);
-    self->has_thread = FALSE;
+    DconfdbWriter known = {.has_store = true, .has_wake = true, .is_wanted = true, .is_owed = true, .has_thread = self->has_thread};
+    while ((task = dconfdb_writer_after(DCONFDB_WRITER_NEED, task, true, &known)) < DCONFDB_NEED_TOLD) {
+        self->has_thread = begin_thread(self);
+        known.has_thread = self->has_thread;
+    }
     g_mutex_unlock(&self->lock);
-    engine_unref(self);
+    if (task == DCONFDB_NEED_HERE)
+        flush(self, FALSE, &fault, &again);
 }
 
 static gboolean is_no_value_below(const gchar *path, GVariant *value, gpointer directory)
@@ -133,11 +176,11 @@ static gboolean take(Engine *self, const DconfdbSnapshot *now, const Edits *edit
     case DCONFDB_ENTRY_EMPTY:
         return TRUE;
     case DCONFDB_ENTRY_WAITS:
-        begin_thread(self);
+        have_written(self);
         notice_changed(self, changes, NULL, TRUE);
         return TRUE;
     default:
-        begin_thread(self);
+        have_written(self);
         return TRUE;
     }
 }
@@ -156,12 +199,12 @@ gboolean engine_change_fast(Engine *self, DConfChangeset *changes, GError **erro
 void engine_sync(Engine *self)
 {
     DconfdbError fault = DCONFDB_ERROR_INIT;
-    const DconfdbSync known = {.has_looked = true};
-    uint32_t task = DCONFDB_SYNC_BEGINS;
-    bool is_written = true;
-    while ((task = dconfdb_sync_after(task, is_written, &known)) < DCONFDB_SYNC_YES) {
+    DconfdbWriter known = {.added = 1, .sync.has_looked = true};
+    uint32_t task = DCONFDB_WRITER_BEGINS;
+    uint64_t again;
+    while ((task = dconfdb_writer_after(DCONFDB_WRITER_SYNC, task, true, &known)) < DCONFDB_SYNC_YES) {
         if (task == DCONFDB_SYNC_WRITE)
-            is_written = flush(self, FALSE, &fault) == 0;
+            known.settled = flush(self, FALSE, &fault, &again);
     }
     if (task == DCONFDB_SYNC_NO)
         g_warning("what was changed is not on the disk yet, and goes on waiting: %s", fault.text);

@@ -26,16 +26,28 @@ static void catch_up(void)
         its->all();
 }
 
+/* What is told next, as the proved call has it. */
+static uint32_t next_list(DconfdbTelling *telling)
+{
+    telling->is_between = true;
+    telling->list = dconfdb_tell_next(telling);
+    telling->is_between = false;
+    return telling->list;
+}
+
 static gboolean emit(gpointer data)
 {
     const Notice *notice = data;
+    DconfdbTelling telling = {.is_other = true, .has_rights = notice->is_of_rights};
     DConfClient *client = g_weak_ref_get(&notice->engine->client);
     if (!notice->is_new)
         catch_up();
-    if (client && notice->is_of_rights)
-        g_signal_emit_by_name(client, "writability-changed", notice->path);
-    if (client)
-        g_signal_emit_by_name(client, "changed", notice->path, notice->changes, notice->tag);
+    while (client && next_list(&telling) != DCONFDB_TELL_OVER) {
+        if (telling.list == DCONFDB_TELL_RIGHTS)
+            g_signal_emit_by_name(client, "writability-changed", notice->path);
+        else
+            g_signal_emit_by_name(client, "changed", notice->path, notice->changes, notice->tag);
+    }
     g_clear_object(&client);
     return G_SOURCE_REMOVE;
 }
@@ -194,17 +206,29 @@ static void send_writable(Engine *self, DconfdbTelling *telling, const char *pat
     }
 }
 
+/* What others changed, and what is told of that. */
+typedef struct {
+    DconfdbSnapshot *before, *now;
+    DConfChangeset *own;
+} Others;
+
+static bool is_found(Told *told, uint32_t list, const Others *others)
+{
+    if (list == DCONFDB_TELL_RIGHTS)
+        return seen_relocked(told, others->before, others->now, NULL);
+    return changed_by_others(told, others->before, others->now, others->own);
+}
+
 /* Without a snapshot before, all that is there is told, and that it may be written. Without memory all is. */
-static void tell_differences(Engine *self, DconfdbTelling *telling, const DconfdbSnapshot *before, const DconfdbSnapshot *now,
-                             DConfChangeset *own)
+static void send_list(Engine *self, DconfdbTelling *telling, const Others *others)
 {
     Told told;
-    telling->is_found = seen_relocked(&told, before, now, NULL);
-    send_writable(self, telling, telling->is_found ? told.paths : "");
-    if (telling->is_found)
-        seen_free(&told);
-    telling->is_found = changed_by_others(&told, before, now, own);
-    send_changed(self, telling, telling->is_found ? told.paths : "");
+    telling->is_found = is_found(&told, telling->list, others);
+    const char *paths = telling->is_found ? told.paths : "";
+    if (telling->list == DCONFDB_TELL_RIGHTS)
+        send_writable(self, telling, paths);
+    else
+        send_changed(self, telling, paths);
     if (telling->is_found)
         seen_free(&told);
 }
@@ -212,14 +236,14 @@ static void tell_differences(Engine *self, DconfdbTelling *telling, const Dconfd
 void notice_others(Engine *self)
 {
     g_mutex_lock(&self->lock);
-    DconfdbSnapshot *before = self->told, *now = self->source && self->store ? dconfdb_store_snapshot(self->store) : NULL;
-    self->told = now ? dconfdb_snapshot_ref(now) : NULL;
-    DConfChangeset *own = self->writing ? dconf_changeset_ref(self->writing) : NULL;
+    Others others = {self->told, self->source && self->store ? dconfdb_store_snapshot(self->store) : NULL,
+                     self->writing ? dconf_changeset_ref(self->writing) : NULL};
+    self->told = others.now ? dconfdb_snapshot_ref(others.now) : NULL;
     g_mutex_unlock(&self->lock);
-    DconfdbTelling telling = {.is_other = now && before != now};
-    if (dconfdb_tell_next(&telling) != DCONFDB_TELL_NOTHING)
-        tell_differences(self, &telling, before, now, own);
-    g_clear_pointer(&own, dconf_changeset_unref);
-    dconfdb_snapshot_unref(before);
-    dconfdb_snapshot_unref(now);
+    DconfdbTelling telling = {.is_other = others.now && others.before != others.now, .has_rights = true};
+    while (next_list(&telling) != DCONFDB_TELL_OVER)
+        send_list(self, &telling, &others);
+    g_clear_pointer(&others.own, dconf_changeset_unref);
+    dconfdb_snapshot_unref(others.before);
+    dconfdb_snapshot_unref(others.now);
 }

@@ -7,34 +7,26 @@
 #include "held.h"
 #include "texts.h"
 
-#include <errno.h>
 #include <stdlib.h>
-
-/* What is at fault is the lock's file, if there is one. */
-static bool refuse_lock_file(const DconfdbStore *store, int fault, DconfdbError *error)
-{
-    FileState found;
-    char *lock = joined(store->place.folder, "/", LOCK_NAME);
-    if (!lock)
-        return refuse_memory(error);
-    bool is_there = file_look(lock, &found) == 0 && found.is_there;
-    if (fault == EINVAL)
-        refuse(error, DCONFDB_ERROR_FILE, fault, nowhere, "%s: it is no regular file, and can't be locked", lock);
-    else
-        refuse_file(error, fault, is_there ? lock : user_file_or_folder(store), nowhere);
-    free(lock);
-    return false;
-}
 
 bool refuse_lock(const DconfdbStore *store, int fault, DconfdbError *error)
 {
-    const char *name = user_file_or_folder(store);
-    int wait = store->options.longest_wait;
-    if (dconfdb_error_code(true, (uint32_t)fault) != DCONFDB_ERROR_BUSY)
-        return refuse_lock_file(store, fault, error);
-    if (wait == DCONFDB_USUAL_WAIT)
-        return refuse(error, DCONFDB_ERROR_BUSY, 0, nowhere, "%s: others have been changing it for ten seconds", name);
-    return refuse(error, DCONFDB_ERROR_BUSY, 0, nowhere, "%s: others have been changing it for %d ms", name, wait);
+    FileState found = {.is_there = false};
+    char *lock = joined(store->place.folder, "/", LOCK_NAME);
+    if (!lock)
+        return refuse_memory(error);
+    const char *const names[] = {
+        [DCONFDB_NAMES_IT] = store->user_file, [DCONFDB_NAMES_LOCK] = lock, [DCONFDB_NAMES_FOLDER] = store->place.folder};
+    const uint32_t looked = (uint32_t)file_look(lock, &found);
+    const DconfdbFaultMet met = {.of = DCONFDB_FAULT_OF_LOCK,
+                                 .number = (uint32_t)fault,
+                                 .wait = (uint32_t)store->options.longest_wait,
+                                 .looked = looked,
+                                 .is_there = found.is_there,
+                                 .has_user = store->user_file != NULL};
+    refuse_locking(error, &met, names);
+    free(lock);
+    return false;
 }
 
 static bool lock_and_change(DconfdbStore *store, Asking *asking, DconfdbError *error)

@@ -54,7 +54,6 @@ static DconfdbSnapshot *with_part(const DconfdbStore *store, Part *part, Dconfdb
     return newer;
 }
 
-/* A bad file is to be set aside. */
 int changing_read(Changing *it)
 {
     Edited *edited = it->edited;
@@ -63,7 +62,8 @@ int changing_read(Changing *it)
         return IS_TOLD;
     atomic_store(&edited->store->is_amid, true);
     it->old = edited->store->now->parts[0];
-    return replacing_look(&it->replacing, part_fault(it->old) != NULL, &it->old->state, &it->answer);
+    bool is_bad = part_fault(it->old) != NULL;
+    return replacing_look(&it->replacing, is_bad, &it->old->state, &it->answer);
 }
 
 static uint32_t found(bool is)
@@ -121,9 +121,12 @@ static uint32_t make(Changing *it, bool makes_file)
         [DCONFDB_MAKING_EXPECT] = expect,   [DCONFDB_MAKING_LEAVE_OUT] = leave_out, [DCONFDB_MAKING_BYTES] = make_bytes,
         [DCONFDB_MAKING_COMPARE] = compare, [DCONFDB_MAKING_OPEN] = open_new,
     };
-    uint32_t ask = DCONFDB_MAKING_EXPECT;
+    const Edited *edited = it->edited;
+    const DconfdbSnapshot *expected = edited->asking->expected;
+    bool is_unsettled = edited->store->known.is_unsettled, is_expected = expected && expected != edited->store->now;
+    uint32_t ask = dconfdb_making_after(makes_file, is_unsettled, is_expected, DCONFDB_MAKING_BEGINS, DCONFDB_FOUND_YES);
     while (ask < DCONFDB_MAKING_READY)
-        ask = dconfdb_making_after(makes_file, it->edited->store->known.is_unsettled, ask, answers[ask](it));
+        ask = dconfdb_making_after(makes_file, is_unsettled, is_expected, ask, answers[ask](it));
     file_release(&it->edited->file.bytes);
     return ask;
 }
@@ -151,18 +154,28 @@ static bool is_synced(const Changing *it, const Part *own)
     return task == DCONFDB_SETTLING_KNOWN;
 }
 
-/* What others are to know of it. Where it can't be told, nothing is, and what they changed is known still. */
+/* Makes the notes, or writes them. */
+static uint32_t note(const Changing *it, const DconfdbSnapshot *now, uint32_t ask)
+{
+    const Edited *edited = it->edited;
+    const Part *own = now->parts[0];
+    if (ask == DCONFDB_MAKING_NOTE)
+        return found(asking_note(edited->asking, now, it->order));
+    return found(order_write(it->order, edited->lock->file, edited->store->own_name, &own->state, is_synced(it, own)));
+}
+
+/* What others are to know of it. */
 int changing_note(Changing *it)
 {
     DconfdbStore *store = it->edited->store;
-    Asking *asking = it->edited->asking;
+    const Asking *asking = it->edited->asking;
     DconfdbEnding ending = {.is_there = false};
     dconfdb_ending(it->turn.outcome, it->turn.fault, store->known.is_unsettled, it->replacing.is_aside, &ending);
     const DconfdbSnapshot *now = ending.newest == DCONFDB_NEWEST_NEWER ? it->edited->newer : store->now;
-    const Part *own = now->parts[0];
-    bool is_noted = (!ending.is_there || asking_note(asking, now, it->order))
-                 && order_write(it->order, it->edited->lock->file, store->own_name, &own->state, is_synced(it, own));
-    if (is_noted)
+    uint32_t ask = dconfdb_making_after(true, false, false, DCONFDB_MAKING_ENDED, found(ending.is_there));
+    while (ask < DCONFDB_MAKING_NOTED)
+        ask = dconfdb_making_after(true, false, false, ask, note(it, now, ask));
+    if (ask == DCONFDB_MAKING_NOTED)
         store_after(store, DCONFDB_STORE_NOTED, ending.is_there, asking->count > 0 ? asking->asked[asking->count - 1].when : 0);
     return 0;
 }

@@ -59,15 +59,15 @@ bool edits_make_file(const DconfdbStore *store, const DconfdbChange *changes, co
     return refuse_call(error, number, user_file_or_folder(store), nowhere);
 }
 
-bool edit_is_made(const DconfdbSnapshot *now, const DconfdbChange *change)
+bool edit_is_made(const DconfdbSnapshot *now, bool may_be, const DconfdbChange *change)
 {
     bool is = false;
-    (void)dconfdb_is_made(now->layers, now->count, now->is_writable, change, &is);
+    (void)dconfdb_is_made(now->layers, now->count, now->is_writable, may_be, change, &is);
     return is;
 }
 
 bool dconfdb_snapshot_has_edit(const DconfdbSnapshot *snapshot, const DconfdbEdit *edit)
 {
     DconfdbChange change = change_of_edit(edit);
-    return edit_is_made(snapshot, &change);
+    return edit_is_made(snapshot, true, &change);
 }

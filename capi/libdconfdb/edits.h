@@ -17,7 +17,8 @@ typedef struct {
 bool edits_make_file(const DconfdbStore *store, const DconfdbChange *changes, const size_t *edits, size_t count, MadeFile *made,
                      DconfdbError *error);
 
-/* Whether the user has what a change asks for. False, too, where no memory is left to know it. */
-bool edit_is_made(const DconfdbSnapshot *now, const DconfdbChange *change);
+/* Whether the user has what a change asks for. `may_be`: something may have left it there; else it isn't asked. False, too, where no memory is left to
+ * know it. */
+bool edit_is_made(const DconfdbSnapshot *now, bool may_be, const DconfdbChange *change);
 
 #endif

@@ -68,59 +68,103 @@ static Words words_of(int fault)
     return words;
 }
 
-bool refuse_file(DconfdbError *error, int fault, const char *name, Place place)
+/* ---- what a proved sentence says */
+
+/* What stands in it beside what it says by itself. */
+typedef struct {
+    const char *name;
+    DconfdbBytes text;
+    const DconfdbUnsound *broken;
+    Place place;
+} Named;
+
+static const char *const phrases[] = {
+    [DCONFDB_SAYS_NO_MEMORY] = "no memory is left",
+    [DCONFDB_SAYS_TOO_BIG] = "the file is too big",
+    [DCONFDB_SAYS_NO_FILE] = "it is no regular file, and can't be locked",
+    [DCONFDB_SAYS_TEN_SECONDS] = "others have been changing it for ten seconds",
+    [DCONFDB_SAYS_EITHER] = "it is perhaps replaced",
+    [DCONFDB_SAYS_UNSETTLED] = "it is replaced, but perhaps not on the disk yet",
+    [DCONFDB_SAYS_UNSYNCED] = "it is as it was to be, but perhaps not on the disk yet",
+    [DCONFDB_SAYS_DOUBLE] = "it holds a double, which is not printed",
+};
+
+/* Each sentence has a form. */
+static bool say(DconfdbError *error, const DconfdbFaultMet *met, const DconfdbSentence *it, const Named *of)
 {
-    DconfdbErrorCode code = (DconfdbErrorCode)dconfdb_error_code(false, (uint32_t)fault);
-    if (code == DCONFDB_ERROR_MEMORY)
-        return refuse(error, code, 0, nowhere, "%s: no memory is left", name);
-    if (code == DCONFDB_ERROR_FILE_TOO_LARGE)
-        return refuse(error, code, 0, place, "%s: the file is too big", name);
-    return refuse(error, code, fault, place, "%s: %s", name, words_of(fault).text);
+    DconfdbErrorCode code = (DconfdbErrorCode)it->code;
+    Place place = it->is_placed ? of->place : nowhere;
+    int fault = (int)it->errnum, len = (int)of->text.len;
+    const char *name = of->name, *text = (const char *)of->text.at;
+    unsigned number = (unsigned)met->number;
+    switch (it->says) {
+    case DCONFDB_SAYS_NOTHING: return true;
+    case DCONFDB_SAYS_ALREADY: return false;
+    case DCONFDB_SAYS_SYSTEM: return refuse(error, code, fault, place, "%s: %s", name, words_of(fault).text);
+    case DCONFDB_SAYS_EITHER:
+    case DCONFDB_SAYS_UNSETTLED:
+    case DCONFDB_SAYS_UNSYNCED: refuse(error, code, fault, place, "%s: %s: %s", name, phrases[it->says], words_of(fault).text); break;
+    case DCONFDB_SAYS_BUSY: return refuse(error, code, fault, place, "%s: others have been changing it for %u ms", name, (unsigned)met->wait);
+    case DCONFDB_SAYS_NUMBER: return refuse(error, code, fault, place, "%s: fault %u", name, number);
+    case DCONFDB_SAYS_TEXT: return refuse(error, code, fault, place, "%s: %.*s", name, len, text);
+    case DCONFDB_SAYS_TEXT_AT: return refuse(error, code, fault, place, "%s:%zu: %.*s", name, place.line, len, text);
+    case DCONFDB_SAYS_RULE: return refuse(error, code, fault, place, "%s: the database breaks the rule S%u", name, (unsigned)of->broken->rule);
+    case DCONFDB_SAYS_RULE_AT:
+        return refuse(error, code, fault, place, "%s: the database breaks the rule S%u, at item %u", name, (unsigned)of->broken->rule,
+                      (unsigned)of->broken->item);
+    default: return refuse(error, code, fault, place, "%s: %s", name, phrases[it->says]);
+    }
+    if (error)
+        error->outcome = (DconfdbOutcome)it->outcome;
+    return false;
 }
 
-/* What is said of a file that is perhaps changed, or not on the disk. */
-static const char *const endings[] = {
-    [DCONFDB_TOLD_EITHER] = "it is perhaps replaced",
-    [DCONFDB_TOLD_UNSETTLED] = "it is replaced, but perhaps not on the disk yet",
-    [DCONFDB_TOLD_UNSYNCED] = "it is as it was to be, but perhaps not on the disk yet",
-};
+static bool tell(DconfdbError *error, const DconfdbFaultMet *met, const Named *of)
+{
+    DconfdbSentence sentence;
+    dconfdb_sentence(met, &sentence);
+    return say(error, met, &sentence, of);
+}
+
+bool refuse_file(DconfdbError *error, int fault, const char *name, Place place)
+{
+    const DconfdbFaultMet met = {.of = DCONFDB_FAULT_OF_FILE, .number = (uint32_t)fault};
+    return tell(error, &met, &(Named){name, DCONFDB_NOTHING, NULL, place});
+}
+
+bool refuse_locking(DconfdbError *error, const DconfdbFaultMet *met, const char *const names[])
+{
+    DconfdbSentence sentence;
+    dconfdb_sentence(met, &sentence);
+    return say(error, met, &sentence, &(Named){names[sentence.names], DCONFDB_NOTHING, NULL, nowhere});
+}
 
 bool tell_ending(DconfdbError *error, const DconfdbEnding *ending, int fault, const char *name)
 {
-    switch (ending->told) {
-    case DCONFDB_TOLD_NOTHING: return true;
-    case DCONFDB_TOLD_ALREADY: return false;
-    case DCONFDB_TOLD_FIRST: return refuse_file(error, fault, name, nowhere);
-    case DCONFDB_TOLD_BAD_WRITE: return refuse_file(error, EIO, name, nowhere);
-    default: break;
-    }
-    refuse(error, DCONFDB_ERROR_FILE, fault, nowhere, "%s: %s: %s", name, endings[ending->told], words_of(fault).text);
-    if (error)
-        error->outcome = (DconfdbOutcome)ending->outcome;
-    return false;
+    const DconfdbFaultMet met = {.of = DCONFDB_FAULT_OF_CHANGE, .number = (uint32_t)fault, .told = ending->told, .outcome = ending->outcome};
+    return tell(error, &met, &(Named){name, DCONFDB_NOTHING, NULL, nowhere});
+}
+
+static bool tell_call(DconfdbError *error, uint32_t number, const char *name, const DconfdbUnsound *broken, Place place)
+{
+    Named of = {name, DCONFDB_NOTHING, broken, place};
+    const DconfdbFaultMet met = {.of = DCONFDB_FAULT_OF_CALL,
+                                 .number = number,
+                                 .has_text = dconfdb_fault_text(number, &of.text),
+                                 .has_line = place.line != 0,
+                                 .has_rule = broken != NULL,
+                                 .has_item = broken && broken->has_item};
+    return tell(error, &met, &of);
 }
 
 bool refuse_call(DconfdbError *error, uint32_t number, const char *name, Place place)
 {
-    DconfdbBytes text = DCONFDB_NOTHING;
-    char line[32] = "";
-    if (number == DCONFDB_DOUBLE_TEXT)
-        return refuse(error, DCONFDB_ERROR_DOUBLE_TEXT, 0, place, "%s: it holds a double, which is not printed", name);
-    if (!dconfdb_fault_text(number, &text))
-        return refuse(error, (DconfdbErrorCode)number, 0, place, "%s: fault %u", name, (unsigned)number);
-    if (place.line != 0)
-        snprintf(line, sizeof line, ":%zu", place.line);
-    return refuse(error, (DconfdbErrorCode)number, 0, place, "%s%s: %.*s", name, line, (int)text.len, (const char *)text.at);
+    return tell_call(error, number, name, NULL, place);
 }
 
 bool refuse_database(DconfdbError *error, uint32_t number, const char *name, const DconfdbUnsound *broken, Place place)
 {
-    if (number != DCONFDB_UNSOUND)
-        return refuse_call(error, number, name, place);
-    if (!broken->has_item)
-        return refuse(error, (DconfdbErrorCode)number, 0, place, "%s: the database breaks the rule S%u", name, (unsigned)broken->rule);
-    return refuse(error, (DconfdbErrorCode)number, 0, place, "%s: the database breaks the rule S%u, at item %u", name, (unsigned)broken->rule,
-                  (unsigned)broken->item);
+    return tell_call(error, number, name, broken, place);
 }
 
 void hand_out(const DconfdbError *from, DconfdbError *to)

@@ -20,6 +20,9 @@ bool refuse_memory(DconfdbError *error);
 /* What a call of files.h answered. */
 bool refuse_file(DconfdbError *error, int fault, const char *name, Place place);
 
+/* What is told of the lock's fault; the names by DCONFDB_NAMES_IT to _FOLDER. */
+bool refuse_locking(DconfdbError *error, const DconfdbFaultMet *met, const char *const names[]);
+
 /* What is told of a change that ended so, by its first fault. True: it is made. After its file was replaced, or may be, the code is never one
  * of those that leave the old file. */
 bool tell_ending(DconfdbError *error, const DconfdbEnding *ending, int fault, const char *name);

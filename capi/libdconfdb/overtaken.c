@@ -43,7 +43,7 @@ bool asking_begin(Asking *asking, const DconfdbEdit *edits, const Made *made, si
     asking->is_left = (bool *)(asking->edits + count);
     for (size_t i = 0; i < count; i++) {
         asking->changes[i] = change_of_edit(&edits[i]);
-        asking->asked[i] = (DconfdbAsked){asking->changes[i].path, made ? made[i].moment : UINT64_MAX, made ? made[i].change : i, false, false};
+        asking->asked[i] = (DconfdbAsked){.path = asking->changes[i].path, .when = made ? made[i].moment : UINT64_MAX, .change = made ? made[i].change : i};
         asking->edits[i] = i;
     }
     return true;
@@ -54,8 +54,6 @@ bool asking_is_as_expected(const DconfdbSnapshot *now, const Asking *asking, Dco
     const DconfdbSnapshot *expected = asking->expected;
     bool is_changed = false;
     size_t at = 0;
-    if (!expected || expected == now) /* the same layers show the same */
-        return true;
     uint32_t number = dconfdb_changed_since(expected->layers, expected->count, now->layers, now->count, asking->changes, asking->count,
                                             &is_changed, &at);
     if (number != DCONFDB_OK)
@@ -82,25 +80,37 @@ static bool have_same_part(const DconfdbSnapshot *before, const DconfdbSnapshot 
     return before->count > 0 && after->count > 0 && before->parts[0] == after->parts[0];
 }
 
-/* Without memory nothing is remembered. */
-static void heed(DconfdbStore *store, const DconfdbSnapshot *before, const DconfdbSnapshot *after, bool is_noted)
+/* Keeps what was seen to be changed. False: no memory is left for it. */
+static bool remember(DconfdbStore *store, const DconfdbSnapshot *after, char *paths)
 {
-    char *paths = have_same_part(before, after) ? NULL : snapshot_remembered(before, after, is_noted);
-    Seen *seen = paths && *paths ? malloc(sizeof *seen) : NULL;
+    Seen *seen = paths ? malloc(sizeof *seen) : NULL;
     if (!seen) {
         free(paths);
-        return;
+        return false;
     }
     const FileState *left = &after->parts[0]->state;
     *seen = (Seen){store->seen, *left, left_when(store, left), paths};
     store->seen = seen;
-    store_after(store, DCONFDB_STORE_SEEN, true, 0);
+    return true;
+}
+
+/* `order` is NULL where no notes are read. */
+static void heed(DconfdbStore *store, const DconfdbSnapshot *before, const DconfdbSnapshot *after, const Order *order)
+{
+    if (have_same_part(before, after))
+        return;
+    bool is_noted = order && after->count > 0 && order_has_left(order, store->own_name, &after->parts[0]->state);
+    char *paths = snapshot_remembered(before, after, is_noted);
+    if (paths && !*paths)
+        free(paths);
+    else
+        store_after(store, DCONFDB_STORE_SEEN, remember(store, after, paths), 0);
 }
 
 void heed_others(DconfdbStore *store, const DconfdbSnapshot *before, const DconfdbSnapshot *after)
 {
     pthread_mutex_lock(&store->refreshing);
-    heed(store, before, after, false);
+    heed(store, before, after, NULL);
     pthread_mutex_unlock(&store->refreshing);
 }
 
@@ -180,7 +190,7 @@ static bool refresh_and_heed(DconfdbStore *store, const DconfdbSnapshot *before,
 {
     bool done = store_refresh(store, turn, error);
     if (done)
-        heed(store, before, store->now, order_has_left(order, store->own_name, &store->now->parts[0]->state));
+        heed(store, before, store->now, order);
     return done;
 }
 
@@ -202,10 +212,15 @@ Order *store_read_order(DconfdbStore *store, Asking *asking, const DconfdbSnapsh
 
 /* ---- what is left out */
 
-/* Whether the same is at a path as before the turn. */
-static bool is_as_before(const DconfdbSnapshot *before, const DconfdbSnapshot *now, const DconfdbBytes *path)
+/* What is at a path now, and was before the turn: in one part it is the same, which isn't looked for. */
+static void know_values(DconfdbAsked *asked, const DconfdbSnapshot *before, const DconfdbSnapshot *now, const DconfdbBytes *path)
 {
-    return before->is_writable && (before->parts[0] == now->parts[0] || value_in(before, path) == value_in(now, path));
+    asked->has_looked = before->is_writable;
+    asked->was = asked->is = 0;
+    if (have_same_part(before, now) || !before->is_writable)
+        return;
+    asked->was = value_in(before, path);
+    asked->is = value_in(now, path);
 }
 
 /* Moves what isn't left out to the front. */
@@ -254,8 +269,8 @@ static bool know_all(Asking *asking, const DconfdbStore *store, Order *order, co
         const DconfdbChange *change = &asking->changes[i];
         asked->path = is_of_last_path(asking, i) ? asked[-1].path : order_path(&room, store->own_name, &change->path);
         asked->when = order_time(order, asked->when, store->known.noted);
-        asked->is_own = store->known.is_unsettled && edit_is_made(store->now, change);
-        asked->is_as_before = is_as_before(before, store->now, &change->path);
+        asked->is_own = edit_is_made(store->now, store->known.is_unsettled, change);
+        know_values(asked, before, store->now, &change->path);
     }
     return asking->count == 0 || room;
 }

@@ -64,26 +64,27 @@ bool part_blame(Part *part, const DconfdbError *fault, DconfdbError *error)
     part->fault = malloc(sizeof *part->fault);
     if (!part->fault)
         return refuse_memory(error);
-    *part->fault = (Fault){*fault, {0, 0, false}, NULL};
+    *part->fault = (Fault){*fault, {0, 0, DCONFDB_MENDED_WHOLE, false}, NULL};
     return true;
 }
 
 static const DconfdbLayer no_layer = DCONFDB_EMPTY_LAYER;
 
-/* Reads what can be read of a file that is no sound database, instead of its bytes. Where nothing can the layer stays empty. */
+/* Reads what can be read of a file that is no sound database, instead of its bytes. Of none the layer is an empty one. */
 static bool part_mend(Part *part, const DconfdbError *fault, DconfdbError *error)
 {
     FileBytes mended;
     DconfdbUnsound broken = {0, 0, false};
     Saved saved;
+    uint32_t telling = DCONFDB_TELLING_NOTHING;
     if (repair(&part->bytes, &mended, &saved) != DCONFDB_OK)
         return refuse_memory(error);
     file_release(&part->bytes);
     part->bytes = mended;
-    uint32_t number = mended.at ? dconfdb_open(&no_layer, false, mended.at, mended.len, true, &part->layer, &broken) : DCONFDB_OK;
-    if (number != DCONFDB_OK)
+    uint32_t number = dconfdb_open(&no_layer, false, bytes_of(mended.at), mended.len, mended.at != NULL, false, &part->layer, &broken, &telling);
+    if (telling != DCONFDB_TELLING_NOTHING)
         return refuse_call(error, number, part->name, nowhere);
-    if (saved.standing == DCONFDB_MENDED_WHOLE)
+    if (!saved.is_told)
         return true;
     if (!part_blame(part, fault, error))
         return false;
@@ -91,23 +92,29 @@ static bool part_mend(Part *part, const DconfdbError *fault, DconfdbError *error
     return true;
 }
 
+/* What is wrong with a file is its part's, with what can be read of it, or the caller's. The part is handed back, or given up. */
+static Part *part_of_bad(Part *part, const Asked *asked, uint32_t number, const DconfdbUnsound *broken, uint32_t telling, DconfdbError *error)
+{
+    DconfdbError fault;
+    bool is_kept = telling == DCONFDB_TELLING_KEPT;
+    refuse_database(is_kept ? &fault : error, number, asked->name, broken, (Place){.database = asked->index});
+    if (is_kept && part_mend(part, &fault, error))
+        return part;
+    part_unref(part);
+    return NULL;
+}
+
 /* Opens what a file holds that is there instead of the old part's. The bytes are the part's, or are freed. */
 Part *part_open(const Asked *asked, FileState state, FileBytes bytes, const Part *old, DconfdbError *error)
 {
-    DconfdbError fault;
     DconfdbUnsound broken = {0, 0, false};
+    uint32_t telling = DCONFDB_TELLING_NOTHING;
     Part *part = part_new(asked->name, state, bytes, error);
     if (!part)
         return NULL;
     uint32_t number = dconfdb_open(old ? &old->layer : &no_layer, old && old->bytes.is_mapped, bytes_of(bytes.at), bytes.len, state.is_there,
-                                   &part->layer, &broken);
-    if (number == DCONFDB_OK)
-        return part;
-    refuse_database(asked->is_lenient ? &fault : error, number, asked->name, &broken, (Place){.database = asked->index});
-    if (asked->is_lenient && part_mend(part, &fault, error))
-        return part;
-    part_unref(part);
-    return NULL;
+                                   asked->is_lenient, &part->layer, &broken, &telling);
+    return telling == DCONFDB_TELLING_NOTHING ? part : part_of_bad(part, asked, number, &broken, telling, error);
 }
 
 bool part_has_bytes(const Part *part, const FileBytes *bytes)

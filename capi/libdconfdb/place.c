@@ -17,10 +17,9 @@
 
 /* Who asks where a store is. */
 typedef struct {
-    const DconfdbEnvironment *environment; /* `own`, or that of who has none asked */
+    DconfdbEnvironment environment; /* as far as it was asked */
     uint32_t giver;
     DconfdbBytes folder;
-    DconfdbEnvironment own;
     FileBytes machine; /* which the environment lends */
     int fault;         /* of that; or 0 */
 } Asked;
@@ -30,32 +29,30 @@ static const char machine_file[] = "/etc/dconfdb/store";
 
 enum { LARGEST_WORD = 4096 };
 
-/* It says nothing to who is given a folder. */
 static void read_machine_file(Asked *asked)
 {
     FileState state;
-    if (asked->giver != DCONFDB_GIVEN_BY_NOBODY)
-        return;
     asked->fault = file_read(NO_FOLDER, machine_file, false, NULL, LARGEST_WORD, &asked->machine, &state);
-    asked->own.machine = (DconfdbBytes){bytes_of(asked->machine.at), asked->machine.len};
-    asked->own.is_unreadable = asked->fault != 0;
+    asked->environment.machine = (DconfdbBytes){bytes_of(asked->machine.at), asked->machine.len};
+    asked->environment.is_unreadable = asked->fault != 0;
 }
 
-/* A program that gives a folder has its environment not asked. */
 static void begin_asking(Asked *asked, const char *folder, uint32_t giver)
 {
     static const DconfdbEnvironment silent = {.store = DCONFDB_NOTHING, .config = DCONFDB_NOTHING, .home = DCONFDB_NOTHING, .profile = DCONFDB_NOTHING,
                                               .runtime = DCONFDB_NOTHING, .cache = DCONFDB_NOTHING, .machine = DCONFDB_NOTHING};
-    bool is_silent = giver == DCONFDB_GIVEN_BY_PROGRAM;
-    asked->environment = is_silent ? &silent : &asked->own;
-    asked->giver = giver;
-    asked->folder = text_bytes(folder);
-    asked->machine = (FileBytes){NULL, 0, false};
-    asked->fault = 0;
-    if (is_silent)
-        return;
-    asked->own = environment_now();
+    *asked = (Asked){.environment = silent, .giver = giver, .folder = text_bytes(folder)};
+}
+
+/* Asks what is to be asked to know which kind of store there is. Gives what is known then. */
+static uint32_t ask_for_kind(Asked *asked, uint32_t what)
+{
+    if (what == DCONFDB_KIND_ASK_ENVIRONMENT) {
+        asked->environment = environment_now();
+        return DCONFDB_KNOWN_ENVIRONMENT;
+    }
     read_machine_file(asked);
+    return DCONFDB_KNOWN_MACHINE;
 }
 
 /* ---- what the system is asked */
@@ -81,7 +78,7 @@ static int ask(uint32_t what, char **answer)
 static uint32_t look_for(const Asked *asked, uint32_t wanted, const char *answer, DconfdbPath *path)
 {
     DconfdbBytes base = text_bytes(answer ? answer : "");
-    return dconfdb_place(asked->environment, asked->giver, asked->folder.at, asked->folder.len, wanted, answer != NULL, base.at, base.len, path);
+    return dconfdb_place(&asked->environment, asked->giver, asked->folder.at, asked->folder.len, wanted, answer != NULL, base.at, base.len, path);
 }
 
 /* Gives the path of what is wanted, or NULL if there is none, and what was asked for it; and 0, or errno. */
@@ -119,9 +116,13 @@ static bool refuse_kind(DconfdbError *error, int fault)
     return refuse(error, DCONFDB_ERROR_BAD_LINE, 0, (Place){.line = 1}, "%s: it says neither dconf nor dconfdb", machine_file);
 }
 
-static bool find_kind(const Asked *asked, StorePlace *place, DconfdbError *error)
+static bool find_kind(Asked *asked, StorePlace *place, DconfdbError *error)
 {
-    uint32_t kind = dconfdb_place_kind(asked->environment, asked->giver);
+    uint32_t known = DCONFDB_KNOWN_NOTHING, kind = dconfdb_place_kind(&asked->environment, asked->giver, known);
+    while (kind > DCONFDB_KIND_UNKNOWN) {
+        known = ask_for_kind(asked, kind);
+        kind = dconfdb_place_kind(&asked->environment, asked->giver, known);
+    }
     place->is_dconfs = kind == DCONFDB_KIND_DCONFS;
     return kind != DCONFDB_KIND_UNKNOWN || refuse_kind(error, asked->fault);
 }

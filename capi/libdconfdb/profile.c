@@ -4,10 +4,8 @@
 #define _FILE_OFFSET_BITS 64
 #include "store.h"
 #include "errors.h"
-#include "faults.h"
 #include "texts.h"
 
-#include <errno.h>
 #include <stdlib.h>
 #include <string.h>
 
@@ -16,10 +14,19 @@
 #define LARGEST_PROFILE 16777216
 #endif
 
-/* The first is kept. */
-static DconfdbError *profile_fault_of(DconfdbStore *store)
+/* Who is told a fault: the caller, or the store keeps it. NULL: nobody. */
+static DconfdbError *told_of(DconfdbStore *store, uint32_t telling, DconfdbError *error)
 {
-    return store->profile_fault.code == DCONFDB_ERROR_NONE ? &store->profile_fault : NULL;
+    switch (telling) {
+    case DCONFDB_TELLING_REFUSES: return error;
+    case DCONFDB_TELLING_KEPT: return &store->profile_fault;
+    default: return NULL;
+    }
+}
+
+static bool has_kept(const DconfdbStore *store)
+{
+    return store->profile_fault.code != DCONFDB_ERROR_NONE;
 }
 
 /* ---- the databases of a profile */
@@ -34,6 +41,14 @@ static bool has_users(DconfdbStore *store, char *file, const DconfdbPath *flag)
     return store->flag || !has_flag;
 }
 
+/* What the looks at profiles came to. */
+typedef struct {
+    uint32_t step;
+    const char *path; /* of the last one */
+    const uint8_t *text;
+    size_t len;
+} Profile;
+
 /* Databases that a profile names, and for how many there is room: mostly there are few. */
 typedef struct {
     size_t count, room;
@@ -41,30 +56,6 @@ typedef struct {
 } Named;
 
 #define FEW_NAMES (MOST_DATABASES < 4 ? MOST_DATABASES : 4)
-
-/* The databases that a profile names, where every line has to be good. Of a text that isn't UTF-8 the first bad line is told, as where bad
- * lines are passed over. */
-static uint32_t read_all_names(const uint8_t *text, size_t len, Named *named, size_t *line)
-{
-    uint32_t fault = DCONFDB_OK, number = dconfdb_profile(text, len, false, named->names, named->room, &named->count, &fault, line);
-    if (number != DCONFDB_NOT_TEXT)
-        return number;
-    number = dconfdb_profile(text, len, true, named->names, named->room, &named->count, &fault, line);
-    return number == DCONFDB_OK ? fault : number;
-}
-
-/* The databases that a profile names; of a lenient store those of its good lines, where the first bad one
- * is kept as a fault. */
-static uint32_t read_names(DconfdbStore *store, const char *profile, const uint8_t *text, size_t len, Named *named, size_t *line)
-{
-    uint32_t fault = DCONFDB_OK;
-    if (!store->options.is_lenient)
-        return read_all_names(text, len, named, line);
-    uint32_t number = dconfdb_profile(text, len, true, named->names, named->room, &named->count, &fault, line);
-    if (number == DCONFDB_OK && fault != DCONFDB_OK)
-        refuse_call(profile_fault_of(store), fault, profile, (Place){.line = *line});
-    return number;
-}
 
 /* The file of one more database of the profile of that path. */
 static bool name_file(DconfdbStore *store, DconfdbBytes profile, const DconfdbName *database, DconfdbError *error)
@@ -80,25 +71,29 @@ static bool name_file(DconfdbStore *store, DconfdbBytes profile, const DconfdbNa
 }
 
 /* Where there are more than the room takes, nothing is put into it. */
-static bool read_into(DconfdbStore *store, const char *profile, const uint8_t *text, size_t len, Named *named, DconfdbError *error)
+static bool read_into(DconfdbStore *store, const Profile *profile, Named *named, DconfdbError *error)
 {
+    uint32_t fault = DCONFDB_OK;
     size_t line = 0;
     for (size_t i = 0; i < named->room; i++)
         named->names[i] = (DconfdbName){0, DCONFDB_NOTHING};
-    uint32_t number = read_names(store, profile, text, len, named, &line);
-    return number == DCONFDB_OK || refuse_call(error, number, profile, (Place){.line = line});
+    uint32_t telling = dconfdb_profile(profile->step, profile->text, profile->len, store->options.is_lenient, has_kept(store), named->names, named->room,
+                                       &named->count, &fault, &line);
+    if (telling != DCONFDB_TELLING_NOTHING)
+        refuse_call(told_of(store, telling, error), fault, profile->path, (Place){.line = line});
+    return telling != DCONFDB_TELLING_REFUSES;
 }
 
-static bool name_files(DconfdbStore *store, const char *profile, const uint8_t *text, size_t len, DconfdbError *error)
+static bool name_files(DconfdbStore *store, const Profile *profile, DconfdbError *error)
 {
     Named named; /* as many as there is room for are written before they are read */
-    const DconfdbBytes of = text_bytes(profile);
+    const DconfdbBytes of = text_bytes(profile->path);
     named.count = 0;
     named.room = FEW_NAMES;
-    bool are_named = read_into(store, profile, text, len, &named, error);
+    bool are_named = read_into(store, profile, &named, error);
     if (are_named && named.count > named.room) {
         named.room = MOST_DATABASES;
-        are_named = read_into(store, profile, text, len, &named, error);
+        are_named = read_into(store, profile, &named, error);
     }
     while (are_named && store->count < named.count)
         are_named = name_file(store, of, &named.names[store->count], error);
@@ -109,24 +104,16 @@ static bool name_files(DconfdbStore *store, const char *profile, const uint8_t *
 
 /* One that may be the profile, and what a look at it found. */
 typedef struct {
-    uint32_t step;
-    size_t dir;
+    DconfdbProfileNext next;
     char *path; /* NULL: there is no such place */
     FileBytes text;
 } Look;
 
-static bool is_look(uint32_t step)
-{
-    return step <= DCONFDB_PROFILE_EVERYONES || step >= DCONFDB_PROFILE_MANDATORY;
-}
-
 /* Its path. False: no memory is left. */
-static bool find_path(const StorePlace *place, Look *look)
+static bool find_path(Look *look)
 {
-    DconfdbPath path = DCONFDB_NO_PATH;
-    bool is = dconfdb_profile_path(&place->lent, look->step, look->dir, &path);
-    look->path = is ? path_text(&path) : NULL;
-    return look->path || !is;
+    look->path = look->next.has_path ? path_text(&look->next.path) : NULL;
+    return look->path || !look->next.has_path;
 }
 
 static void look_release(Look *look)
@@ -136,37 +123,27 @@ static void look_release(Look *look)
     look->path = NULL;
 }
 
-/* Goes on to what comes after a look, which is to be told as the call says. */
-static uint32_t step_after(const StorePlace *place, const DconfdbProfileLook *known, Look *look)
-{
-    uint32_t telling = DCONFDB_TELLING_NOTHING;
-    look->step = dconfdb_profile_step(&place->lent, known, &look->dir, &telling);
-    return telling;
-}
-
 /* The one that is looked at first. */
 static Look first_of(const StorePlace *place)
 {
     const DconfdbProfileLook none = {.which = DCONFDB_PROFILE_BEGINS};
-    Look look = {.path = NULL};
-    step_after(place, &none, &look);
+    Look look = {.next = {.path = DCONFDB_NO_PATH, .name = DCONFDB_NO_PATH}, .path = NULL};
+    dconfdb_profile_step(&place->lent, &none, &look.next);
     return look;
 }
 
-/* What comes after a look at one, and is told. */
-static void go_on(DconfdbStore *store, Look *look, int fault, const FileState *state, DconfdbError *error)
+/* Tells of a look, as it is said. False: no memory is left. */
+static bool tell(DconfdbStore *store, const DconfdbProfileNext *next, DconfdbError *error)
 {
-    const DconfdbProfileLook known = {.which = look->step,
-                                      .dir = look->dir,
-                                      .fails = fault != 0,
-                                      .is_own = fault != 0 && is_files_own(fault),
-                                      .is_there = fault == 0 && state->is_there,
-                                      .is_lenient = store->options.is_lenient,
-                                      .has_kept = store->profile_fault.code != DCONFDB_ERROR_NONE};
-    uint32_t telling = step_after(&store->place, &known, look);
-    const char *name = fault != 0 ? look->path : place_profile_name(&store->place);
-    if (telling != DCONFDB_TELLING_NOTHING)
-        refuse_file(telling == DCONFDB_TELLING_REFUSES ? error : &store->profile_fault, fault != 0 ? fault : ENOENT, name, nowhere);
+    DconfdbError *told = told_of(store, next->telling, error);
+    if (!told)
+        return true;
+    char *name = path_text(&next->name);
+    if (!name)
+        return refuse_memory(error);
+    refuse_file(told, (int)next->errnum, name, nowhere);
+    free(name);
+    return true;
 }
 
 /* Looks at the one that comes next. False: no memory is left. */
@@ -174,35 +151,32 @@ static bool look_at_next(DconfdbStore *store, Look *look, DconfdbError *error)
 {
     FileState state = {.is_there = false};
     look_release(look);
-    if (!find_path(&store->place, look))
+    if (!find_path(look))
         return refuse_memory(error);
     int fault = look->path ? file_read(NO_FOLDER, look->path, false, NULL, LARGEST_PROFILE, &look->text, &state) : 0;
-    go_on(store, look, fault, &state, error);
-    return true;
+    const DconfdbProfileLook known = {.which = look->next.step,
+                                      .dir = look->next.dir,
+                                      .errnum = (uint32_t)fault,
+                                      .is_there = state.is_there,
+                                      .is_lenient = store->options.is_lenient,
+                                      .has_kept = has_kept(store)};
+    dconfdb_profile_step(&store->place.lent, &known, &look->next);
+    return tell(store, &look->next, error);
 }
 
 /* Goes by what the looks came to. */
 static bool take_profile(DconfdbStore *store, const Look *look, DconfdbError *error)
 {
-    static const char users[] = "user-db:user";
-    switch (look->step) {
-    case DCONFDB_PROFILE_COUNTS:
-        return name_files(store, look->path, bytes_of(look->text.at), look->text.len, error);
-    case DCONFDB_PROFILE_USERS:
-        return name_files(store, users, bytes_of(users), sizeof users - 1, error);
-    case DCONFDB_PROFILE_NO_DATABASE:
-        store->lacks_profile = true;
-        return true;
-    default:
-        return false;
-    }
+    const Profile profile = {look->next.step, look->path ? look->path : "", bytes_of(look->text.at), look->text.len};
+    store->lacks_profile = profile.step == DCONFDB_PROFILE_NO_DATABASE;
+    return profile.step != DCONFDB_PROFILE_REFUSED && name_files(store, &profile, error);
 }
 
 bool store_find_files(DconfdbStore *store, DconfdbError *error)
 {
     Look look = first_of(&store->place);
     bool done = true;
-    while (done && is_look(look.step))
+    while (done && look.next.looks)
         done = look_at_next(store, &look, error);
     done = done && take_profile(store, &look, error);
     look_release(&look);
@@ -247,20 +221,20 @@ static char *names_end(Names *names, size_t *size)
     return names->at ? names->at : calloc(1, 1);
 }
 
-/* Each that may be the profile, as if none before it were there. It gives how many. */
+/* Each that may be the profile. It gives how many. */
 static int add_profiles(const StorePlace *place, Names *names)
 {
     Look look = first_of(place);
     int count = 0;
-    while (!names->is_full && is_look(look.step)) {
-        const DconfdbProfileLook missing = {.which = look.step, .dir = look.dir, .is_lenient = true};
-        names->is_full = !find_path(place, &look);
+    while (!names->is_full && look.next.looks) {
+        const DconfdbProfileLook listed = {.which = look.next.step, .dir = look.next.dir, .lists = true};
+        names->is_full = !find_path(&look);
         if (look.path) {
             name_add(names, look.path);
             count++;
         }
         look_release(&look);
-        step_after(place, &missing, &look);
+        dconfdb_profile_step(&place->lent, &listed, &look.next);
     }
     return count;
 }

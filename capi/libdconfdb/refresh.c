@@ -49,8 +49,8 @@ static bool are_same(const FileState *one, const FileState *other)
            one->inode == other->inode && one->size == other->size && one->device == other->device && one->is_there == other->is_there;
 }
 
-/* Whether the old part is of what has the file's name, as far as stat() says. Facts that are the same have the same answer, and aren't asked of
- * again. */
+/* Whether the old part is of what has the file's name, as far as stat() says. The call's last answer is kept with the facts that it was of:
+ * of the same ones it says the same. */
 static bool is_as_said(const Look *look, Part *old, size_t at)
 {
     FileState state;

@@ -10,8 +10,6 @@
 #include <sys/stat.h>
 #include <unistd.h>
 
-enum { MOST_ROUNDS = 64, MOST_LINKS = 40 /* as the system has it */ };
-
 void forget_watched(Watch *watch)
 {
     for (size_t i = 0; i < watch->count; i++) {
@@ -47,19 +45,25 @@ static bool is_watched(const Watch *watch, const Watched *wanted)
     return false;
 }
 
-/* A folder that is watched itself has no path. */
-static void watch_one(Watch *watch, const char *folder, char *path, const DconfdbWatchedName *name)
+/* Keeps one that inotify watches. False: no memory is left. */
+static bool keep(Watch *watch, int number, const char *path, const DconfdbWatchedName *name)
 {
-    int number = inotify_add_watch(watch->inotify, folder, name->asked | IN_MASK_ADD | IN_ONLYDIR);
-    if (is_watched(watch, &(Watched){number, *name, path}))
-        return;
-    char *kept = path && number >= 0 ? strdup(path) : NULL;
-    bool is_had = number >= 0 && (kept || !path) && grow(watch);
-    if (is_had)
+    char *kept = path ? strdup(path) : NULL;
+    bool is_kept = (kept || !path) && grow(watch);
+    if (is_kept)
         watch->all[watch->count++] = (Watched){number, *name, kept};
     else
         free(kept);
-    watch->is_whole = watch->is_whole && (is_had || !name->is_needed);
+    return is_kept;
+}
+
+/* A folder that is watched itself has no path. */
+static void watch_one(Watch *watch, DconfdbWatchRounds *rounds, const char *folder, char *path, const DconfdbWatchedName *name)
+{
+    int number = inotify_add_watch(watch->inotify, folder, name->asked | IN_MASK_ADD | IN_ONLYDIR);
+    bool is_known = is_watched(watch, &(Watched){number, *name, path});
+    bool is_had = is_known || (number >= 0 && keep(watch, number, path, name));
+    dconfdb_watch_round(rounds, DCONFDB_WATCHING_NAME, is_known, is_had, name->is_needed);
 }
 
 Stands stands_at(const char *path)
@@ -72,8 +76,8 @@ Stands stands_at(const char *path)
 typedef struct {
     char folder[PATH_MAX];   /* so far; there is no link in it, and it is empty for `/` */
     char rest[2 * PATH_MAX]; /* behind that */
-    uint32_t role;           /* what is heard if the file changes */
-    int links;
+    bool is_profile;
+    uint64_t links; /* that were followed */
     bool is_too_long; /* it goes on, but there is no room for the rest */
 } Way;
 
@@ -82,8 +86,9 @@ static bool follow(Way *way, const char *link, const char *behind)
 {
     char target[PATH_MAX], rest[sizeof way->rest];
     ssize_t len = readlink(link, target, sizeof target - 1);
-    if (len <= 0 || way->links++ >= DCONFDB_MOST_LINKS)
+    if (len <= 0)
         return false;
+    way->links++;
     target[len] = 0;
     int size = snprintf(rest, sizeof rest, "%s/%s", target, behind);
     way->is_too_long = size < 0 || (size_t)size >= sizeof rest;
@@ -125,7 +130,7 @@ static bool go_on(Way *way, uint32_t where, const char *path, const char *behind
 }
 
 /* One name of a path, and those behind it. True: the path goes on. */
-static bool watch_name(Watch *watch, Way *way, const char *name, size_t len, const char *behind)
+static bool watch_name(Watch *watch, DconfdbWatchRounds *rounds, Way *way, const char *name, size_t len, const char *behind)
 {
     DconfdbWatchedName watched = {.is_needed = false};
     char path[PATH_MAX];
@@ -135,18 +140,18 @@ static bool watch_name(Watch *watch, Way *way, const char *name, size_t len, con
         return false;
     Stands stands = stands_at(path);
     dconfdb_watched_name(watch->minds_etc, (const uint8_t *)way->folder, strlen(way->folder), (const uint8_t *)name, len, *behind == 0, stands.mode,
-                         stands.links, way->role, &watched);
+                         stands.links, way->links, way->is_profile, &watched);
     if (watched.watch == DCONFDB_WATCH_ITSELF)
-        watch_one(watch, path, NULL, &watched);
+        watch_one(watch, rounds, path, NULL, &watched);
     else if (watched.watch != DCONFDB_WATCH_NOTHING)
-        watch_one(watch, *way->folder ? way->folder : "/", path, &watched);
+        watch_one(watch, rounds, *way->folder ? way->folder : "/", path, &watched);
     return go_on(way, watched.way, path, behind);
 }
 
-/* The folders on the way to a file, each link of it, and the file's own name. */
-static void watch_path(Watch *watch, const char *path, uint32_t role)
+/* The folders on the way to a file, each link of it, and the file's own name. A path for which there is no room is missed. */
+static void watch_path(Watch *watch, DconfdbWatchRounds *rounds, const char *path, bool is_profile)
 {
-    Way way = {.folder = "", .role = role};
+    Way way = {.folder = "", .is_profile = is_profile};
     int size = snprintf(way.rest, sizeof way.rest, "%s", path);
     way.is_too_long = size < 0 || (size_t)size >= sizeof way.rest;
     bool goes_on = !way.is_too_long;
@@ -154,31 +159,36 @@ static void watch_path(Watch *watch, const char *path, uint32_t role)
         const char *name = way.rest + strspn(way.rest, "/");
         size_t len = strcspn(name, "/");
         const char *behind = name + len + strspn(name + len, "/");
-        goes_on = len > 0 && watch_name(watch, &way, name, len, behind);
+        goes_on = len > 0 && watch_name(watch, rounds, &way, name, len, behind);
     }
-    watch->is_whole = watch->is_whole && !way.is_too_long;
+    if (way.is_too_long)
+        dconfdb_watch_round(rounds, DCONFDB_WATCHING_NAME, false, false, true);
 }
 
-/* All names once. */
-static void go_through(Watch *watch, const char *files, int profiles)
+/* The names of the files, of which so many come first that may be the profile; where these aren't all, others are missed. */
+typedef struct {
+    const char *at;
+    int profiles;
+    bool are_all;
+} Names;
+
+/* All names once. Gives what comes then. */
+static uint32_t go_through(Watch *watch, DconfdbWatchRounds *rounds, const Names *names)
 {
     int count = 0;
-    watch->is_whole = true;
-    for (const char *at = files; *at; at += strlen(at) + 1)
-        watch_path(watch, at, count++ < profiles ? DCONFDB_NOTICE_FOLDER : DCONFDB_NOTICE_FILE);
+    dconfdb_watch_round(rounds, DCONFDB_WATCHING_BEGINS, false, false, false);
+    for (const char *at = names->at; *at; at += strlen(at) + 1)
+        watch_path(watch, rounds, at, count++ < names->profiles);
+    return dconfdb_watch_round(rounds, DCONFDB_WATCHING_NAME, names->are_all, false, true);
 }
 
-/* A folder may come between the look at its name and the watch there: so they are gone through until there is nothing more to watch. Where
- * that never ends, not all is watched. */
-static void watch_all(Watch *watch, const char *files, int profiles)
+static bool watch_all(Watch *watch, const Names *names)
 {
-    bool is_more = true;
-    for (int round = 0; is_more && round < MOST_ROUNDS; round++) {
-        size_t before = watch->count;
-        go_through(watch, files, profiles);
-        is_more = watch->count != before;
-    }
-    watch->is_whole = watch->is_whole && !is_more;
+    DconfdbWatchRounds rounds = {0, false, false};
+    uint32_t after = go_through(watch, &rounds, names);
+    while (after == DCONFDB_WATCHING_AGAIN)
+        after = go_through(watch, &rounds, names);
+    return after == DCONFDB_WATCHING_WHOLE;
 }
 
 static bool has_inotify(Watch *watch)
@@ -188,22 +198,28 @@ static bool has_inotify(Watch *watch)
     return watch->inotify >= 0;
 }
 
-bool watch_files(Watch *watch, const char *files, int profiles)
+static bool watch_names(Watch *watch, const Names *names)
 {
     watch->is_whole = false;
-    if (files && has_inotify(watch)) {
+    if (names->at && has_inotify(watch)) {
         forget_watched(watch);
-        watch_all(watch, files, profiles);
+        watch->is_whole = watch_all(watch, names);
     }
     return watch->is_whole;
 }
 
+bool watch_files(Watch *watch, const char *files, int profiles)
+{
+    const Names names = {files, profiles, true};
+    return watch_names(watch, &names);
+}
+
 bool watch_begin(Watch *watch, const StorePlace *place)
 {
-    bool are_all = false;
-    int profiles = 0;
-    char *files = has_inotify(watch) ? place_files(place, &profiles, &are_all, NULL) : NULL;
-    watch->is_whole = watch_files(watch, files, profiles) && are_all;
+    Names names = {NULL, 0, false};
+    char *files = has_inotify(watch) ? place_files(place, &names.profiles, &names.are_all, NULL) : NULL;
+    names.at = files;
+    bool is_whole = watch_names(watch, &names);
     free(files);
-    return watch->is_whole;
+    return is_whole;
 }

@@ -87,12 +87,13 @@ void check_database(const Lint *lint, const char *file, FileBytes *bytes)
     DconfdbLayer layers[2] = {DCONFDB_EMPTY_LAYER, DCONFDB_EMPTY_LAYER};
     DconfdbUnsound broken = {0, 0, false}, nothing = {0, 0, false};
     FileBytes mended = {NULL, 0, false};
-    Saved saved = {0, 0, DCONFDB_MENDED_WHOLE};
+    Saved saved = {0, 0, DCONFDB_MENDED_WHOLE, false};
     Place at = {file, 0};
-    uint32_t number = dconfdb_open(&layers[0], false, bytes->at, bytes->len, true, &layers[1], &broken), opened = number;
+    uint32_t telling = DCONFDB_TELLING_NOTHING;
+    uint32_t number = dconfdb_open(&layers[0], false, bytes->at, bytes->len, true, true, &layers[1], &broken, &telling), opened = number;
     if (number != DCONFDB_OK && repair(bytes, &mended, &saved) == DCONFDB_OK && mended.at)
-        opened = dconfdb_open(&layers[0], false, mended.at, mended.len, true, &layers[1], &nothing);
-    if (saved.standing != DCONFDB_MENDED_WHOLE)
+        opened = dconfdb_open(&layers[0], false, mended.at, mended.len, true, false, &layers[1], &nothing, &telling);
+    if (saved.is_told)
         find_fault(at, number, &broken);
     if (opened == DCONFDB_OK)
         check_layer(&alone, at, layers);

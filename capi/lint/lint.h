@@ -22,10 +22,9 @@ size_t findings_count(void);
 
 /* ---- nearest.c: names that are alike */
 
-/* The one of these names that is the least number of letters away, which are put in, left out, replaced, or
- * swapped with the next one; NULL if none is within `most`. A run compares so much of names, in which 1,000 are
- * looked for with ease, and finds none after that: 100,000 findings take no minute. */
-const char *nearest(const GPtrArray *names, const char *name, int most);
+/* The one of these names that is said to be the nearest, of which half of the letters may be otherwise, or few; or NULL. 100,000 findings
+ * take no minute: a run compares so much, and then finds none. */
+const char *nearest(const GPtrArray *names, const char *name, bool is_half);
 
 /* ---- schemas.c: which keys there are */
 
@@ -94,9 +93,12 @@ typedef struct {
     char *folder;       /* a whole path */
     const char *name;   /* in it */
     size_t sources_len; /* of the path, how much is that of the folder NAME.d; 0: there is none */
-    uint32_t role;      /* DCONFDB_ROLE_BY_ITS_TEXT and so on */
+    bool is_source;     /* `update` reads it there */
     bool is_one_read;   /* of those in NAME.d, `update` reads one */
 } Asked;
+
+/* As what it is looked at, DCONFDB_READ_KEYFILE and so on: of so many bytes, of which these are there. */
+uint32_t asked_read_as(const Asked *asked, uintmax_t size, const FileBytes *bytes);
 
 /* Those files, in the order in which they are taken: the folders one after another, and the names of each in byte order. */
 Asked *asked_files(char *const *files, size_t count);

@@ -1,10 +1,10 @@
 /* dconfdb lint: its words, and the files in their order. */
 #define _GNU_SOURCE
 #include "lint.h"
+#include "options.h"
 
 #include <errno.h>
 #include <fcntl.h>
-#include <getopt.h>
 #include <stdio.h>
 #include <stdlib.h>
 #include <string.h>
@@ -38,17 +38,11 @@ static int read_file(const char *file, FileBytes *bytes, FileState *state)
     return fault;
 }
 
-/* As what it is looked at: of so many bytes, of which these are there. */
-static uint32_t read_as(const Asked *asked, uintmax_t size, const FileBytes *bytes)
-{
-    return dconfdb_read_as(asked->role, asked->is_one_read, size, bytes->len > 0 ? bytes->at : (const uint8_t *)"", bytes->len);
-}
-
 static void check_bytes(const Lint *lint, const Asked *asked, FileBytes *bytes, uintmax_t size)
 {
     const char *text = bytes->len > 0 ? (const char *)bytes->at : "";
     Place at = {asked->file, 0};
-    switch (read_as(asked, size, bytes)) {
+    switch (asked_read_as(asked, size, bytes)) {
     case DCONFDB_READ_KEYFILE: check_keyfile(lint, asked->file, text, bytes->len); break;
     case DCONFDB_READ_LOCKS: check_locks(lint, asked->file, text, bytes->len); break;
     case DCONFDB_READ_PROFILE: check_profile(asked, text, bytes->len); break;
@@ -84,7 +78,7 @@ static void find_unread(const Asked *asked)
 static void check_asked(const Lint *lint, const Asked *asked)
 {
     const FileBytes none = {NULL, 0, false};
-    switch (read_as(asked, 0, &none)) {
+    switch (asked_read_as(asked, 0, &none)) {
     case DCONFDB_READ_NOTHING: break;
     case DCONFDB_READ_UNREAD: find_unread(asked); break;
     default: check_file(lint, asked); break;
@@ -111,39 +105,27 @@ static void check_files(const Schemas *schemas, char *const *files, size_t count
 
 /* ---- words */
 
-static int refuse_words(const char *words, const char *why)
-{
-    fprintf(stderr, "error: %s%s%s\n\nUsage: dconfdb lint [OPTIONS] <FILE>...\n\nFor more information, try '--help'.\n", words,
-            *words ? ": " : "", why);
-    return 2;
-}
+static const char usage[] = "dconfdb lint [OPTIONS] <FILE>...";
 
 static int finish(int status)
 {
     return fflush(stdout) == 0 && !ferror(stdout) ? status : 1;
 }
 
-/* Takes the options. Its answer is a status, or GOES_ON. */
-enum { GOES_ON = -1 };
+/* What the words ask for. */
+typedef struct {
+    const char *folder;
+    GPtrArray *placed, *files;
+} Wanted;
 
-static int take_options(int count, char **words, const char **folder, GPtrArray *placed)
+static void keep(void *it, uint32_t said, const char *text)
 {
-    static const struct option options[] = {
-        {"schemas", required_argument, NULL, 'f'}, {"schema", required_argument, NULL, 's'}, {"help", no_argument, NULL, 'h'}, {0}};
-    int option;
-    while ((option = getopt_long(count, words, "h", options, NULL)) != -1) {
-        if (option == 'h')
-            return fputs(help, stdout) < 0 ? 1 : finish(0);
-        if (option == 's')
-            g_ptr_array_add(placed, optarg);
-        else if (option != 'f')
-            return refuse_words("", "an option is wrong");
-        else if (*folder)
-            return refuse_words("--schemas", "it is given twice");
-        else
-            *folder = optarg;
+    Wanted *wanted = it;
+    switch (said) {
+    case DCONFDB_SAID_FOLDER: wanted->folder = text; break;
+    case DCONFDB_SAID_SCHEMA: g_ptr_array_add(wanted->placed, (gpointer)text); break;
+    default: g_ptr_array_add(wanted->files, (gpointer)text); break;
     }
-    return optind < count ? GOES_ON : refuse_words("", "no FILE is given");
 }
 
 static int place_all(Schemas *schemas, const GPtrArray *placed)
@@ -151,23 +133,23 @@ static int place_all(Schemas *schemas, const GPtrArray *placed)
     for (guint i = 0; i < placed->len; i++) {
         const char *words = g_ptr_array_index(placed, i), *why = schemas_place(schemas, words);
         if (why)
-            return refuse_words(words, why);
+            return words_refuse(&(Words){.usage = usage}, words, why);
     }
     return GOES_ON;
 }
 
-static int lint_with(const char *folder, const GPtrArray *placed, char **files, size_t count)
+static int lint_with(const Wanted *wanted)
 {
     GError *error = NULL;
-    Schemas *schemas = schemas_open(folder, &error);
+    Schemas *schemas = schemas_open(wanted->folder, &error);
     if (!schemas) {
-        fprintf(stderr, "error: NoSchemas %s: %s\n", folder ? folder : "installed", error->message);
+        fprintf(stderr, "error: NoSchemas %s: %s\n", wanted->folder ? wanted->folder : "installed", error->message);
         g_error_free(error);
         return 1;
     }
-    int status = place_all(schemas, placed);
+    int status = place_all(schemas, wanted->placed);
     if (status == GOES_ON) {
-        check_files(schemas, files, count);
+        check_files(schemas, (char *const *)wanted->files->pdata, wanted->files->len);
         status = findings_count() > 0;
     }
     values_end();
@@ -177,11 +159,11 @@ static int lint_with(const char *folder, const GPtrArray *placed, char **files, 
 
 int main(int count, char **words)
 {
-    const char *folder = NULL;
-    GPtrArray *placed = g_ptr_array_new();
-    int status = take_options(count, words, &folder, placed);
+    Wanted wanted = {NULL, g_ptr_array_new(), g_ptr_array_new()};
+    int status = words_read(&(Words){true, help, usage, "FILE", keep, &wanted}, count, words);
     if (status == GOES_ON)
-        status = lint_with(folder, placed, words + optind, (size_t)(count - optind));
-    g_ptr_array_unref(placed);
+        status = lint_with(&wanted);
+    g_ptr_array_unref(wanted.placed);
+    g_ptr_array_unref(wanted.files);
     return status;
 }

@@ -44,7 +44,7 @@ void check_profile(const Asked *asked, const char *text, size_t len)
     size_t count = 0, line = 0;
     for (size_t i = 0; i < MOST_DATABASES; i++)
         names[i] = (DconfdbName){0, DCONFDB_NOTHING};
-    if (dconfdb_profile((const uint8_t *)text, len, true, names, MOST_DATABASES, &count, &fault, &line) != DCONFDB_OK)
+    if (dconfdb_profile(DCONFDB_PROFILE_COUNTS, (const uint8_t *)text, len, true, false, names, MOST_DATABASES, &count, &fault, &line) == DCONFDB_TELLING_REFUSES)
         g_error("no memory is left");
     for (size_t i = 0; i < count; i++)
         if (names[i].kind == SYSTEMS && strcmp(asked->name, "profile") == 0)

@@ -5,34 +5,63 @@
 #include <stdlib.h>
 #include <string.h>
 
-/* The role of what has that name in a folder. */
-static uint32_t role_after(uint32_t role, const char *name, size_t len, bool is_folder)
+/* The parts of a path that begins with `/`. */
+static GArray *parts_of(const char *path)
 {
-    return dconfdb_role_after(role, (const uint8_t *)name, len, is_folder);
-}
-
-/* That of a folder's files, and how much of its path is that of the last NAME.d on it. */
-static uint32_t role_in(const char *folder, size_t *sources_len)
-{
-    uint32_t role = DCONFDB_ROLE_BY_ITS_TEXT;
-    *sources_len = 0;
-    for (const char *at = folder; *at;) {
+    GArray *parts = g_array_new(FALSE, FALSE, sizeof(DconfdbBytes));
+    for (const char *at = path; *at;) {
         const char *name = at + 1, *end = strchrnul(name, '/');
-        role = role_after(role, name, (size_t)(end - name), true);
-        if (role == DCONFDB_ROLE_KEYFILE)
-            *sources_len = (size_t)(end - folder);
+        DconfdbBytes part = {(const uint8_t *)name, (size_t)(end - name)};
+        g_array_append_val(parts, part);
         at = end;
     }
-    return role;
+    return parts;
+}
+
+/* How much of the path are so many of its parts. */
+static size_t len_of(const GArray *parts, size_t count)
+{
+    size_t len = 0;
+    for (size_t i = 0; i < count; i++)
+        len += 1 + g_array_index(parts, DconfdbBytes, i).len;
+    return len;
+}
+
+/* What is said of the file by its place: how much of its folder's path is that of the last NAME.d, and whether `update` reads it there. */
+typedef struct {
+    uint32_t as;
+    size_t sources_len;
+    bool is_source;
+} Standing;
+
+static Standing standing_of(const Asked *asked, uintmax_t size, const FileBytes *bytes)
+{
+    Standing standing = {0, 0, false};
+    const DconfdbBytes nothing = DCONFDB_NOTHING;
+    g_autoptr(GArray) parts = parts_of(asked->folder);
+    size_t sources = 0;
+    standing.as = dconfdb_read_as(parts->len > 0 ? (const DconfdbBytes *)(gpointer)parts->data : &nothing, parts->len, (const uint8_t *)asked->name,
+                                  strlen(asked->name), asked->is_one_read, size, bytes->len > 0 ? bytes->at : (const uint8_t *)"", bytes->len,
+                                  &sources, &standing.is_source);
+    standing.sources_len = len_of(parts, sources);
+    return standing;
+}
+
+uint32_t asked_read_as(const Asked *asked, uintmax_t size, const FileBytes *bytes)
+{
+    return standing_of(asked, size, bytes).as;
 }
 
 static Asked asked_file(const char *file)
 {
     char *path = g_canonicalize_filename(file, NULL);
     char *end = strrchr(path, '/');
-    Asked asked = {file, path, end + 1, 0, DCONFDB_ROLE_BY_ITS_TEXT, false};
+    const FileBytes none = {NULL, 0, false};
+    Asked asked = {file, path, end + 1, 0, false, false};
     *end = 0;
-    asked.role = role_after(role_in(path, &asked.sources_len), asked.name, strlen(asked.name), false);
+    Standing standing = standing_of(&asked, 0, &none);
+    asked.sources_len = standing.sources_len;
+    asked.is_source = standing.is_source;
     return asked;
 }
 
@@ -41,17 +70,12 @@ static char *sources_of(const Asked *asked)
     return g_strndup(asked->folder, asked->sources_len);
 }
 
-static bool is_read(const Asked *asked)
-{
-    return asked->role == DCONFDB_ROLE_KEYFILE || asked->role == DCONFDB_ROLE_LOCKS;
-}
-
 /* Beside which of them `update` reads one that is asked for, or itself. */
 static void find_read(Asked *asked, size_t count)
 {
     GHashTable *read = g_hash_table_new_full(g_str_hash, g_str_equal, g_free, NULL);
     for (size_t i = 0; i < count; i++)
-        if (is_read(&asked[i]))
+        if (asked[i].is_source)
             g_hash_table_add(read, sources_of(&asked[i]));
     for (size_t i = 0; i < count; i++) {
         char *sources = sources_of(&asked[i]);

@@ -236,35 +236,29 @@ uint32_t schemas_finding(const Schemas *schemas, const char *path, const Dconfdb
 
 /* ---- what is nearest */
 
-/* So much may be otherwise in a name of that length. */
-static int some(const char *name)
-{
-    return (int)MIN(1 + strlen(name) / 5, 64);
-}
-
 static char *nearest_directory(const Schemas *schemas, const char *directory)
 {
-    return g_strdup(nearest(schemas->directories, directory, some(directory)));
+    return g_strdup(nearest(schemas->directories, directory, false));
 }
 
 /* The nearest key of a directory. */
 static char *nearest_key(const Schemas *schemas, const char *directory, const char *name)
 {
-    const char *key = nearest(g_hash_table_lookup(schemas->keys, directory), name, some(name));
+    const char *key = nearest(g_hash_table_lookup(schemas->keys, directory), name, false);
     return key ? g_strconcat(directory, key, NULL) : NULL;
 }
 
 /* The nearest directory that has a key of the name. */
 static char *nearest_with(const Schemas *schemas, const char *directory, const char *name)
 {
-    const char *found = nearest(g_hash_table_lookup(schemas->with, name), directory, (int)strlen(directory) / 2);
+    const char *found = nearest(g_hash_table_lookup(schemas->with, name), directory, true);
     return found ? g_strconcat(found, name, NULL) : NULL;
 }
 
 /* Both names are unknown: the nearest path of a schema, and its nearest key. */
 static char *nearest_path(const Schemas *schemas, const char *directory, const char *name)
 {
-    const char *found = nearest(schemas->paths, directory, some(directory));
+    const char *found = nearest(schemas->paths, directory, false);
     return found ? nearest_key(schemas, found, name) : NULL;
 }
 

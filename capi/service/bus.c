@@ -31,7 +31,8 @@ void call_refuse(GDBusMethodInvocation *call, uint32_t served, const char *why)
                 [DCONFDB_SERVED_ODD] = {G_DBUS_ERROR_INVALID_ARGS, "the changes are not in normal form"},
                 [DCONFDB_SERVED_TOO_LARGE] = {G_DBUS_ERROR_LIMITS_EXCEEDED, "a change has at most 64 MiB"},
                 [DCONFDB_SERVED_TOO_MUCH] = {G_DBUS_ERROR_LIMITS_EXCEEDED, "10,000 changes, or 256 MiB of them, wait to be written already"},
-                [DCONFDB_SERVED_TOO_MANY_NAMES] = {G_DBUS_ERROR_LIMITS_EXCEEDED, "64 databases are in use already"}};
+                [DCONFDB_SERVED_TOO_MANY_NAMES] = {G_DBUS_ERROR_LIMITS_EXCEEDED, "64 databases are in use already"},
+                [DCONFDB_SERVED_LATE] = {G_DBUS_ERROR_FAILED, "the service ends, and could not write it in time"}};
     refuse(call, said[served].code, said[served].text ? said[served].text : why);
 }
 

@@ -2,6 +2,7 @@
 #include "looked.h"
 #include "service.h"
 
+#include <errno.h>
 #include <glib-unix.h>
 #include <stdlib.h>
 #include <unistd.h>
@@ -79,7 +80,8 @@ static void on_no_name(GDBusConnection *bus, const char *name, gpointer data)
 {
     Service *service = data;
     (void)bus;
-    if (service->had_name || g_dbus_connection_is_closed(service->bus)) {
+    const DconfdbServed known = {.had_name = service->had_name, .is_bus_closed = g_dbus_connection_is_closed(service->bus)};
+    if (dconfdb_served_after(DCONFDB_SERVED_NAMELESS, &known) == DCONFDB_SERVED_ENDS) {
         begin_end(service);
         return;
     }
@@ -140,6 +142,22 @@ static void clear(Service *service)
     place_release(&service->place);
 }
 
+static void make_folder(const char *path)
+{
+    if (g_mkdir_with_parents(path, 0700) != 0)
+        g_printerr("dconfdb-service: %s: %s\n", path, g_strerror(errno));
+}
+
+/* A sandbox is given dconf's two folders if they are there when it starts, so they are made before anybody sets or reads. */
+static void make_folders(const StorePlace *place)
+{
+    if (!place->is_dconfs)
+        return;
+    g_autofree char *flags = g_build_filename(g_get_user_runtime_dir(), "dconf", NULL);
+    make_folder(place->folder);
+    make_folder(flags);
+}
+
 static int serve(const char *folder)
 {
     static Service service;
@@ -148,6 +166,7 @@ static int serve(const char *folder)
         say(error.text);
         return 1;
     }
+    make_folders(&service.place);
     service.loop = g_main_loop_new(NULL, FALSE);
     service.writers = g_hash_table_new_full(g_str_hash, g_str_equal, NULL, (GDestroyNotify)writer_free);
     bool is_ready = connect_bus(&service);

@@ -34,23 +34,32 @@ static DconfdbStore *open_alone(const Service *service, const char *name, Dconfd
     return profile ? place_open(&place, error) : NULL;
 }
 
-static bool is_same_database(const DconfdbStore *one, const DconfdbStore *other)
+static bool has_same_file(const DconfdbStore *one, const DconfdbStore *other)
 {
     const char *file = dconfdb_store_user_file(one), *others = dconfdb_store_user_file(other);
     return file && others && strcmp(file, others) == 0;
 }
 
-/* The one that the profile makes, with its locks, where this is its user's database; else one of its own. */
+/* The one of both that has the database; the others are closed. */
+static DconfdbStore *keep(DconfdbStore *kept, DconfdbStore *one, DconfdbStore *other)
+{
+    if (one != kept)
+        dconfdb_store_close(one);
+    if (other != kept)
+        dconfdb_store_close(other);
+    return kept;
+}
+
 DconfdbStore *store_named(const Service *service, const char *name, DconfdbError *error)
 {
     DconfdbStore *alone = open_alone(service, name, error);
-    DconfdbStore *store = alone ? place_open(&service->place, error) : NULL;
-    if (!store || is_same_database(store, alone)) {
-        dconfdb_store_close(alone);
-        return store;
+    DconfdbStore *profiles = alone ? place_open(&service->place, error) : NULL;
+    const DconfdbServed known = {.is_open = alone, .is_profile_open = profiles, .has_same_file = profiles && has_same_file(profiles, alone)};
+    switch (dconfdb_served_after(DCONFDB_SERVED_OPENED, &known)) {
+    case DCONFDB_SERVED_PROFILES: return keep(profiles, profiles, alone);
+    case DCONFDB_SERVED_ALONE: return keep(alone, profiles, alone);
+    default: return keep(NULL, profiles, alone);
     }
-    dconfdb_store_close(store);
-    return alone;
 }
 
 /* ---- who is told of it */

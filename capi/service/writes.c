@@ -16,6 +16,7 @@ typedef struct {
     size_t count;       /* of their edits */
     Batch batch;
     bool is_done;
+    bool ends;     /* the service ended when that was known */
     uint32_t said; /* of the fault by which nothing could be written */
     DconfdbError refusal, fault;
 } Run;
@@ -97,7 +98,8 @@ static uint32_t served_of(const Run *run, const Change *change)
                            .is_normal = change->is_normal,
                            .has_edits = change->edits->len > 0,
                            .is_written = run->is_done,
-                           .is_closed = run->batch.is_closed};
+                           .is_closed = run->batch.is_closed,
+                           .ends = run->ends};
     return dconfdb_served_after(DCONFDB_SERVED_TRIED, &known);
 }
 
@@ -159,13 +161,19 @@ static void move_all(GQueue *from, GQueue *to)
         g_queue_push_tail_link(to, g_queue_pop_head_link(from));
 }
 
-/* Takes the oldest change that waits, and those behind it that are of the same database; what was tried before is taken already. `lock` is
- * held. */
+/* Whether a change that waits is written with those of that database. */
+static bool joins(const Change *change, const Writer *writer)
+{
+    const DconfdbServed known = {.is_same = change->writer == writer};
+    return dconfdb_served_after(DCONFDB_SERVED_WAITS, &known) == DCONFDB_SERVED_GOES_ON;
+}
+
+/* Takes the oldest change that waits, and those behind it that join it; what was tried before is taken already. `lock` is held. */
 static void take(Service *service, Run *run)
 {
     const GList *next = service->waiting.head;
     const Change *oldest = service->taken.length > 0 ? service->taken.head->data : next->data;
-    while (next && ((const Change *)next->data)->writer == oldest->writer) {
+    while (next && joins(next->data, oldest->writer)) {
         g_queue_push_tail_link(&service->taken, g_queue_pop_head_link(&service->waiting));
         next = service->waiting.head;
     }
@@ -193,6 +201,17 @@ static bool begin_try(Service *service, Run *run)
         take(service, run);
     g_mutex_unlock(&service->lock);
     return service->is_writing;
+}
+
+/* Whether what was tried is answered. From then on what isn't waits again, and the end may answer it. */
+static bool is_settled(Service *service, Run *run)
+{
+    g_mutex_lock(&service->lock);
+    run->ends = service->ends;
+    bool is = served_of(run, run->first->data) != DCONFDB_SERVED_GOES_ON;
+    service->is_writing = is;
+    g_mutex_unlock(&service->lock);
+    return is;
 }
 
 /* What is answered goes. What isn't is tried again after a pause. */
@@ -237,7 +256,7 @@ static bool write_run(Run *run, FolderLock *lock, const Turn *turn)
     g_mutex_lock(&writer->turn);
     write_in(run, turn);
     give(lock, turn);
-    bool is_over = served_of(run, run->first->data) != DCONFDB_SERVED_GOES_ON;
+    bool is_over = is_settled(writer->service, run);
     if (is_over)
         answer_all(run);
     g_mutex_unlock(&writer->turn);
@@ -348,21 +367,35 @@ bool service_begin_writing(Service *service)
 
 /* ---- the end */
 
+/* Moves what is answered at the end. `lock` is held. */
+static void move_late(GQueue *from, bool is_amid, GQueue *to)
+{
+    const DconfdbServed known = {.ends = true, .is_amid = is_amid};
+    if (dconfdb_served_after(DCONFDB_SERVED_ENDING, &known) != DCONFDB_SERVED_GOES_ON)
+        move_all(from, to);
+}
+
+/* Takes what the thread isn't amid, which it doesn't write from then on. Gives how many changes weren't answered. */
+static guint64 take_late(Service *service, GQueue *late)
+{
+    g_mutex_lock(&service->lock);
+    service->ends = true;
+    guint64 waiting = service->added - service->settled;
+    move_late(&service->taken, service->is_writing, late);
+    move_late(&service->waiting, false, late);
+    g_cond_broadcast(&service->comes);
+    g_mutex_unlock(&service->lock);
+    return waiting;
+}
+
 /* What waits stays in memory, since the thread may be reading it. */
 bool service_stop_writing(Service *service)
 {
-    GQueue left = G_QUEUE_INIT;
-    g_mutex_lock(&service->lock);
-    service->ends = true;
-    bool is_writing = service->is_writing;
-    if (!is_writing)
-        move_all(&service->taken, &left);
-    move_all(&service->waiting, &left);
-    g_cond_broadcast(&service->comes);
-    g_mutex_unlock(&service->lock);
-    for (const GList *at = left.head; at; at = at->next)
-        call_refuse(g_steal_pointer(&((Change *)at->data)->call), DCONFDB_SERVED_FAILED, "the service ends, and could not write it in time");
-    if (service->has_thread && !is_writing && left.length == 0)
+    GQueue late = G_QUEUE_INIT;
+    const DconfdbServed known = {.waiting = take_late(service, &late)};
+    for (const GList *at = late.head; at; at = at->next)
+        call_refuse(g_steal_pointer(&((Change *)at->data)->call), DCONFDB_SERVED_LATE, NULL);
+    if (service->has_thread && dconfdb_served_after(DCONFDB_SERVED_LEFT, &known) == DCONFDB_SERVED_GOES_ON)
         service->has_thread = pthread_join(service->thread, NULL) != 0;
     return !service->has_thread;
 }

@@ -61,8 +61,11 @@ static void try_one(const DconfdbLayer *old, const uint8_t *file, size_t len, co
 {
     DconfdbLayer alone = empty, after = empty;
     DconfdbUnsound broken = unbroken, told = unbroken;
-    uint32_t number = dconfdb_open(&empty, false, file, len, true, &alone, &broken);
-    TRY(dconfdb_open(old, false, file, len, true, &after, &told) == number);
+    uint32_t one = UINT32_MAX, other = UINT32_MAX;
+    uint32_t number = dconfdb_open(&empty, false, file, len, true, false, &alone, &broken, &one);
+    TRY(dconfdb_open(old, false, file, len, true, true, &after, &told, &other) == number);
+    TRY(one == (number == DCONFDB_OK ? DCONFDB_TELLING_NOTHING : DCONFDB_TELLING_REFUSES));
+    TRY(other == (number == DCONFDB_OK ? DCONFDB_TELLING_NOTHING : DCONFDB_TELLING_KEPT));
     TRY(broken.rule == told.rule && broken.item == told.item && broken.has_item == told.has_item);
     TRY(is_same_layer(&alone, &after));
     asked++;
@@ -97,13 +100,14 @@ int main(int argc, char **argv)
     char name[LONGEST_NAME], before[LONGEST_NAME];
     DconfdbLayer site = empty;
     DconfdbUnsound broken = unbroken;
+    uint32_t telling = DCONFDB_TELLING_NOTHING;
     TRY(argc == 2);
     File sites = read_whole(argv[1]);
-    TRY(dconfdb_open(&empty, false, sites.at, sites.len, true, &site, &broken) == DCONFDB_OK);
+    TRY(dconfdb_open(&empty, false, sites.at, sites.len, true, false, &site, &broken, &telling) == DCONFDB_OK);
     while (scanf("%4095s %4095s", name, before) == 2) {
         File file = read_whole(name), old = read_whole(before);
         DconfdbLayer layer = empty;
-        TRY(dconfdb_open(&empty, false, old.at, old.len, true, &layer, &broken) == DCONFDB_OK);
+        TRY(dconfdb_open(&empty, false, old.at, old.len, true, false, &layer, &broken, &telling) == DCONFDB_OK);
         try_one(&layer, file.at, file.len, &site);
         try_one(&empty, file.at, file.len, &site);
         if (strcmp(name, before) == 0)

@@ -60,10 +60,10 @@ void dconfdb_turn_answered(DconfdbTurn *turn, uint32_t fault, size_t n, DconfdbS
 
 /* ---- what is asked before a change, and what a program has of it */
 
-uint32_t dconfdb_making_after(bool makes_file, bool is_unsettled, uint32_t ask, uint32_t found)
+uint32_t dconfdb_making_after(bool makes_file, bool is_unsettled, bool is_expected, uint32_t ask, uint32_t found)
 {
-    CHECK(ask < DCONFDB_MAKING_READY && found <= DCONFDB_FOUND_FAULT, "answer: one to a question");
-    return making[makes_file][is_unsettled][ask][found];
+    CHECK(ask < MAKING_ASKS && found <= DCONFDB_FOUND_FAULT, "answer: one to a question");
+    return making[4 * makes_file + 2 * is_unsettled + is_expected][ask][found];
 }
 
 void dconfdb_ending(uint32_t outcome, uint32_t fault, bool is_unsettled, bool is_aside, DconfdbEnding *ending)
@@ -76,9 +76,10 @@ void dconfdb_ending(uint32_t outcome, uint32_t fault, bool is_unsettled, bool is
 
 /* ---- what a fault is, and permission bits */
 
-uint32_t dconfdb_fault_answer(uint32_t call, uint32_t fault)
+uint32_t dconfdb_fault_answer(uint32_t call, uint32_t fault, DconfdbRenamed *renamed)
 {
     CHECK(call < CALLS && fault < FAULTS, "answer: an errno, of a call to which it may be something else");
+    *renamed = renamed_given(call, fault, fault_answers[call][fault]);
     return fault_answers[call][fault];
 }
 
@@ -86,11 +87,6 @@ uint32_t dconfdb_standing(uint32_t purpose, const DconfdbStood *stood, uint32_t 
 {
     CHECK(purpose <= DCONFDB_TO_OPEN_FOLDER && __CPROVER_r_ok(stood, sizeof *stood), "answer: a purpose");
     return standing_given(purpose, stood, fault);
-}
-
-uint32_t dconfdb_error_code(bool of_lock, uint32_t fault)
-{
-    return error_code_given(of_lock, fault);
 }
 
 uint32_t dconfdb_settling_after(uint32_t task, bool yes, const DconfdbSettling *known)

@@ -25,22 +25,24 @@ static uint16_t queue_first_of(const DconfdbQueued *edits, size_t count)
     return queue_first[0];
 }
 
-static void queue_tells(DconfdbNext *step)
+/* As explore.c has what is told, and kept. */
+static void queue_tells(DconfdbQueueStep *step)
 {
-    *step = (DconfdbNext){queue_states[queue_state].step.kind, queue_states[queue_state].step.number};
+    const DconfdbStep *is = &queue_states[queue_state].step;
+    *step = (DconfdbQueueStep){is->kind, is->number, is->has_number, is->fault != 0};
     if (at_next)
-        at_next(step);
+        at_next(&(DconfdbNext){is->kind, is->number});
 }
 
-static void queue_begins(DconfdbQueue *queue, const DconfdbQueued *edits, size_t count, DconfdbNext *step)
+static void queue_begins(DconfdbQueue *queue, const DconfdbQueued *edits, size_t count, DconfdbQueueStep *step)
 {
     GIVEN(count <= QUEUE_EDITS);
-    *queue = (DconfdbQueue){.stage = BEYOND};
+    *queue = (DconfdbQueue){.is_closed = false};
     queue_state = queue_first_of(edits, count);
     queue_tells(step);
 }
 
-void dconfdb_queue_answered(DconfdbQueue *queue, DconfdbQueued *edits, size_t count, uint32_t answer, size_t at, DconfdbNext *step)
+void dconfdb_queue_answered(DconfdbQueue *queue, DconfdbQueued *edits, size_t count, uint32_t answer, size_t at, DconfdbQueueStep *step)
 {
     CHECK(count == 0 || __CPROVER_r_ok(edits, count * sizeof *edits), "memory: edits that are there");
     CHECK(__CPROVER_r_ok(queue, sizeof *queue), "memory: a queue");
@@ -48,10 +50,11 @@ void dconfdb_queue_answered(DconfdbQueue *queue, DconfdbQueued *edits, size_t co
         queue_begins(queue, edits, count, step);
         return;
     }
-    CHECK(answer <= DCONFDB_QUEUE_LATER && (answer != DCONFDB_QUEUE_FAULT || at <= count), "answer: one to a step");
+    CHECK(answer <= DCONFDB_QUEUE_CLOSED && (answer != DCONFDB_QUEUE_FAULT || at <= count), "answer: one to a step");
     if (at_next_answer)
         at_next_answer(answer, at);
-    queue->stage = queue_state = within(queue_states[queue_state].after[queue_answer(answer, at)]);
+    queue->is_closed = queue->is_closed || answer == DCONFDB_QUEUE_CLOSED;
+    queue_state = within(queue_states[queue_state].after[queue_answer(answer, at)]);
     queue_marked(queue_states[queue_state].seen, edits, count);
     queue_tells(step);
 }

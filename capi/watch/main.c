@@ -5,6 +5,7 @@
 #include "lists.h"
 #include "looked.h"
 #include "notices.h"
+#include "options.h"
 #include "place.h"
 #include "printed.h"
 #include "profiles.h"
@@ -13,7 +14,6 @@
 #include "watch.h"
 
 #include <errno.h>
-#include <getopt.h>
 #include <limits.h>
 #include <poll.h>
 #include <stdio.h>
@@ -192,17 +192,6 @@ static int watch_until_interrupted(Watching *watch)
     return 1;
 }
 
-/* A profile that the environment names has to be there when it begins; any other file may come. */
-static bool has_named_profile(const Watching *watch)
-{
-    DconfdbError fault = DCONFDB_ERROR_INIT;
-    if (place_has_profile(watch->store))
-        return true;
-    dconfdb_store_profile_fault(watch->store, &fault);
-    fprintf(stderr, "error: %s %s\n", fault.errnum == ENOENT ? "NoFile" : "Device", place_profile_name(&watch->place));
-    return false;
-}
-
 /* What is watched, before anything is read of it: what changes meanwhile is told of. False: it can't be. */
 static bool prepare(Watching *watch, DconfdbError *error)
 {
@@ -228,8 +217,6 @@ static int start(Watching *watch)
         warn(error.text);
         return 1;
     }
-    if (!has_named_profile(watch))
-        return 1;
     watch->before = dconfdb_store_snapshot(watch->store);
     watch_opened_anew(watch->names);
     warned_renew(&watch->warned, watch->store, NULL, say, NULL);
@@ -272,59 +259,27 @@ static const char *fault_of_path(const char *path)
     }
 }
 
-static int refuse_words(const char *why)
-{
-    fprintf(stderr, "error: %s\n\nUsage: dconfdb watch [OPTIONS] <PATH>\n\nFor more information, try '--help'.\n", why);
-    return 2;
-}
-
 /* What the words ask for. */
 typedef struct {
-    const char *folder;
-    bool is_users;
+    const char *folder, *path;
 } Asked;
 
-/* Takes an option. Its answer is a status, or GOES_ON. */
-enum { GOES_ON = -1 };
-
-static int take_option(int option, Asked *asked)
+static void keep(void *it, uint32_t said, const char *text)
 {
-    if (option == 'h')
-        return fputs(help, stdout) < 0 || fflush(stdout) != 0;
-    if (option == '?')
-        return refuse_words("an option is wrong");
-    if (option == 'u' ? asked->is_users : asked->folder != NULL)
-        return refuse_words("an option is given twice");
-    if (option == 'u')
-        asked->is_users = true;
+    Asked *asked = it;
+    if (said == DCONFDB_SAID_FOLDER)
+        asked->folder = text;
     else
-        asked->folder = optarg;
-    return GOES_ON;
-}
-
-static int take_options(int count, char **words, Asked *asked)
-{
-    static const struct option options[] = {
-        {"store", required_argument, NULL, 's'}, {"user", no_argument, NULL, 'u'}, {"help", no_argument, NULL, 'h'}, {0}};
-    int option, status = GOES_ON;
-    while (status == GOES_ON && (option = getopt_long(count, words, "h", options, NULL)) != -1)
-        status = take_option(option, asked);
-    if (status != GOES_ON)
-        return status;
-    if (asked->is_users && asked->folder)
-        return refuse_words("--user and --store exclude each other");
-    if (count - optind != 1)
-        return refuse_words(count == optind ? "no PATH is given" : "more than one PATH is given");
-    return GOES_ON;
+        asked->path = text;
 }
 
 int main(int count, char **words)
 {
-    Asked asked = {NULL, false};
-    int status = take_options(count, words, &asked);
+    Asked asked = {NULL, NULL};
+    int status = words_read(&(Words){false, help, "dconfdb watch [OPTIONS] <PATH>", "PATH", keep, &asked}, count, words);
     if (status != GOES_ON)
         return status;
-    Watching watch = {.path = words[optind]};
+    Watching watch = {.path = asked.path};
     const char *fault = fault_of_path(watch.path);
     if (!fault)
         return start_at(asked.folder, &watch);

@@ -56,7 +56,7 @@ static void has_room(size_t count)
 {
     CHECK(__CPROVER_w_ok(batch.queued, count * sizeof *batch.queued) && __CPROVER_w_ok(batch.edits, count * sizeof *batch.edits), "memory: each edit has room");
     CHECK(__CPROVER_w_ok(batch.moments, count * sizeof *batch.moments) && __CPROVER_w_ok(batch.asked, count * sizeof *batch.asked), "memory: each edit has room");
-    CHECK(__CPROVER_w_ok(batch.numbers, count * sizeof *batch.numbers) && __CPROVER_w_ok(batch.made, count * sizeof *batch.made), "memory: each edit has room");
+    CHECK(__CPROVER_w_ok(batch.made, count * sizeof *batch.made), "memory: each edit has room");
 }
 
 /* All are taken but the first, or that, too; what they wait by stays. */
@@ -76,7 +76,7 @@ static void are_taken(size_t count)
         CHECK(batch.edits[i] == &edits[i] && batch.moments[i] == 7 + i && batch.queued[i].change == 0 && !batch.queued[i].is_refused, "answer: what waits is what was set");
         CHECK(batch.queued[i].sets == (edits[i].type != NULL), "answer: what waits is what was set");
         if (i >= first)
-            CHECK(batch.asked[i - first].path == edits[i].path && batch.numbers[i - first] == i && batch.made[i - first].moment == 7 + i && batch.made[i - first].change == 0, "answer: it is taken with its number, its moment and its change");
+            CHECK(batch.asked[i - first].path == edits[i].path && batch.made[i - first].moment == 7 + i && batch.made[i - first].change == 0, "answer: it is taken with its moment and its change");
     }
     batch_end(&batch);
     if (first == 1)
@@ -118,7 +118,7 @@ bool dconfdb_snapshot_is_writable(const DconfdbSnapshot *snapshot, const char *p
 bool dconfdb_may_be_made(const uint8_t *path, size_t len, bool sets, bool is_open, bool may_write)
 {
     CHECK((const char *)path == edits[0].path && len == 2 && sets == (edits[0].type != NULL), "step: what is asked is whether the edit may be made");
-    CHECK(is_open == !batch.is_closed && may_write == is_left, "step: by whether somebody may write there, and the key may be written");
+    CHECK(is_open == !batch.queue.is_closed && may_write == is_left, "step: by whether somebody may write there, and the key may be written");
     answers++;
     return may_be = any_bool();
 }
@@ -170,47 +170,33 @@ uint32_t dconfdb_verdict(uint32_t code, uint32_t fault)
 static DconfdbQueued queued[QUEUE_EDITS];
 static const DconfdbEdit *edits_at[QUEUE_EDITS] = {&edits[0], &edits[1]};
 static DconfdbEdit asked_room[QUEUE_EDITS];
-static size_t numbers[QUEUE_EDITS];
 static Made made_room[QUEUE_EDITS];
 
 static void set_up(void)
 {
-    batch = (Batch){.count = any_size(), .taken = any_size(), .is_closed = any_bool(), .queued = queued, .edits = edits_at,
-                    .asked = asked_room, .numbers = numbers, .made = made_room};
+    batch = (Batch){.count = any_size(), .taken = any_size(), .queue = {.is_closed = any_bool()}, .queued = queued, .edits = edits_at,
+                    .asked = asked_room, .made = made_room};
     GIVEN(batch.count <= QUEUE_EDITS && batch.taken <= batch.count);
-    for (size_t i = 0; i < QUEUE_EDITS; i++) {
+    for (size_t i = 0; i < QUEUE_EDITS; i++)
         queued[i] = (DconfdbQueued){0, any_bool(), any_bool(), any_bool()};
-        numbers[i] = any_size();
-        GIVEN(numbers[i] < batch.count || i >= batch.taken);
-    }
     was_taken = batch.taken;
     turn = (Turn){&lock, any_bool() ? 0 : any_fault()};
-}
-
-static bool any_refused(void)
-{
-    return (batch.count > 0 && queued[0].is_refused) || (batch.count > 1 && queued[1].is_refused);
 }
 
 /* harness batch_write_taken: unwind 4, quick */
 int batch_write_taken(void)
 {
-    DconfdbError refusal, fault;
+    DconfdbError fault;
     set_up();
-    refusal.code = DCONFDB_ERROR_NONE;
-    refusal.edit = 77;
+    GIVEN(batch.taken > 0);
     size_t at = 0;
-    bool was_closed = batch.is_closed;
     is_written = true;
-    uint32_t answer = real_write_taken(&batch, store, &turn, &at, &refusal, &fault);
-    CHECK(writes == (was_taken > 0), "step: what was taken is written once; of nothing there is no write");
+    uint32_t answer = real_write_taken(&batch, store, &turn, &at, &fault);
+    CHECK(writes == 1, "step: what was taken is written once");
     CHECK(batch.taken == 0, "step: it is not written again");
     CHECK(answer == (is_written ? DCONFDB_QUEUE_YES : verdict_given), "answer: what became of the write");
-    CHECK(is_written || at == (written.edit < was_taken ? numbers[written.edit] : batch.count), "answer: the edit that is at fault");
-    bool is_first = !is_written && !any_refused();
-    CHECK(is_first ? refusal.code == written.code && refusal.edit == written.edit : refusal.code == DCONFDB_ERROR_NONE && refusal.edit == 77, "answer: the first fault by which one is refused is kept");
-    CHECK(batch.is_closed == (is_written ? was_closed : verdict_given == DCONFDB_QUEUE_CLOSED), "answer: whether nobody may write there");
-    if (!is_written && was_taken == 1 && written.edit == 0 && numbers[0] == 1)
+    CHECK(is_written || at == written.edit, "answer: the edit that is at fault");
+    if (!is_written && was_taken == 2 && written.edit == 1)
         REACHED("the second edit is at fault");
     return 0;
 }
@@ -225,7 +211,7 @@ int batch_ask(void)
     CHECK(had == 0, "memory: the snapshot is given back");
     CHECK(asks == 1 && answers == 1, "step: it is asked once");
     CHECK(answer == (may_be ? DCONFDB_QUEUE_YES : DCONFDB_QUEUE_LOCKED), "answer: it may be made, or is locked");
-    if (answer == DCONFDB_QUEUE_LOCKED && !batch.is_closed)
+    if (answer == DCONFDB_QUEUE_LOCKED && !batch.queue.is_closed)
         REACHED("a locked key");
     return 0;
 }
@@ -234,7 +220,7 @@ int batch_ask(void)
 
 static DconfdbNext step;
 static bool is_amid;
-static unsigned done, refused;
+static unsigned done, refused, kept;
 static uint32_t given;
 static size_t given_at;
 
@@ -261,18 +247,20 @@ static void take(Batch *of, size_t number)
     done++;
 }
 
-static uint32_t write_taken(Batch *of, DconfdbStore *at, const Turn *by, size_t *fault_at, DconfdbError *refusal, DconfdbError *fault)
+/* Each fault has its number. The first one by which a change is refused is to be kept. */
+static uint32_t write_taken(Batch *of, DconfdbStore *at, const Turn *by, size_t *fault_at, DconfdbError *fault)
 {
     CHECK(of == &batch && at == store && by == &turn && is_amid && step.kind == DCONFDB_QUEUE_WRITE, "step: a write, where one is to be");
     done++;
     given = any_u32();
     given_at = any_size();
-    GIVEN(given <= DCONFDB_QUEUE_LATER && given_at <= batch.count);
+    GIVEN(given <= DCONFDB_QUEUE_CLOSED && given_at <= batch.count);
     if (given != DCONFDB_QUEUE_YES) {
         *fault_at = given_at;
         fault->code = DCONFDB_ERROR_FILE;
-        refusal->code = DCONFDB_ERROR_FILE;
-        refused++;
+        fault->errnum = (int)++refused;
+        if (!(batch.count > 0 && queued[0].is_refused) && !(batch.count > 1 && queued[1].is_refused))
+            kept = refused;
     }
     return given;
 }
@@ -290,28 +278,30 @@ static void is_gone_through(size_t count)
     DconfdbError refusal, fault;
     at_next = begins;
     at_next_answer = ends;
-    batch = (Batch){.count = count, .is_closed = false, .queued = queued, .edits = edits_at};
+    batch = (Batch){.count = count, .queued = queued, .edits = edits_at};
     for (size_t i = 0; i < count; i++)
         queued[i] = (DconfdbQueued){i == 1 && any_bool() ? 1 : 0, any_bool(), any_bool(), false};
     refusal.code = any_bool() ? DCONFDB_ERROR_MEMORY : DCONFDB_ERROR_NONE;
+    refusal.errnum = 0;
     bool is = batch_write(&batch, store, &turn, &refusal, &fault);
     CHECK(!is_amid && step.kind == (is ? DCONFDB_QUEUE_WRITTEN : DCONFDB_QUEUE_WAITING), "answer: written, if the steps end so");
     CHECK(is || refused > 0, "answer: what waits again has failed");
-    CHECK(refusal.code == DCONFDB_ERROR_NONE || refused > 0, "answer: what is told was refused");
+    CHECK(refusal.code == DCONFDB_ERROR_NONE || (refused > 0 && refusal.errnum == (int)kept), "answer: what is told is the first fault by which one is refused");
+    CHECK((refusal.code != DCONFDB_ERROR_NONE) == (batch.is_closed || (count > 0 && queued[0].is_refused) || (count > 1 && queued[1].is_refused)), "answer: something is told where a change is refused, or nobody may write there");
     for (size_t i = 0; i < count; i++)
         CHECK(!batch_is_refused(&batch, i) || refused > 0, "answer: what is refused has failed");
     if (is && refused > 0)
         REACHED("one is refused, and the others are written");
 }
 
-/* harness batch_loop_one: unwind 4, loops write_in_steps.0:9 queue_first_of.1:38, with waits.c */
+/* harness batch_loop_one: unwind 4, loops batch_write.0:9 queue_first_of.1:38, with waits.c */
 int batch_loop_one(void)
 {
     is_gone_through(1);
     return 0;
 }
 
-/* harness batch_loop: unwind 4, long, loops write_in_steps.0:14 queue_first_of.1:38, with waits.c */
+/* harness batch_loop: unwind 4, long, loops batch_write.0:14 queue_first_of.1:38, with waits.c */
 int batch_loop(void)
 {
     is_gone_through(2);

@@ -2,7 +2,6 @@
 #define MOST_DATABASES 2
 #define FEW_DATABASES 2
 #include "libdconfdb/change.c"
-#include "machines/given.h"
 #include "parts.h"
 
 /* narrows libdconfdb/dconfdb.h: char text[512]; => char text[8]; */
@@ -84,31 +83,26 @@ bool store_settle_name(const DconfdbStore *at, const char *name, DconfdbError *e
     return is;
 }
 
+static int look_fault;
+static bool is_found;
+
 int file_look(const char *name, FileState *state)
 {
     CHECK(__CPROVER_r_ok(name, 1), "memory: a name");
-    state->is_there = any_bool();
-    return any_fault();
+    is_found = state->is_there = any_bool();
+    return look_fault = any_fault();
 }
 
-bool refuse(DconfdbError *error, DconfdbErrorCode code, int fault, Place place, const char *format, ...)
+/* Each name that may be said is there: that of the user's file, if there is one. */
+bool refuse_locking(DconfdbError *error, const DconfdbFaultMet *met, const char *const names[])
 {
-    (void)error, (void)code, (void)fault, (void)place, (void)format;
+    (void)error;
+    CHECK(met->of == DCONFDB_FAULT_OF_LOCK && met->number > 0 && met->wait == (uint32_t)store.options.longest_wait, "answer: a fault of the lock");
+    CHECK(met->looked == (uint32_t)look_fault && met->is_there == is_found, "answer: whether its file is there");
+    CHECK(met->has_user == (store.user_file != NULL) && names[DCONFDB_NAMES_IT] == store.user_file, "answer: whether a database is the user's");
+    CHECK(__CPROVER_r_ok(names[DCONFDB_NAMES_LOCK], 1) && names[DCONFDB_NAMES_FOLDER] == store.place.folder, "answer: the lock's name, and the folder's");
     refused++;
     return false;
-}
-
-bool refuse_file(DconfdbError *error, int fault, const char *name, Place place)
-{
-    (void)error, (void)place;
-    CHECK(fault > 0 && __CPROVER_r_ok(name, 1), "answer: a fault, of a file");
-    refused++;
-    return false;
-}
-
-uint32_t dconfdb_error_code(bool of_lock, uint32_t fault)
-{
-    return error_code_given(of_lock, fault);
 }
 
 /* Once it is known what stands at the name: a file is made, or none is. */

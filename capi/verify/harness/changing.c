@@ -19,9 +19,9 @@ Order *store_read_order(DconfdbStore *at, Asking *of, const DconfdbSnapshot *bef
     return order_room_now = is ? &store.order : NULL;
 }
 
-int replacing_look(Replacing *at, bool keeps, const FileState *read, size_t *bits)
+int replacing_look(Replacing *at, bool is_bad, const FileState *read, size_t *bits)
 {
-    CHECK(at == &it.replacing && keeps == (part_fault(&old_parts[0]) != NULL) && read == &old_parts[0].state, "step: a bad file is to be set aside");
+    CHECK(at == &it.replacing && is_bad == (part_fault(&old_parts[0]) != NULL) && read == &old_parts[0].state, "answer: whether something was wrong with it");
     CHECK(atomic_load(&store.is_amid), "order: others are told that the turn has begun");
     *bits = any_size();
     return any_fault();
@@ -31,6 +31,7 @@ bool asking_is_as_expected(const DconfdbSnapshot *now, const Asking *of, Dconfdb
 {
     (void)error;
     CHECK(now == &old_room && of == &asking, "step: what is expected is what is seen now");
+    CHECK(asking.expected && asking.expected != now, "step: it is asked of what is expected, and isn't the newest");
     bool is = any_bool();
     refused += !is;
     return is;
@@ -79,6 +80,12 @@ bool part_blame(Part *part, const DconfdbError *fault, DconfdbError *error)
     }
     refused++;
     return false;
+}
+
+/* Whatever is seen, what is the newest, or something else. */
+static void expect_any(void)
+{
+    asking.expected = any_bool() ? NULL : any_bool() ? &old_room : &newer_room;
 }
 
 /* ---- reading, making and noting, one by one */
@@ -166,6 +173,7 @@ int changing_make_(void)
 {
     static DconfdbError error;
     set_up();
+    expect_any();
     it.order = &store.order;
     it.error = any_bool() ? &error : NULL;
     size_t asked = asking.count;
@@ -186,6 +194,7 @@ int changing_make_(void)
 int change_is_well_(void)
 {
     set_up();
+    expect_any();
     is_well = true;
     bool is = change_is_well(&store, &asking, NULL);
     CHECK(!has_bytes_read, "memory: the bytes are released");

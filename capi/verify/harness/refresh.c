@@ -51,12 +51,6 @@ uint64_t file_clock(void)
     return any_u64();
 }
 
-uint32_t dconfdb_open(const DconfdbLayer *old, bool was_mapped, const uint8_t *file, size_t len, bool is_there, DconfdbLayer *layer, DconfdbUnsound *broken)
-{
-    (void)old, (void)was_mapped, (void)file, (void)len, (void)is_there, (void)layer, (void)broken;
-    return any_u32();
-}
-
 Part *part_open(const Asked *asked, FileState state, FileBytes bytes, const Part *old, DconfdbError *error)
 {
     (void)state, (void)error;

@@ -130,7 +130,8 @@ int set_aside(void)
         REACHED("it is set aside");
     }
     if (is_asked && link->fault != 0 && link->fault != EEXIST) {
-        uint32_t answer = dconfdb_fault_answer(DCONFDB_CALL_SET_ASIDE, (uint32_t)link->fault);
+        DconfdbRenamed renamed;
+        uint32_t answer = dconfdb_fault_answer(DCONFDB_CALL_SET_ASIDE, (uint32_t)link->fault, &renamed);
         CHECK(!it.is_aside && (cannot != 0) == (answer == DCONFDB_ANSWER_NAMELESS), "answer: it can't be linked");
         CHECK(fault == (cannot != 0 || answer == DCONFDB_ANSWER_NOTHING ? 0 : link->fault), "answer: the fault of the link");
     }
@@ -154,7 +155,10 @@ int exchange(void)
     if (count_of[RENAMEAT2] == 2)
         CHECK(rename->flags == RENAME_EXCHANGE && rename->name == it.aside && rename->other == name, "step: they change places");
     CHECK(count_of[UNLINKAT] == 0 || (rename->fault != 0 && rename->fault != EIO && last[UNLINKAT].name == it.aside), "step: what is removed is the new file, and never what may have the name");
-    CHECK(count_of[UNLINKAT] == 0 || dconfdb_fault_answer(DCONFDB_CALL_PLACE, (uint32_t)fault) != DCONFDB_ANSWER_UNSURE, "step: nothing is removed that may be the old file");
+    DconfdbRenamed renamed;
+    uint32_t answer = dconfdb_fault_answer(DCONFDB_CALL_PLACE, (uint32_t)fault, &renamed);
+    CHECK(count_of[UNLINKAT] == 0 || answer != DCONFDB_ANSWER_UNSURE, "step: nothing is removed that may be the old file");
+    CHECK(fault == 0 || count_of[RENAMEAT2] != 2 || (count_of[UNLINKAT] == 1) == renamed.goes, "step: what is surely the new file's is removed");
     CHECK(file_is_one(&before, &state), "answer: the state is of the new file");
     CHECK(count_of[FSTATAT] == 0 || (fault == 0 && when_of[FSTATAT] > when_of[RENAMEAT2] && last[FSTATAT].name == name), "order: its state is of after");
     if (fault == 0)
@@ -204,41 +208,38 @@ int remove_(void)
     return 0;
 }
 
-static const DconfdbOldFile *asked_old;
-static bool keeps_aside;
+static unsigned asked_old;
+static bool was_bad;
+static uint32_t owner_answer, owner_bits;
 
-/* Any owner and bits, where there are some. */
-uint32_t dconfdb_owner_and_bits(const DconfdbOldFile *old, const DconfdbFileOwner *above, bool is_root, bool keeps, DconfdbNewFile *given)
+/* Any owner and bits, where there are some. Where it leads, nothing is a link. */
+uint32_t dconfdb_owner_and_bits(const DconfdbOldFile *old, const DconfdbFileOwner *above, bool is_root, bool is_bad, DconfdbNewFile *given)
 {
-    CHECK(old->is_there == was_done(FSTATAT) && keeps == keeps_aside, "answer: what is there is what was found");
+    CHECK(old->is_there == was_done(FSTATAT) && is_bad == was_bad, "answer: what is there is what was found");
+    CHECK(last[FSTATAT].flags == (asked_old == 0 ? AT_SYMLINK_NOFOLLOW : 0), "step: a link is followed only once that is said");
     CHECK(__CPROVER_r_ok(above, sizeof *above) && was_done(FSTAT) && is_root == (geteuid() == 0), "answer: whose the folder is, and who this is");
-    asked_old = old;
-    uint32_t answer = any_u32();
-    GIVEN(answer == 0 || answer == EACCES || answer == EAGAIN);
-    if (answer == 0) {
-        *given = (DconfdbNewFile){any_u32(), any_u32(), any_u32()};
-        GIVEN(given->bits < SET_ASIDE);
-    }
-    return answer;
+    owner_answer = any_u32();
+    GIVEN(owner_answer == 0 || owner_answer == EACCES || owner_answer == EAGAIN || (owner_answer == ELOOP && asked_old == 0 && old->is_there && old->is_link && !is_bad));
+    asked_old++;
+    if (owner_answer == 0)
+        *given = (DconfdbNewFile){any_u32(), any_u32(), owner_bits = any_u32()};
+    return owner_answer;
 }
 
 /* harness look_at_old: unwind 6, with machines.c, quick */
 int look_at_old_(void)
 {
     size_t bits = any_size();
-    bool keeps = any_bool();
     FileState read;
     read.is_there = any_bool();
-    keeps_aside = keeps;
+    was_bad = any_bool();
     begin();
-    int fault = replacing_look(&it, keeps, &read, &bits);
-    CHECK(count_of[FSTATAT] == 1 && last[FSTATAT].name == name && last[FSTATAT].file == folder, "step: NAME is looked at, once");
-    CHECK(last[FSTATAT].flags == (keeps ? AT_SYMLINK_NOFOLLOW : 0), "step: what is set aside is a link itself");
-    CHECK(fault != 0 || (asked_old && (keeps ? bits >= SET_ASIDE && bits < 2 * SET_ASIDE : bits < SET_ASIDE)), "answer: its bits, 512 more if it is set aside");
-    CHECK(fault == 0 || asked_old || fault == last[FSTATAT].fault || fault == last[FSTAT].fault, "answer: the fault of what failed");
-    CHECK(fault == 0 || !asked_old || fault == EACCES || fault == EAGAIN, "answer: it may not be given, or not yet");
-    if (fault == 0)
-        REACHED("bits");
+    int fault = replacing_look(&it, was_bad, &read, &bits);
+    CHECK(count_of[FSTATAT] <= 2 && (count_of[FSTATAT] == 0 || (last[FSTATAT].name == name && last[FSTATAT].file == folder)), "step: NAME is looked at, and no more than where it leads");
+    CHECK(fault != 0 || (asked_old > 0 && owner_answer == 0 && bits == owner_bits), "answer: the bits that are given");
+    CHECK(fault == 0 || fault == last[FSTATAT].fault || fault == last[FSTAT].fault || (asked_old > 0 && fault == (int)owner_answer), "answer: the fault of what failed");
+    if (fault == 0 && count_of[FSTATAT] == 2)
+        REACHED("bits, where a link leads");
     end();
     return 0;
 }

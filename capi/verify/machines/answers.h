@@ -42,6 +42,9 @@ static inline void ending_asked(uint32_t number, uint32_t *outcome, uint32_t *fa
     *is_unsettled = number % 2 == 1;
 }
 
+/* What is asked before a change, and of its notes; and what is known of it. */
+enum { MAKING_ASKS = DCONFDB_MAKING_UNNOTED + 1, MAKING_KNOWN = 8 };
+
 /* The errnos, and 0, and the calls to which one may be another thing than a fault. */
 enum { FAULTS = 134, CALLS = DCONFDB_CALL_PLACE + 1 };
 
@@ -82,13 +85,13 @@ static inline void queue_marked(uint32_t seen, DconfdbQueued *edits, size_t coun
     }
 }
 
-/* Its answers: yes, locked, later, and a fault of each edit, or of none. */
-enum { QUEUE_YES, QUEUE_LOCKED, QUEUE_LATER, QUEUE_FAULT, QUEUE_ANSWERS = QUEUE_FAULT + QUEUE_EDITS + 1 };
+/* Its answers: yes, locked, later, closed, and a fault of each edit that was taken, or of none. */
+enum { QUEUE_YES, QUEUE_LOCKED, QUEUE_LATER, QUEUE_CLOSED, QUEUE_FAULT, QUEUE_ANSWERS = QUEUE_FAULT + QUEUE_EDITS + 1 };
 
 static inline uint32_t queue_answer(uint32_t answer, size_t at)
 {
     return answer == DCONFDB_QUEUE_YES ? QUEUE_YES : answer == DCONFDB_QUEUE_LOCKED ? QUEUE_LOCKED : answer == DCONFDB_QUEUE_LATER ? QUEUE_LATER
-        : QUEUE_FAULT + (uint32_t)at;
+        : answer == DCONFDB_QUEUE_CLOSED ? QUEUE_CLOSED : QUEUE_FAULT + (uint32_t)at;
 }
 
 /* A wait of 0 or 2 milliseconds, or one without end; of so many that have passed, or of a clock that fails. It finds the lock taken (EAGAIN) or

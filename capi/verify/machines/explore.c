@@ -254,7 +254,8 @@ static void answer_fault(DconfdbRefresh *refresh, bool is_own, DconfdbNext *next
         DconfdbNext then = {0, 0};
         dconfdb_refresh_answered(&other, false, fault, &then);
         bool is_alike = then.kind == next->kind && then.number == next->number;
-        if ((dconfdb_fault_answer(DCONFDB_CALL_OPEN, fault) == DCONFDB_ANSWER_OWN) == is_own && !is_alike)
+        DconfdbRenamed none;
+        if ((dconfdb_fault_answer(DCONFDB_CALL_OPEN, fault, &none) == DCONFDB_ANSWER_OWN) == is_own && !is_alike)
             fail("refresh", "another errno of that class is something else");
     }
 }
@@ -277,31 +278,40 @@ static bool refresh_answered(void *it, const Step *step, int number)
 
 typedef struct {
     DconfdbQueue queue;
-    DconfdbNext next;
+    DconfdbQueueStep next;
     size_t count;
     DconfdbQueued edits[QUEUE_EDITS];
 } Waiting;
 
-static void queue_begins(void *it, int number)
+static void is_at_queue_step(DconfdbQueueStep *it, const DconfdbQueueStep *next)
 {
-    DconfdbNext next = {0};
-    Waiting *waiting = it;
-    waiting->count = queue_edits((uint32_t)number, waiting->edits);
-    dconfdb_queue_answered(&waiting->queue, waiting->edits, waiting->count, DCONFDB_QUEUE_BEGINS, 0, &next);
-    is_at_next(&waiting->next, &next);
-}
-
-static Step queue_steps(const void *it)
-{
-    const Waiting *waiting = it;
-    return (Step){waiting->next.kind, 0, waiting->next.number, false, queue_seen(waiting->edits, waiting->count)};
+    memset(it, 0, sizeof *it);
+    it->kind = next->kind;
+    it->number = next->number;
+    it->keeps_fault = next->keeps_fault;
+    it->tells = next->tells;
 }
 
 static void queue_takes(Waiting *it, uint32_t answer, size_t at)
 {
-    DconfdbNext next = {0};
+    DconfdbQueueStep next = {0};
     dconfdb_queue_answered(&it->queue, it->edits, it->count, answer, at, &next);
-    is_at_next(&it->next, &next);
+    is_at_queue_step(&it->next, &next);
+}
+
+static void queue_begins(void *it, int number)
+{
+    Waiting *waiting = it;
+    waiting->count = queue_edits((uint32_t)number, waiting->edits);
+    queue_takes(waiting, DCONFDB_QUEUE_BEGINS, 0);
+}
+
+/* What is told, and what is kept, is of the step, too. */
+static Step queue_steps(const void *it)
+{
+    const Waiting *waiting = it;
+    const DconfdbQueueStep *next = &waiting->next;
+    return (Step){next->kind, next->tells, next->number, next->keeps_fault, queue_seen(waiting->edits, waiting->count)};
 }
 
 /* Where the fault is of no edit, none counts: another one leads to the same. */
@@ -316,7 +326,7 @@ static void queue_takes_any(Waiting *it, uint32_t answer)
 
 static bool queue_answered(void *it, const Step *step, int number)
 {
-    static const uint32_t answers[QUEUE_FAULT] = {DCONFDB_QUEUE_YES, DCONFDB_QUEUE_LOCKED, DCONFDB_QUEUE_LATER};
+    static const uint32_t answers[QUEUE_FAULT] = {DCONFDB_QUEUE_YES, DCONFDB_QUEUE_LOCKED, DCONFDB_QUEUE_LATER, DCONFDB_QUEUE_CLOSED};
     int given = step->kind == DCONFDB_QUEUE_WRITE ? QUEUE_ANSWERS : step->kind == DCONFDB_QUEUE_ASK ? 2 : step->kind < DCONFDB_QUEUE_WRITE;
     if (number >= given)
         return false;

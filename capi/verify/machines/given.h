@@ -338,13 +338,15 @@ static inline uint32_t settling_given(uint32_t task, bool yes, const DconfdbSett
     }
 }
 
-/* The header's code by which a program is told of an errno. */
-static inline uint32_t error_code_given(bool of_lock, uint32_t fault)
+/* What a call leaves that gives a file another name, by what its errno is to it. */
+static inline DconfdbRenamed renamed_given(uint32_t call, uint32_t fault, uint32_t answer)
 {
-    enum { MEMORY = 1, FILE_TOO_LARGE = 18, OF_FILE = 64, BUSY = 65, NO_MEMORY = 12, WOULD_WAIT = 11, OVERFLOWS = 75 };
-    if (of_lock && fault == WOULD_WAIT)
-        return BUSY;
-    return fault == NO_MEMORY ? MEMORY : fault == OVERFLOWS ? FILE_TOO_LARGE : OF_FILE;
+    if (fault == 0)
+        return (DconfdbRenamed){.is_aside = true};
+    if (call == DCONFDB_CALL_PLACE)
+        return (DconfdbRenamed){.fault = fault, .goes = answer != DCONFDB_ANSWER_UNSURE};
+    bool is_nameless = answer == DCONFDB_ANSWER_NAMELESS;
+    return (DconfdbRenamed){.fault = is_nameless || answer == DCONFDB_ANSWER_NOTHING ? 0 : fault, .is_nameless = is_nameless};
 }
 
 #endif

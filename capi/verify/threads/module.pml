@@ -308,18 +308,23 @@ proctype forks()
 
 /* ---- exit(): each wait has an end, and what it can't have it does without */
 
+inline mark_exit() { TAKE(LOCK); atomic { has_ended = true; is_asked = true; last_try = tries }; worker_wake(); GIVE(LOCK) }
+
+/* Or it is doubted whether all is written. */
+inline counts_until() { if :: TAKE(LOCK); GIVE(LOCK) :: skip fi }
 inline worker_end() {
     if
     :: TAKE(LIVING); GIVE(LIVING);
         if
-        :: TAKE(LOCK); atomic { has_ended = true; is_asked = true; last_try = tries }; worker_wake(); GIVE(LOCK);
+        :: mark_exit();
             if
             :: is_over
             :: gave_up
             :: true /* its time is over */
             fi
         :: skip
-        fi
+        fi;
+        counts_until()
     :: skip
     fi
 }
@@ -343,16 +348,16 @@ proctype others()
 
 /* ---- nobody holds the backend any longer: its worker is waited for, for a while, or left to itself */
 
-inline worker_let_go() {
-    TAKE(LOCK);
-    atomic { has_ended = true; is_asked = true; is_let_go = true };
-    worker_wake();
+inline mark_let_go() { atomic { has_ended = true; is_asked = true; is_let_go = true }; worker_wake() }
+inline await_over() {
     GIVE(LOCK);
     if
     :: is_over
     :: true
-    fi
+    fi;
+    TAKE(LOCK)
 }
+inline worker_let_go() { TAKE(LOCK); mark_let_go(); await_over(); GIVE(LOCK) }
 
 proctype lets_go()
 {

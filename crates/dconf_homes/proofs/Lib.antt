@@ -1,1 +1,2 @@
 pub mod HomeProofs
+pub mod LookProofs

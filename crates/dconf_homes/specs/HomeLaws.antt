@@ -7,13 +7,13 @@ use Rattle.dconf_places.specs.Places.{Giver, database_path, is_beside, folder_of
 use Rattle.dconf_places.specs.Places.Giver.{nobody, program, user}
 use Rattle.dconf_places.specs.declared.profile.Found.{Found}
 use Rattle.dconf_places.specs.declared.profile.Found.TheVariants.{Missing}
-use Rattle.dconf_homes.specs.Homes.{Home, Surroundings, StoreKind, What, file_in, kind_for, spot_in}
+use Rattle.dconf_homes.specs.Homes.{Home, Surroundings, StoreKind, What, file_in, kind_for, minds_machine, spot_in}
 use Rattle.dconf_homes.specs.Homes.StoreKind.{own}
 use Rattle.dconf_homes.specs.Homes.What.{the_folder}
-use Rattle.dconf_homes.specs.Sought.{has_name, is_said, sought_step}
+use Rattle.dconf_homes.specs.Sought.{has_name, is_said, listed_step, sought_step}
 use Rattle.dconf_homes.specs.declared.sought.Sought.{Sought}
 use Rattle.dconf_homes.specs.declared.sought.Sought.TheVariants.{Ours}
-use Rattle.dconf_homes.specs.declared.sought.SoughtStep.TheVariants.{Counts, UsersAlone}
+use Rattle.dconf_homes.specs.declared.sought.SoughtStep.TheVariants.{Counts, Look, UsersAlone}
 
 -- whoever gives a folder has our own kind of store in it, whatever the machine's file says
 abbrev pub GivenIsOurs : Type 0
@@ -40,3 +40,14 @@ OthersAreOurs = (h : Home) (profile : List ℕ) (d : Database) → h.in_place �
 abbrev pub NoneIsPassedOverSilently : Type 0
 NoneIsPassedOverSilently = (h : Home) (it : Sought) (found : Found) (lenient : Bool) →
     (sought_step h it found lenient ≡ Counts) ⊎ ((found ≡ Missing) ⊎ (is_said h it found ≡ true))
+
+-- whatever a look finds, the one that is looked at next is the one that is listed next
+abbrev pub AllAreListed : Type 0
+AllAreListed = (h : Home) (it next : Sought) (found : Found) (lenient : Bool) →
+    sought_step h it found lenient ≡ Look next → listed_step h it ≡ Look next
+
+-- What isn't asked makes no difference: the environment to a program that gives a folder, and what the machine's file says where it isn't minded.
+pub record WhatIsNotAsked : Type 0 where
+  pub environment : (s other : Surroundings) (what : What) (folder : List ℕ) → spot_in what s (program folder) ≡ spot_in what other (program folder)
+  pub machine : (s : Surroundings) (g : Giver) (text : List ℕ) (unreadable : Bool) → minds_machine s g ≡ false →
+      kind_for s g ≡ kind_for (record { variables = s.variables; runtime = s.runtime; cache = s.cache; machine = text; unreadable = unreadable }) g

@@ -1,5 +1,5 @@
 -- Which kind of store a machine has, and where dconf's own is. dconf(7), "Profiles"; the XDG Base Directory Specification.
-use Rattle.std.specs.Prelude.{ℕ, List, [], ◌++◌, codes, Bool, not, ◌&&◌, ◌||◌, if◌then◌else◌}
+use Rattle.std.specs.Prelude.{ℕ, List, [], ◌++◌, codes, Bool, true, false, not, ◌&&◌, ◌||◌, if◌then◌else◌}
 use Rattle.std.specs.Str.{bytes_eq}
 use Rattle.dconf_model.specs.Paths.{starts_with_slash}
 use Rattle.dconf_model.specs.Profiles.{Database, Kind, is_user}
@@ -49,6 +49,20 @@ abbrev pub kind_for : Surroundings → Giver → StoreKind
 kind_for s nobody = found_kind s
 kind_for s (program folder) = own
 kind_for s (user folder) = own
+
+-- ---- what is asked to know it
+
+-- A program that gives a folder has its environment not asked.
+abbrev pub minds_environment : Giver → Bool
+minds_environment nobody = true
+minds_environment (program folder) = false
+minds_environment (user folder) = true
+
+-- whether it is the machine's file that says it
+abbrev pub minds_machine : Surroundings → Giver → Bool
+minds_machine s nobody = s.variables.counted && is_empty s.variables.store
+minds_machine s (program folder) = false
+minds_machine s (user folder) = false
 
 -- ---- where dconf's is
 

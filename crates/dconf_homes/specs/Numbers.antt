@@ -1,8 +1,8 @@
 -- What C is told by numbers, and says by them.
-use Rattle.std.specs.Prelude.{ℕ, List, Bool, Option, Some, None, ◌==◌, ◌||◌, if◌then◌else◌}
+use Rattle.std.specs.Prelude.{ℕ, List, Bool, Option, Some, None, ◌==◌, ◌&&◌, ◌||◌, nat_lt, if◌then◌else◌}
 use Rattle.dconf_places.specs.Numbers.{base_number, candidate_number, candidate_numbered}
-use Rattle.dconf_places.specs.Places.{Spot, path_at}
-use Rattle.dconf_homes.specs.Homes.{StoreKind, What}
+use Rattle.dconf_places.specs.Places.{Giver, Spot, path_at}
+use Rattle.dconf_homes.specs.Homes.{StoreKind, Surroundings, What, kind_for, minds_environment, minds_machine}
 use Rattle.dconf_homes.specs.Homes.StoreKind.{own, dconfs, unknown}
 use Rattle.dconf_homes.specs.Homes.What.{the_folder, the_profile, the_runtime}
 use Rattle.dconf_homes.specs.declared.sought.Sought.{Sought}
@@ -14,6 +14,14 @@ abbrev pub kind_number : StoreKind → ℕ
 kind_number own = 0
 kind_number dconfs = 1
 kind_number unknown = 2
+
+-- Known is nothing so far (0), the environment (1), or that and what the machine's file says (2). Asked is the first next (3), or the second (4), or the
+-- kind is known.
+abbrev pub kind_step : Surroundings → Giver → ℕ → ℕ
+kind_step s g known =
+    if known == 0 && minds_environment g then 3
+    else if nat_lt known 2 && minds_machine s g then 4
+    else kind_number (kind_for s g)
 
 abbrev pub what_numbered : ℕ → What
 what_numbered n = if n == 0 then the_folder else if n == 1 then the_profile else the_runtime

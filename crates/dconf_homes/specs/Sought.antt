@@ -1,5 +1,5 @@
 -- Which profile counts in a store that was found, by what a look at each found. dconf(7), "Profiles".
-use Rattle.std.specs.Prelude.{ℕ, ◌+◌, List, ◌++◌, codes, Option, Some, None, Bool, true, false, not, ◌&&◌, ◌==◌, if◌then◌else◌, is_some, nat_lt}
+use Rattle.std.specs.Prelude.{ℕ, ◌+◌, List, [], ◌++◌, codes, Option, Some, None, Bool, true, false, not, ◌&&◌, ◌==◌, if◌then◌else◌, is_some, nat_lt}
 use Rattle.std.specs.List.{slice_split, slice_get}
 use Rattle.dconf_model.specs.Paths.{starts_with_slash}
 use Rattle.dconf_places.specs.Places.{is_empty}
@@ -136,3 +136,26 @@ is_refusal Refused = true
 abbrev pub said_as : Home → Sought → Found → Bool → Bool → Telling
 said_as h it found lenient has_kept =
     if not (is_said h it found) then Nothing else if is_refusal (sought_step h it found lenient) then Refuses else if has_kept then Nothing else Kept
+
+-- ---- how they are listed
+
+-- All that may count are listed one after another, as if none were there.
+abbrev pub listed_step : Home → Sought → SoughtStep
+listed_step h it = sought_step h it Missing true
+
+-- ---- by which name it is told
+
+-- what names the profile
+abbrev pub naming : Home → List ℕ
+naming h = if is_empty h.named then h.profile else h.named
+
+abbrev pub or_empty : Option (List ℕ) → List ℕ
+or_empty (Some text) = text
+or_empty None = []
+
+-- one that is missing by what names it, and else by its path
+abbrev pub told_name : Home → Sought → Found → List ℕ
+told_name h it Missing = naming h
+told_name h it There = or_empty (sought_path h it)
+told_name h it Unreadable = or_empty (sought_path h it)
+told_name h it Unknown = or_empty (sought_path h it)

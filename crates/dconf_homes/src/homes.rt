@@ -4,8 +4,8 @@ ghost use Rattle.dconf_model.specs.Profiles.{is_user};
 ghost use Rattle.dconf_path.specs.Profiles.{kind_of};
 ghost use Rattle.dconf_places.specs.Places.{default_folder};
 ghost use Rattle.dconf_places.specs.Told.{giver_of, spot_at, text_of, variables_of};
-ghost use Rattle.dconf_homes.specs.Homes.{config_folder, dconfs_folder, dconfs_path, dconfs_spot, file_in, flag_in, found_kind, is_word, kind_for, machine_kind, own_spot, runtime_folder, spot_in};
-ghost use Rattle.dconf_homes.specs.Numbers.{kind_number, what_numbered};
+ghost use Rattle.dconf_homes.specs.Homes.{config_folder, dconfs_folder, dconfs_path, dconfs_spot, file_in, flag_in, found_kind, is_word, kind_for, machine_kind, minds_environment, minds_machine, own_spot, runtime_folder, spot_in};
+ghost use Rattle.dconf_homes.specs.Numbers.{kind_number, kind_step, what_numbered};
 ghost use Rattle.dconf_homes.specs.Told.{home_of, store_kind_of, surroundings_of, what_of};
 
 use dconf_path::DatabaseKind;
@@ -86,6 +86,30 @@ impl<'a> Around<'a> {
         }
     }
 
+    /// The same by a number, or what is asked first: known is nothing so far (0), the environment (1), or that and what the machine's file says (else).
+    /// 0 our own, 1 dconf's, 2 nobody knows, 3 the environment is asked, 4 the machine's file is read.
+    pub fn kind_step(&self, given: Given<'a>, known: u32) -> u32
+        ensures { result ≡ kind_step (surroundings_of self.now) (giver_of given.entry) known }
+    {
+        if known == 0 && minds_environment(given) {
+            3
+        } else if known < 2 && self.minds_machine(given) {
+            4
+        } else {
+            self.kind(given).number()
+        }
+    }
+
+    fn minds_machine(&self, given: Given<'a>) -> bool
+        ensures { result ≡ minds_machine (surroundings_of self.now) (giver_of given.entry) }
+    {
+        match given {
+            Given::Nobody => self.environment.counts && self.environment.store.is_empty(),
+            Given::Program(_) => false,
+            Given::User(_) => false,
+        }
+    }
+
     fn found_kind(&self) -> FoundKind
         ensures { store_kind_of result ≡ found_kind (surroundings_of self.now) }
     {
@@ -130,6 +154,16 @@ impl<'a> Around<'a> {
         } else {
             Location::Home(b".cache")
         }
+    }
+}
+
+fn minds_environment(given: Given<'_>) -> bool
+    ensures { result ≡ minds_environment (giver_of given.entry) }
+{
+    match given {
+        Given::Nobody => true,
+        Given::Program(_) => false,
+        Given::User(_) => true,
     }
 }
 

@@ -5,13 +5,15 @@
 //! what it is given a fixed number of times, but at `$XDG_DATA_DIRS` for each folder of it anew.
 #![tactic(auto)]
 
-ghost use Rattle.dconf_homes.specs.HomeLaws.{FilesAreDconfs, FolderIsWhole, GivenIsOurs, NoneIsPassedOverSilently, OthersAreOurs};
+ghost use Rattle.dconf_homes.specs.HomeLaws.{AllAreListed, FilesAreDconfs, FolderIsWhole, GivenIsOurs, NoneIsPassedOverSilently, OthersAreOurs, WhatIsNotAsked};
 
 mod dirs;
 mod homes;
+mod looks;
 mod sought;
 
 pub use homes::{Around, FoundKind, Place, Wanted, is_users};
+pub use looks::{DconfdbProfileLook, DconfdbProfileNext};
 pub use sought::{MANDATORY_FOLDER, MOST_DIRS, PROFILES_FOLDER, Sought, SoughtStep};
 
 /// Whoever gives a folder has our own kind of store there, whatever the machine's file says.
@@ -37,4 +39,14 @@ pub fn other_files_are_where_ours_are()
 /// A profile counts, or it isn't there, or it is told why it doesn't count.
 pub fn no_profile_is_passed_over_silently()
     ensures { NoneIsPassedOverSilently }
+{}
+
+/// Whatever a look at a profile finds, the one that is looked at next is the one that is listed next.
+pub fn all_that_may_count_are_listed()
+    ensures { AllAreListed }
+{}
+
+/// What isn't asked makes no difference to where a store is.
+pub fn what_is_not_asked_makes_no_difference()
+    ensures { WhatIsNotAsked }
 {}

@@ -2,11 +2,12 @@
 ghost use Rattle.std.specs.Prelude.{◌≡◌, ◌++◌, option_map};
 ghost use Rattle.dconf_places.specs.Told.{text_of};
 ghost use Rattle.dconf_homes.specs.Numbers.{dir_of, dir_of_step, sought_number, sought_numbered, step_number};
-ghost use Rattle.dconf_homes.specs.Sought.{behind, behind_bad, behind_dir, behind_mandatory, dconfs_step, first_sought, has_name, if_none, in_dir, is_none, is_refusal, is_said, last_step, name_of, said_as, sought_path, sought_step, step_of};
+ghost use Rattle.dconf_homes.specs.Sought.{behind, behind_bad, behind_dir, behind_mandatory, dconfs_step, first_sought, has_name, if_none, in_dir, is_none, is_refusal, is_said, last_step, listed_step, name_of, naming, said_as, sought_path, sought_step, step_of, told_name};
 ghost use Rattle.dconf_homes.specs.Told.{home_of};
 
 use crate::dirs::dir_at;
 use crate::homes::Place;
+use crate::looks::or_empty;
 use dconf_places::{Candidate, Found, PathParts, ProfileStep, Telling, profile_step};
 
 /// The folder of the profiles that an administrator names for one user, by the user's number.
@@ -318,6 +319,38 @@ impl<'a> Place<'a> {
             Telling::Nothing
         } else {
             Telling::Kept
+        }
+    }
+}
+
+impl<'a> Place<'a> {
+    /// What comes after one where all that may count are listed.
+    pub fn listed(&self, sought: Sought) -> SoughtStep
+        ensures { result ≡ listed_step (home_of self.now) sought }
+    {
+        self.step(sought, Found::Missing, true)
+    }
+
+    /// What names the profile.
+    fn naming(&self) -> &'a [u8]
+        ensures { result.now ≡ naming (home_of self.now) }
+    {
+        if self.named.is_empty() {
+            self.profile
+        } else {
+            self.named
+        }
+    }
+
+    /// By which name one is told of: one that is missing by what names it, and else by its path.
+    pub fn told_name(&self, sought: Sought, found: Found) -> PathParts<'a>
+        ensures { text_of result ≡ told_name (home_of self.now) sought found }
+    {
+        match found {
+            Found::Missing => joined(b"", b"", self.naming()),
+            Found::There => or_empty(self.path(sought)),
+            Found::Unreadable => or_empty(self.path(sought)),
+            Found::Unknown => or_empty(self.path(sought)),
         }
     }
 }

@@ -16,7 +16,7 @@ mod need;
 
 pub use changed::{Changed, Unchanged, changed_file};
 pub use course::{Course, Task, course_after, course_number};
-pub use made::is_made;
+pub use made::{is_left, is_made};
 pub use need::{Need, Users, need_number, need_of};
 
 /// Where the user's database has each edit of a change already, all of them in order change nothing that is seen.

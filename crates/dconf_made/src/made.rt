@@ -1,5 +1,5 @@
 //! Whether the user's database has what a change asks for.
-ghost use Rattle.std.specs.Prelude.{◌≡◌, ◌↔◌, [], IfErr, IfOk, IsTrue};
+ghost use Rattle.std.specs.Prelude.{◌≡◌, ◌↔◌, [], IfErr, IfOk, IsTrue, Ok, false, true};
 ghost use Rattle.dconf_layers.specs.LayerSettings.{settings_of};
 ghost use Rattle.dconfdb_calls.specs.Seen.{layers_of};
 ghost use Rattle.dconfdb_calls.specs.declared.fault.Fault.TheVariants.{Memory};
@@ -29,6 +29,24 @@ pub fn is_made(
         Some((own, _)) => has(alloc, own, change),
         None => Ok(false),
     }
+}
+
+/// Whether the user's database has what a change asks for that a write may have left there. If none can have (`may_be` is false), it isn't asked.
+pub fn is_left(
+    alloc: Global,
+    layers: &[Layer<'_>],
+    writable: bool,
+    may_be: bool,
+    change: &DconfdbChange<'_>,
+) -> Result<bool, Fault>
+    ensures left { may_be ≡ true → IfOk result (λ is. IsTrue is ↔ IsMade (layers_of layers.now writable) change.now) }
+    ensures none { may_be ≡ false → result ≡ Ok false }
+    ensures fault { IfErr result (λ e. e ≡ Memory) }
+{
+    if !may_be {
+        return Ok(false);
+    }
+    is_made(alloc, layers, writable, change)
 }
 
 /// Whether the user's database has what each of the changes asks for.

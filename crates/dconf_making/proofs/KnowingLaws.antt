@@ -1,6 +1,5 @@
 -- What a store knows is lost by nothing but what ends it.
-use Rattle.std.proofs.Common.{ℕ, ◌≡◌, Bool, true, false, ◌||◌, List, [], ◌∷◌, refl, sym, ◌∙◌, ap}
-use Rattle.dconf_making.specs.declared.ending.Newest.{Newest}
+use Rattle.std.proofs.Common.{◌≡◌, Bool, true, false, ◌||◌, List, [], ◌∷◌, refl}
 use Rattle.dconf_making.specs.declared.ending.Newest.TheVariants.{Old, Newer, Tried}
 use Rattle.dconf_making.specs.declared.knowing.StoreKnown.{StoreKnown}
 use Rattle.dconf_making.specs.declared.knowing.Happening.{Happening}
@@ -20,7 +19,7 @@ or_other false b h = h
 news_stay : (k : StoreKnown) (what : Happening) → tells what ≡ false → k.has_news ≡ true → (after k what).has_news ≡ true
 news_stay k (Found news) n h = or_there k.has_news news h
 news_stay k Told n h = absurd (let bad : true ≡ false = n in cc)
-news_stay k Seen n h = h
+news_stay k (Seen had) n h = h
 news_stay k (Noted time) n h = h
 news_stay k (Ended _ unsettled) n h = h
 news_stay k (Follows old) n h = or_there k.has_news old.has_news h
@@ -29,7 +28,7 @@ news_stay k Begins n h = h
 seen_stays : (k : StoreKnown) (what : Happening) → notes what ≡ false → k.has_seen ≡ true → (after k what).has_seen ≡ true
 seen_stays k (Found news) n h = h
 seen_stays k Told n h = h
-seen_stays k Seen n h = refl
+seen_stays k (Seen had) n h = or_there k.has_seen had h
 seen_stays k (Noted time) n h = absurd (let bad : true ≡ false = n in cc)
 seen_stays k (Ended _ unsettled) n h = h
 seen_stays k (Follows old) n h = or_there k.has_seen old.has_seen h
@@ -38,7 +37,7 @@ seen_stays k Begins n h = h
 tried_stays : (k : StoreKnown) (what : Happening) → finds_out what ≡ false → k.has_tried ≡ true → (after k what).has_tried ≡ true
 tried_stays k (Found news) n h = absurd (let bad : true ≡ false = n in cc)
 tried_stays k Told n h = h
-tried_stays k Seen n h = h
+tried_stays k (Seen had) n h = h
 tried_stays k (Noted time) n h = h
 tried_stays k (Ended Old unsettled) n h = h
 tried_stays k (Ended Newer unsettled) n h = absurd (let bad : true ≡ false = n in cc)
@@ -49,7 +48,7 @@ tried_stays k Begins n h = h
 unsettled_stays : (k : StoreKnown) (what : Happening) → settles what ≡ false → k.is_unsettled ≡ true → (after k what).is_unsettled ≡ true
 unsettled_stays k (Found news) n h = h
 unsettled_stays k Told n h = h
-unsettled_stays k Seen n h = h
+unsettled_stays k (Seen had) n h = h
 unsettled_stays k (Noted time) n h = h
 unsettled_stays k (Ended _ true) n h = refl
 unsettled_stays k (Ended _ false) n h = absurd (let bad : true ≡ false = n in cc)

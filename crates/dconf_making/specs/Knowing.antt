@@ -1,5 +1,5 @@
 -- What a store knows beside what it shows: what it learns, and what ends that.
-use Rattle.std.specs.Prelude.{ℕ, ◌≡◌, ◌≤◌, Bool, true, false, ◌||◌, if◌then◌else◌, ◌==◌, max, List, [], ◌∷◌}
+use Rattle.std.specs.Prelude.{ℕ, ◌≡◌, Bool, true, false, ◌||◌, if◌then◌else◌, ◌==◌, max, List, [], ◌∷◌}
 use Rattle.dconf_making.specs.declared.ending.Newest.{Newest}
 use Rattle.dconf_making.specs.declared.ending.Newest.TheVariants.{Old, Newer, Tried}
 use Rattle.dconf_making.specs.declared.knowing.StoreKnown.{StoreKnown}
@@ -25,7 +25,7 @@ follows k old = record {
 abbrev pub after : StoreKnown → Happening → StoreKnown
 after k (Found news) = record k { has_news = k.has_news || news; has_tried = false }
 after k Told = record k { has_news = false }
-after k Seen = record k { has_seen = true }
+after k (Seen had) = record k { has_seen = k.has_seen || had }
 after k (Noted time) = record k { noted = if time == 0 then k.noted else time; has_seen = false }
 after k (Ended newest unsettled) = record k { has_tried = tried_after newest k.has_tried; is_unsettled = unsettled }
 after k (Follows old) = follows k old
@@ -36,7 +36,7 @@ newest_of n = if n == 0 then Old else if n == 1 then Newer else Tried
 
 abbrev pub happening_of : ℕ → Bool → ℕ → StoreKnown → Happening
 happening_of what is number old =
-    if what == 0 then Found is else if what == 1 then Told else if what == 2 then Seen else
+    if what == 0 then Found is else if what == 1 then Told else if what == 2 then Seen is else
     if what == 3 then Noted (if is then number else 0) else if what == 4 then Ended (newest_of number) is else
     if is then Follows old else Begins
 

@@ -27,8 +27,8 @@ pub enum Happening {
     Found(bool),
     /// Whoever asked for news was told.
     Told,
-    /// What others changed is remembered from now on.
-    Seen,
+    /// Others changed something. That is remembered from now on, or, where no memory is left for it, it is not: then no edit is left out for it.
+    Seen(bool),
     /// It noted who set what last: what others set, and, with the time of the last, what it set itself.
     Noted(u64),
     /// A change ended: these settings are the newest, and it may not be on the disk.
@@ -54,8 +54,8 @@ impl StoreKnown {
                 has_news: false,
                 ..self
             },
-            Happening::Seen => StoreKnown {
-                has_seen: true,
+            Happening::Seen(is_had) => StoreKnown {
+                has_seen: self.has_seen || is_had,
                 ..self
             },
             Happening::Noted(time) => StoreKnown {
@@ -87,8 +87,8 @@ impl StoreKnown {
     }
 
     /// The same in numbers: what happened is 0 found, 1 told, 2 seen, 3 noted, 4 ended, else opened in the place of the old one. `yes` is whether
-    /// there is news, what was asked for is in the file, it may not be on the disk, or both have the same file; `number` the time of a note, 0 if
-    /// nothing was set, or, of an end, which settings are the newest.
+    /// there is news, what was seen is remembered, what was asked for is in the file, it may not be on the disk, or both have the same file;
+    /// `number` the time of a note, 0 if nothing was set, or, of an end, which settings are the newest.
     pub fn after_number(self, what: u32, yes: bool, number: u64, old: &StoreKnown) -> StoreKnown
         ensures { result ≡ after self (happening_of what yes number old.now) }
     {
@@ -123,7 +123,7 @@ fn happening_of(what: u32, yes: bool, number: u64, old: &StoreKnown) -> Happenin
     match what {
         0 => Happening::Found(yes),
         1 => Happening::Told,
-        2 => Happening::Seen,
+        2 => Happening::Seen(yes),
         3 if yes => Happening::Noted(number),
         3 => Happening::Noted(0),
         4 => Happening::Ended(newest_of(number), yes),

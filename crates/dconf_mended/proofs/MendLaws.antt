@@ -1,6 +1,5 @@
 -- What is kept of a file that isn't sound, by the fault of what was tried.
-use Rattle.std.proofs.Common.{◌≡◌, ◌⊎◌, inl, inr, ℕ, List, [], refl, sym, subst}
-use Rattle.dconf_model.specs.Databases.{IsTooBig}
+use Rattle.std.proofs.Common.{◌≡◌, inl, inr, ℕ, List, [], refl, sym, subst}
 use Rattle.dconf_model.specs.Salvaging.{IsSalvaged}
 use Rattle.dconf_model.specs.Settings.{Settings}
 use Rattle.dconfdb_calls.specs.Keyless.{IsKeyless, IsNotKeyless}

@@ -1,5 +1,5 @@
 -- What a database's file counts as that isn't sound.
-use Rattle.std.specs.Prelude.{◌≡◌, ◌⊎◌, ℕ, List, [], Some}
+use Rattle.std.specs.Prelude.{◌≡◌, ◌⊎◌, ℕ, Bool, true, false, List, [], Some}
 use Rattle.dconf_model.specs.Databases.{IsGood, IsTooBig}
 use Rattle.dconf_model.specs.Opening.{IsOpenFault, OpenFault}
 use Rattle.dconf_model.specs.Salvaging.{IsSalvaged}
@@ -25,10 +25,17 @@ standing_number Whole = 0
 standing_number Saved = 1
 standing_number Nothing = 2
 
+-- what is wrong with a file is told, unless it stands for one that lacks nothing
+abbrev pub is_told : Standing → Bool
+is_told Whole = false
+is_told Saved = true
+is_told Nothing = true
+
 -- and they are handed out
-abbrev pub IsMendedTold : List ℕ → List ℕ → List ℕ → ℕ → ℕ → ℕ → ℕ → Type 0
-IsMendedTold file old new n number keys locks =
-    (standing : Standing) × (bytes : List ℕ) × (number ≡ standing_number standing) × IsMended file standing bytes keys locks × HandsOut bytes old new n
+abbrev pub IsMendedTold : List ℕ → List ℕ → List ℕ → ℕ → ℕ → ℕ → ℕ → Bool → Type 0
+IsMendedTold file old new n number keys locks told =
+    (standing : Standing) × (bytes : List ℕ) × (number ≡ standing_number standing) × (told ≡ is_told standing) × IsMended file standing bytes keys locks
+    × HandsOut bytes old new n
 
 -- law: what is kept of a file is a sound database
 abbrev pub MendedOpens : Type 0

@@ -1,5 +1,5 @@
-//! What a database's file counts as that isn't sound, by [`mended_file`]; and which bytes a file of a database can begin with, by
-//! [`may_be_database`].
+//! What a database's file counts as that isn't sound, by [`mended_file`]; which bytes a file of a database can begin with, by
+//! [`may_be_database`]; and what a profile with bad lines counts as, by [`read_lines`].
 //!
 //! Nothing is opened here but bytes that are lent.
 #![tactic(auto)]
@@ -9,9 +9,11 @@ ghost use Rattle.dconf_mended.specs.Mending.{MendedOpens};
 
 mod head;
 mod mended;
+mod profile;
 
 pub use head::may_be_database;
-pub use mended::{Mended, Standing, mended_file, standing_number};
+pub use mended::{Mended, Standing, is_told, mended_file, standing_number};
+pub use profile::{ProfileRead, read_lines, said_by, telling_of};
 
 /// What is kept of a file is a sound database: it opens.
 pub fn mended_opens()

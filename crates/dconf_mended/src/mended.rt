@@ -3,7 +3,7 @@ ghost use Rattle.std.specs.Prelude.{◌≡◌, ◌≢◌, [], IfErr, IfOk, List,
 ghost use Rattle.dconfdb_calls.specs.Keyless.{IsKeyless};
 ghost use Rattle.dconfdb_calls.specs.declared.fault.Fault.TheVariants.{Memory};
 ghost use Rattle.dconf_mended.specs.declared.mended.Standing.TheVariants as Standing;
-ghost use Rattle.dconf_mended.specs.Mending.{IsMended, standing_number};
+ghost use Rattle.dconf_mended.specs.Mending.{IsMended, is_told, standing_number};
 
 use dconfdb_calls::{Fault, keyless_file, salvaged_file};
 use std::alloc::Global;
@@ -99,4 +99,11 @@ pub fn standing_number(standing: Standing) -> u32
         Standing::Saved => 1,
         Standing::Nothing => 2,
     }
+}
+
+/// Whether what is wrong with the file is told: it lacks something.
+pub fn is_told(standing: Standing) -> bool
+    ensures { result ≡ is_told standing }
+{
+    !matches!(standing, Standing::Whole)
 }

@@ -1,2 +1,3 @@
 pub mod RoleLaws
 pub mod FindingLaws
+pub mod FolderLaws

@@ -3,3 +3,5 @@ pub mod Readings
 pub mod Numbers
 pub mod Findings
 pub mod Slips
+pub mod Folders
+pub mod Nearness

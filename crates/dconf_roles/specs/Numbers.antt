@@ -1,17 +1,6 @@
--- Roles and readings as numbers.
-use Rattle.std.specs.Prelude.{ℕ, ◌==◌, if◌then◌else◌}
-use Rattle.dconf_roles.specs.declared.roles.Role.{Role}
+-- Readings as numbers.
+use Rattle.std.specs.Prelude.{ℕ}
 use Rattle.dconf_roles.specs.declared.readings.ReadAs.{ReadAs}
-
-abbrev pub role_numbered : ℕ → Role
-role_numbered n = if n == 1 then Role.Keyfile else if n == 2 then Role.Locks else if n == 3 then Role.Hidden else if n == 4 then Role.Unread else Role.ByItsText
-
-abbrev pub role_number : Role → ℕ
-role_number Role.ByItsText = 0
-role_number Role.Keyfile = 1
-role_number Role.Locks = 2
-role_number Role.Hidden = 3
-role_number Role.Unread = 4
 
 abbrev pub reading_number : ReadAs → ℕ
 reading_number ReadAs.Keyfile = 0

@@ -28,10 +28,6 @@ abbrev pub as_file : Role → List ℕ → Role
 as_file Role.ByItsText name = Role.ByItsText
 as_file role name = unless_hidden name role
 
--- the role of what has that name in a folder of that role: of a folder's files, or of a file
-abbrev pub role_after : Role → List ℕ → Bool → Role
-role_after role name folder = if folder then in_folder role name else as_file role name
-
 -- `update`'s own folders count only if it reads one of the files that are asked for
 abbrev pub role_among : Role → Bool → Role
 role_among role read = if read then role else Role.ByItsText

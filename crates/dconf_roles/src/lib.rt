@@ -1,5 +1,5 @@
 //! As what the files are looked at that a site makes its databases of: by what stands in them, and below a folder NAME.d as `update` reads
-//! them; and what is found wrong there, by what the installed schemas have.
+//! them; what is found wrong there, by what the installed schemas have, and which name is the nearest to one that they don't have.
 //!
 //! A path is gone through folder by folder: of each comes the [`Role`] of the files in it. Nothing is opened here.
 #![tactic(auto)]
@@ -8,15 +8,19 @@ ghost use Rattle.dconf_roles.specs.Findings.{NoAlarmIsFalse};
 ghost use Rattle.dconf_roles.specs.Roles.{WhatUpdateReadsIsRead};
 
 mod findings;
+mod folders;
+mod nearness;
 mod numbers;
 mod readings;
 mod roles;
 mod slips;
 
 pub use findings::{Finding, FindingKnown, finding_number, finding_of};
-pub use numbers::{reading_number, role_number};
+pub use folders::{is_read, role_of, sources_in};
+pub use nearness::{Nearing, is_nearer};
+pub use numbers::reading_number;
 pub use readings::{ReadAs, reading};
-pub use roles::{Role, role_after, role_among};
+pub use roles::{Role, role_among};
 pub use slips::{Name, has_slip};
 
 /// A file in a folder NAME.d, or in its folder `locks`, is a keyfile, or one of locks, if `update` reads it, and else it is hidden.

@@ -1,7 +1,7 @@
 //! As what `update` takes a file, by the folders that it is in.
 ghost use Rattle.std.specs.Prelude.{◌≡◌};
 ghost use Rattle.dconf_model.specs.Updates.{is_shown};
-ghost use Rattle.dconf_roles.specs.Roles.{as_file, below, in_folder, is_sources, role_after, role_among, unless_hidden};
+ghost use Rattle.dconf_roles.specs.Roles.{as_file, below, in_folder, is_sources, role_among, unless_hidden};
 
 /// As what `update` takes a file, or those of a folder.
 #[derive(Clone, Copy)]
@@ -16,17 +16,6 @@ pub enum Role {
     Unread,
 }
 
-/// The role of a folder's files, or of a file, by that of the folder in which it has that name.
-pub fn role_after(role: Role, name: &[u8], is_folder: bool) -> Role
-    ensures { result ≡ role_after role name.now is_folder }
-{
-    if is_folder {
-        in_folder(role, name)
-    } else {
-        as_file(role, name)
-    }
-}
-
 /// The role of a file among those that are asked for: `update` reads one of its folder or not.
 pub fn role_among(role: Role, is_one_read: bool) -> Role
     ensures { result ≡ role_among role is_one_read }
@@ -34,7 +23,8 @@ pub fn role_among(role: Role, is_one_read: bool) -> Role
     if is_one_read { role } else { Role::ByItsText }
 }
 
-fn in_folder(role: Role, name: &[u8]) -> Role
+/// The role of the files of a folder that has that name in one of that role.
+pub(crate) fn in_folder(role: Role, name: &[u8]) -> Role
     ensures { result ≡ in_folder role name.now }
 {
     if is_sources(name) {
@@ -57,7 +47,8 @@ fn below(role: Role, name: &[u8]) -> Role
     }
 }
 
-fn as_file(role: Role, name: &[u8]) -> Role
+/// The role of a file that has that name in a folder of that role.
+pub(crate) fn as_file(role: Role, name: &[u8]) -> Role
     ensures { result ≡ as_file role name.now }
 {
     match role {
@@ -73,7 +64,7 @@ fn unless_hidden(name: &[u8], role: Role) -> Role
 }
 
 /// A folder NAME.d that isn't hidden.
-fn is_sources(name: &[u8]) -> bool
+pub(crate) fn is_sources(name: &[u8]) -> bool
     ensures { result ≡ is_sources name.now }
 {
     is_shown(name) && (name.len() > 2 && name.ends_with(b".d"))

@@ -1,3 +1,4 @@
 pub mod RoundLaws
 pub mod SyncLaws
 pub mod GlanceLaws
+pub mod WriterLaws

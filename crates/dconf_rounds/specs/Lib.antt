@@ -2,3 +2,4 @@ pub mod Rounds
 pub mod Syncs
 pub mod Glances
 pub mod Telling
+pub mod Writers

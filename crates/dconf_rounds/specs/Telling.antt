@@ -1,19 +1,23 @@
--- Who is told that something is seen otherwise than before, path by path.
+-- Who is told that something is seen otherwise than before, list by list, and path by path.
 use Rattle.std.specs.Prelude.{ℕ, ◌≡◌, ◌<◌, Bool, true, false, not, ◌&&◌, ◌||◌, if◌then◌else◌, ◌==◌, nat_lt}
 use Rattle.dconf_seen.specs.declared.seen.Word.{Word}
 use Rattle.dconf_seen.specs.Reading.{found_by, found_number}
 use Rattle.dconf_rounds.specs.declared.telling.TellKnown.{TellKnown}
 use Rattle.dconf_rounds.specs.declared.telling.Telling.{Telling}
-use Rattle.dconf_rounds.specs.declared.telling.Telling.TheVariants.{Nothing, Take, TellAndTake, Tell, All}
+use Rattle.dconf_rounds.specs.declared.telling.Telling.TheVariants.{Nothing, Take, TellAndTake, Tell, All, Rights, Values, Over}
 
 -- nobody has seen anything before, or the program ends, or nothing can be seen otherwise
 abbrev pub is_silent : TellKnown → Bool
 is_silent k = k.is_first || (k.ends || not (k.is_other || k.has_edits))
 
+-- what may be written is told before what is seen
+abbrev pub list_after : TellKnown → Telling
+list_after k = if is_silent k then Over else if nat_lt k.list 5 && k.has_rights then Rights else if nat_lt k.list 6 then Values else Over
+
 -- at most 255 paths are in one notice, and only those that somebody listens to; and without memory all are told
 abbrev pub tell_next : TellKnown → Telling
 tell_next k =
-    if is_silent k then Nothing else if not k.is_found then All else if not k.is_listened then Nothing else
+    if k.is_between then list_after k else if is_silent k then Nothing else if not k.is_found then All else if not k.is_listened then Nothing else
     if not k.has_path then (if k.taken == 0 then Nothing else Tell) else if nat_lt k.taken 255 then Take else TellAndTake
 
 abbrev pub telling_number : Telling → ℕ
@@ -22,6 +26,9 @@ telling_number Take = 1
 telling_number TellAndTake = 2
 telling_number Tell = 3
 telling_number All = 4
+telling_number Rights = 5
+telling_number Values = 6
+telling_number Over = 7
 
 -- ---- which keys are asked for by their type
 
@@ -48,14 +55,27 @@ is_all _ = false
 
 pub record IsGoodTelling (k : TellKnown) : Type 0 where
   -- each path that somebody listens to is told, unless nobody is told of anything
-  pub heard : is_taken (tell_next k) ≡ (not (is_silent k) && (k.is_found && (k.is_listened && k.has_path)))
+  pub heard : k.is_between ≡ false → is_taken (tell_next k) ≡ (not (is_silent k) && (k.is_found && (k.is_listened && k.has_path)))
   -- and nothing is left out because nobody knows what it is
-  pub lost : is_all (tell_next k) ≡ (not (is_silent k) && not k.is_found)
+  pub lost : k.is_between ≡ false → is_all (tell_next k) ≡ (not (is_silent k) && not k.is_found)
   -- no notice is empty, or has more than 255
   pub some : is_sent (tell_next k) ≡ true → 0 < k.taken
   pub short : tell_next k ≡ Take → k.taken < 255
   -- what was taken is told at last
-  pub rest : is_silent k ≡ false → k.is_found ≡ true → k.is_listened ≡ true → k.has_path ≡ false → 0 < k.taken → tell_next k ≡ Tell
+  pub rest : k.is_between ≡ false → is_silent k ≡ false → k.is_found ≡ true → k.is_listened ≡ true → k.has_path ≡ false → 0 < k.taken → tell_next k ≡ Tell
+
+-- which list comes behind that one
+abbrev pub next_list : TellKnown → ℕ → Telling
+next_list k last = list_after (record k { list = last })
+
+pub record IsGoodOrder (k : TellKnown) : Type 0 where
+  -- both lists are told, what may be written first, and each once
+  pub rights : is_silent k ≡ false → k.has_rights ≡ true → next_list k 0 ≡ Rights
+  pub values : is_silent k ≡ false → k.has_rights ≡ false → next_list k 0 ≡ Values
+  pub after : is_silent k ≡ false → next_list k (telling_number Rights) ≡ Values
+  pub over : next_list k (telling_number Values) ≡ Over
+  -- and none if nobody is told of anything
+  pub silent : is_silent k ≡ true → list_after k ≡ Over
 
 abbrev pub WhatIsHeardIsTold : Type 0
-WhatIsHeardIsTold = (k : TellKnown) → IsGoodTelling k
+WhatIsHeardIsTold = (k : TellKnown) → IsGoodTelling k × IsGoodOrder k

@@ -1,5 +1,5 @@
-//! What is done in turn by who writes what waits, by who wants to know that it is on the disk, by who looks at the files of a store that is
-//! open, and by who tells what is seen otherwise.
+//! What is done in turn by who writes what waits, by who has it written, or ends, or wants to know that it is on the disk, by who looks at the
+//! files of a store that is open, and by who tells what is seen otherwise.
 //!
 //! Nothing is kept here: each call is told what is known, and what was done last, and says what comes next.
 #![tactic(auto)]
@@ -8,16 +8,21 @@ ghost use Rattle.dconf_rounds.specs.Rounds.{NothingDueIsPassedOver};
 ghost use Rattle.dconf_rounds.specs.Glances.{NothingNewIsMissed};
 ghost use Rattle.dconf_rounds.specs.Syncs.{YesMeansAllIsThere};
 ghost use Rattle.dconf_rounds.specs.Telling.{WhatIsHeardIsTold};
+ghost use Rattle.dconf_rounds.specs.Writers.{WhatWaitsIsWrittenOrTold};
 
 mod glances;
 mod rounds;
 mod syncs;
 mod telling;
+mod writers;
 
 pub use glances::{Glance, GlanceKnown, glance_after, glance_number};
 pub use rounds::{Known, Task, is_at_work, task_after, task_number};
 pub use syncs::{SyncKnown, SyncTask, sync_after, sync_number};
 pub use telling::{TellKnown, Telling, passes_over, tell_next, telling_number};
+pub use writers::{
+    EndTask, LineTask, NeedTask, WriterKnown, end_after, line_after, need_after, writer_number,
+};
 
 /// The thread does all that is due before it rests, in one order, and each once. It writes once its turn has come. It gives up what waits only at the program's end, after
 /// one more try has failed by a fault that lasts; and else it ends with nothing that waits.
@@ -39,7 +44,14 @@ pub fn nothing_new_is_missed()
 {}
 
 /// Each path that is seen otherwise, and that somebody listens to, is told, in notices of 255 at most; all is, where nobody knows what is
-/// seen otherwise. Nobody is told of what is seen first, or when the program ends.
+/// seen otherwise. What may be written or no longer is told before that. Nobody is told of what is seen first, or when the program ends.
 pub fn what_is_heard_is_told()
     ensures { WhatIsHeardIsTold }
+{}
+
+/// What is new is done by the thread that writes, which is woken for it, or else where it came up. That thread waits in line for its turn where
+/// others have theirs. At the end all that waits is written, or it is told; but for what is left to the thread, which goes on, and for what
+/// waits in a child of fork(), which is its parent's.
+pub fn what_waits_is_written_or_told()
+    ensures { WhatWaitsIsWrittenOrTold }
 {}

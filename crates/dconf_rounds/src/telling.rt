@@ -1,7 +1,7 @@
-//! Who is told that something is seen otherwise than before, path by path.
+//! Who is told that something is seen otherwise than before, list by list, and path by path.
 ghost use Rattle.std.specs.Prelude.{◌≡◌};
 ghost use Rattle.dconf_seen.specs.Reading.{known_word};
-ghost use Rattle.dconf_rounds.specs.Telling.{is_silent, passes_over, tell_next, telling_number};
+ghost use Rattle.dconf_rounds.specs.Telling.{is_silent, list_after, passes_over, tell_next, telling_number};
 
 use dconf_seen::{Known, found_by, found_number};
 
@@ -21,6 +21,12 @@ pub enum Telling {
     Tell,
     /// All is told, since nobody knows what is seen otherwise.
     All,
+    /// The list comes next of what may be written or no longer.
+    Rights,
+    /// The list comes next of what is seen otherwise.
+    Values,
+    /// It is over.
+    Over,
 }
 
 /// What is known.
@@ -29,6 +35,8 @@ pub enum Telling {
 pub struct TellKnown {
     /// How many paths were taken for the next notice.
     pub taken: usize,
+    /// Which list was the last that was told, as a number; 0: none was.
+    pub list: u32,
     /// Nobody has seen anything before.
     pub is_first: bool,
     /// The program ends.
@@ -43,12 +51,19 @@ pub struct TellKnown {
     pub has_path: bool,
     /// Somebody listens to it; or, of all, to what they begin with.
     pub is_listened: bool,
+    /// No list is being told.
+    pub is_between: bool,
+    /// It may be otherwise what may be written.
+    pub has_rights: bool,
 }
 
 /// What comes next.
 pub fn tell_next(known: &TellKnown) -> Telling
     ensures { result ≡ tell_next known.now }
 {
+    if known.is_between {
+        return list_after(known);
+    }
     if is_silent(known) {
         return Telling::Nothing;
     }
@@ -71,7 +86,23 @@ pub fn tell_next(known: &TellKnown) -> Telling
     Telling::TellAndTake
 }
 
-/// The same as a number: 0 nothing, 1 take, 2 tell and take, 3 tell, 4 all.
+/// Which list comes next. Who hears that a value is another one may want to write, and asks first whether it may.
+fn list_after(known: &TellKnown) -> Telling
+    ensures { result ≡ list_after known.now }
+{
+    if is_silent(known) {
+        return Telling::Over;
+    }
+    if known.list < 5 && known.has_rights {
+        return Telling::Rights;
+    }
+    if known.list < 6 {
+        return Telling::Values;
+    }
+    Telling::Over
+}
+
+/// The same as a number: 0 nothing, 1 take, 2 tell and take, 3 tell, 4 all, 5 rights, 6 values, 7 over.
 pub fn telling_number(known: &TellKnown) -> u32
     ensures { result ≡ telling_number (tell_next known.now) }
 {
@@ -81,6 +112,9 @@ pub fn telling_number(known: &TellKnown) -> u32
         Telling::TellAndTake => 2,
         Telling::Tell => 3,
         Telling::All => 4,
+        Telling::Rights => 5,
+        Telling::Values => 6,
+        Telling::Over => 7,
     }
 }
 

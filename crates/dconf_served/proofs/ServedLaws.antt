@@ -1,36 +1,46 @@
 -- What holds of each answer, whatever is known.
-use Rattle.std.proofs.Common.{◌≡◌, ◌≢◌, ◌⊎◌, inl, inr, Bool, true, false, not, refl, sym, ◌∙◌}
-use Rattle.std.specs.Prelude.{◌&&◌, if◌then◌else◌, nat_lt, nat_le}
+use Rattle.std.proofs.Common.{◌≡◌, ◌≢◌, ◌⊎◌, inl, inr, arith, Bool, true, false, not, refl, sym, ◌∙◌}
+use Rattle.std.specs.Prelude.{ℕ, ◌&&◌, ◌||◌, ◌==◌, if◌then◌else◌, nat_lt, nat_le}
 use Rattle.dconf_served.specs.declared.served.Served.{Served}
-use Rattle.dconf_served.specs.declared.served.Served.TheVariants.{GoesOn, Acknowledged, Failed, Closed, Odd, TooLarge, TooMuch, TooManyNames}
-use Rattle.dconf_served.specs.Served.{has_room, is_odd, lasts, NothingIsAnsweredUnwritten, WhatWaitsIsBounded}
+use Rattle.dconf_served.specs.declared.served.Served.TheVariants.{GoesOn, Acknowledged, Failed, Closed, Odd, TooLarge, TooMuch, TooManyNames, Late, Profiles, Alone}
+use Rattle.dconf_served.specs.Served.{has_room, is_odd, lasts, NothingIsAnsweredUnwritten, WhatWaitsIsBounded, WhoWaitsIsToldAtTheEnd, LocksCountWhereTheyAreKnown}
 
--- ---- what was tried, by whether it is written, lasts, is odd, has edits, and is closed
+-- ---- what was tried, by whether it is written, lasts, is at its end, is odd, has edits, and is closed
 
-abbrev by : Bool → Bool → Bool → Bool → Bool → Served
-by written last odd edits closed =
-    if not written && not last then GoesOn else if odd then Odd else if not edits then Acknowledged else
+abbrev by : Bool → Bool → Bool → Bool → Bool → Bool → Served
+by written last ends odd edits closed =
+    if not (written || (last || ends)) then GoesOn else if odd then Odd else if not edits then Acknowledged else
     if not written then Failed else if closed then Closed else Acknowledged
 
-acknowledged : (w l o e c : Bool) → by w l o e c ≡ Acknowledged → (o ≡ false) × ((e ≡ false) ⊎ ((w ≡ true) × (c ≡ false)))
-acknowledged false false o e c a = absurd (let bad : GoesOn ≡ Acknowledged = a in cc)
-acknowledged false true true e c a = absurd (let bad : Odd ≡ Acknowledged = a in cc)
-acknowledged false true false false c a = (refl, inl refl)
-acknowledged false true false true c a = absurd (let bad : Failed ≡ Acknowledged = a in cc)
-acknowledged true l true e c a = absurd (let bad : Odd ≡ Acknowledged = a in cc)
-acknowledged true l false false c a = (refl, inl refl)
-acknowledged true l false true true a = absurd (let bad : Closed ≡ Acknowledged = a in cc)
-acknowledged true l false true false a = (refl, inr (refl, refl))
+-- the rest, once it is settled
+abbrev rest : Bool → Bool → Bool → Bool → Served
+rest written odd edits closed = if odd then Odd else if not edits then Acknowledged else if not written then Failed else if closed then Closed else Acknowledged
 
-waits : (w l o e c : Bool) → by w l o e c ≡ GoesOn → (w ≡ false) × (l ≡ false)
-waits false false o e c a = (refl, refl)
-waits false true true e c a = absurd (let bad : Odd ≡ GoesOn = a in cc)
-waits false true false false c a = absurd (let bad : Acknowledged ≡ GoesOn = a in cc)
-waits false true false true c a = absurd (let bad : Failed ≡ GoesOn = a in cc)
-waits true l true e c a = absurd (let bad : Odd ≡ GoesOn = a in cc)
-waits true l false false c a = absurd (let bad : Acknowledged ≡ GoesOn = a in cc)
-waits true l false true true a = absurd (let bad : Closed ≡ GoesOn = a in cc)
-waits true l false true false a = absurd (let bad : Acknowledged ≡ GoesOn = a in cc)
+rest_answers : (w o e c : Bool) → rest w o e c ≢ GoesOn
+rest_answers w true e c a = let bad : Odd ≡ GoesOn = a in cc
+rest_answers w false false c a = let bad : Acknowledged ≡ GoesOn = a in cc
+rest_answers false false true c a = let bad : Failed ≡ GoesOn = a in cc
+rest_answers true false true true a = let bad : Closed ≡ GoesOn = a in cc
+rest_answers true false true false a = let bad : Acknowledged ≡ GoesOn = a in cc
+
+rest_acknowledged : (w o e c : Bool) → rest w o e c ≡ Acknowledged → (o ≡ false) × ((e ≡ false) ⊎ ((w ≡ true) × (c ≡ false)))
+rest_acknowledged w true e c a = absurd (let bad : Odd ≡ Acknowledged = a in cc)
+rest_acknowledged w false false c a = (refl, inl refl)
+rest_acknowledged false false true c a = absurd (let bad : Failed ≡ Acknowledged = a in cc)
+rest_acknowledged true false true true a = absurd (let bad : Closed ≡ Acknowledged = a in cc)
+rest_acknowledged true false true false a = (refl, inr (refl, refl))
+
+acknowledged : (w l s o e c : Bool) → by w l s o e c ≡ Acknowledged → (o ≡ false) × ((e ≡ false) ⊎ ((w ≡ true) × (c ≡ false)))
+acknowledged false false false o e c a = absurd (let bad : GoesOn ≡ Acknowledged = a in cc)
+acknowledged false false true o e c a = rest_acknowledged false o e c a
+acknowledged false true s o e c a = rest_acknowledged false o e c a
+acknowledged true l s o e c a = rest_acknowledged true o e c a
+
+waits : (w l s o e c : Bool) → by w l s o e c ≡ GoesOn → (w ≡ false) × (l ≡ false) × (s ≡ false)
+waits false false false o e c a = (refl, refl, refl)
+waits false false true o e c a = absurd (rest_answers false o e c a)
+waits false true s o e c a = absurd (rest_answers false o e c a)
+waits true l s o e c a = absurd (rest_answers true o e c a)
 
 -- ---- what came, by whether it is large, of one name too many, and has room
 
@@ -68,14 +78,50 @@ unused false many e u = e
 is_not : (b : Bool) → b ≡ true → b ≢ false
 is_not b t f = let bad : true ≡ false = sym t ∙ f in cc
 
+-- ---- at the end, and where
+
+late : (amid : Bool) → amid ≡ false → (if amid then GoesOn else Late) ≡ Late
+late false e = refl
+late true e = absurd (let bad : true ≡ false = e in cc)
+
+zero_if : (n : ℕ) → (n == 0) ≡ true → n ≡ 0
+zero_if n e = grind arith
+
+is_so : (is : Bool) → (if is then GoesOn else Late) ≡ GoesOn → is ≡ true
+is_so true e = refl
+is_so false e = absurd (let bad : Late ≡ GoesOn = e in cc)
+
+rests : (waiting : ℕ) → (if waiting == 0 then GoesOn else Late) ≡ GoesOn → waiting ≡ 0
+rests waiting e = zero_if waiting (is_so (waiting == 0) e)
+
+abbrev placed_by : Bool → Bool → Bool → Served
+placed_by one profile same = if not one || not profile then Failed else if same then Profiles else Alone
+
+locked : (one profile same : Bool) → same ≡ true → placed_by one profile same ≢ Alone
+locked false p same s e = let bad : Failed ≡ Alone = e in cc
+locked true false same s e = let bad : Failed ≡ Alone = e in cc
+locked true true true s e = let bad : Profiles ≡ Alone = e in cc
+locked true true false s e = let bad : false ≡ true = s in cc
+
+unknown : (one profile same : Bool) → profile ≡ false → placed_by one profile same ≡ Failed
+unknown false p same e = refl
+unknown true false same e = refl
+unknown true true same e = absurd (let bad : true ≡ false = e in cc)
+
+others : (one profile same : Bool) → placed_by one profile same ≡ Profiles → same ≡ true
+others false p same e = absurd (let bad : Failed ≡ Profiles = e in cc)
+others true false same e = absurd (let bad : Failed ≡ Profiles = e in cc)
+others true true true e = refl
+others true true false e = absurd (let bad : Alone ≡ Profiles = e in cc)
+
 -- ---- the laws
 
 pub nothing_is_answered_unwritten : NothingIsAnsweredUnwritten
 nothing_is_answered_unwritten k = record {
-  acknowledged = acknowledged k.is_written (lasts k) (is_odd k) k.has_edits k.is_closed;
-  waits = waits k.is_written (lasts k) (is_odd k) k.has_edits k.is_closed;
-  written = λ w e. is_not k.is_written w (waits k.is_written (lasts k) (is_odd k) k.has_edits k.is_closed e).0;
-  lasting = λ l e. is_not (lasts k) l (waits k.is_written (lasts k) (is_odd k) k.has_edits k.is_closed e).1;
+  acknowledged = acknowledged k.is_written (lasts k) k.ends (is_odd k) k.has_edits k.is_closed;
+  waits = waits k.is_written (lasts k) k.ends (is_odd k) k.has_edits k.is_closed;
+  written = λ w e. is_not k.is_written w (waits k.is_written (lasts k) k.ends (is_odd k) k.has_edits k.is_closed e).0;
+  lasting = λ l e. is_not (lasts k) l (waits k.is_written (lasts k) k.ends (is_odd k) k.has_edits k.is_closed e).1;
   before = (unacknowledged (nat_lt 67108864 k.size) (not k.is_used && nat_le 64 k.names) (has_room k), unread (is_odd k));
 }
 
@@ -85,4 +131,22 @@ what_waits_is_bounded k = record {
   waiting = λ e. both (nat_lt k.waiting 10000) (nat_lt k.waiting_size 268435456) (goes_on (nat_lt 67108864 k.size) (not k.is_used && nat_le 64 k.names) (has_room k) e).2;
   names = λ e u. unused k.is_used (nat_le 64 k.names) (goes_on (nat_lt 67108864 k.size) (not k.is_used && nat_le 64 k.names) (has_room k) e).1 u;
   told = named (nat_lt 16777216 k.size);
+}
+
+at_the_end : (amid : Bool) (w l s o e c : Bool) → ((if amid then GoesOn else Late) ≡ Late) ⊎ ((amid ≡ true) × (s ≡ true → by w l s o e c ≢ GoesOn))
+at_the_end false w l s o e c = inl refl
+at_the_end true w l s o e c = inr (refl, λ t g. is_not s t (waits w l s o e c g).2)
+
+pub who_waits_is_told_at_the_end : WhoWaitsIsToldAtTheEnd
+who_waits_is_told_at_the_end k last = record {
+  told = at_the_end k.is_amid last.is_written (lasts last) last.ends (is_odd last) last.has_edits last.is_closed;
+  unwritten = late k.is_amid;
+  rests = rests k.waiting;
+}
+
+pub locks_count_where_they_are_known : LocksCountWhereTheyAreKnown
+locks_count_where_they_are_known k = record {
+  locked = locked k.is_open k.is_profile_open k.has_same_file;
+  unknown = unknown k.is_open k.is_profile_open k.has_same_file;
+  others = others k.is_open k.is_profile_open k.has_same_file;
 }

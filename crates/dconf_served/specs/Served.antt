@@ -1,7 +1,7 @@
--- What the D-Bus service answers to a call that changes settings.
+-- What the D-Bus service answers to a call that changes settings, and when it ends.
 use Rattle.std.specs.Prelude.{ℕ, ◌≡◌, ◌≢◌, ◌⊎◌, Bool, true, false, not, ◌&&◌, ◌||◌, if◌then◌else◌, ◌==◌, nat_lt, nat_le}
 use Rattle.dconf_served.specs.declared.served.Served.{Served}
-use Rattle.dconf_served.specs.declared.served.Served.TheVariants.{GoesOn, Acknowledged, Failed, Closed, Odd, TooLarge, TooMuch, TooManyNames}
+use Rattle.dconf_served.specs.declared.served.Served.TheVariants.{GoesOn, Acknowledged, Failed, Closed, Odd, TooLarge, TooMuch, TooManyNames, Late, Later, Profiles, Alone, Ends, Taken}
 use Rattle.dconf_served.specs.declared.served.ServedKnown.{ServedKnown}
 
 -- ---- when it came
@@ -28,9 +28,13 @@ read k = if is_odd k then Odd else GoesOn
 abbrev pub lasts : ServedKnown → Bool
 lasts k = (k.said == 1) || (k.said == 2)
 
+-- it is written, or isn't tried again
+abbrev pub is_settled : ServedKnown → Bool
+is_settled k = k.is_written || (lasts k || k.ends)
+
 abbrev pub tried : ServedKnown → Served
 tried k =
-    if not k.is_written && not (lasts k) then GoesOn else if is_odd k then Odd else if not k.has_edits then Acknowledged else
+    if not (is_settled k) then GoesOn else if is_odd k then Odd else if not k.has_edits then Acknowledged else
     if not k.is_written then Failed else if k.is_closed then Closed else Acknowledged
 
 -- ---- when it is told
@@ -39,8 +43,33 @@ tried k =
 abbrev pub told : ServedKnown → Served
 told k = if nat_lt 16777216 k.size then TooLarge else GoesOn
 
+-- ---- when the service ends
+
+-- a change that isn't answered: who is amid a try alone knows what becomes of it
+abbrev pub ended : ServedKnown → Served
+ended k = if k.is_amid then GoesOn else Late
+
+-- the thread rests if nothing waited
+abbrev pub left : ServedKnown → Served
+left k = if k.waiting == 0 then GoesOn else Late
+
+-- it hasn't its name: it had it, or the bus is gone; or another service has it
+abbrev pub named : ServedKnown → Served
+named k = if k.had_name || k.is_bus_closed then Ends else Taken
+
+-- ---- which changes are written together, and where
+
+abbrev pub joined : ServedKnown → Served
+joined k = if k.is_same then GoesOn else Later
+
+-- by the profile's store, and so with its locks, if that has the database as its user's; a profile that can't be opened might lock what is asked
+abbrev pub placed : ServedKnown → Served
+placed k = if not k.is_open || not k.is_profile_open then Failed else if k.has_same_file then Profiles else Alone
+
 abbrev pub served_after : ℕ → ServedKnown → Served
-served_after done k = if done == 0 then came k else if done == 1 then read k else if done == 3 then told k else tried k
+served_after done k = if done == 0 then came k else if done == 1 then read k else if done == 3 then told k else
+    if done == 4 then ended k else if done == 5 then joined k else if done == 6 then placed k else if done == 7 then left k else
+    if done == 8 then named k else tried k
 
 abbrev pub served_number : Served → ℕ
 served_number GoesOn = 0
@@ -51,14 +80,20 @@ served_number Odd = 4
 served_number TooLarge = 5
 served_number TooMuch = 6
 served_number TooManyNames = 7
+served_number Late = 8
+served_number Later = 9
+served_number Profiles = 10
+served_number Alone = 11
+served_number Ends = 12
+served_number Taken = 13
 
 -- ---- the laws
 
 pub record IsGoodAnswer (k : ServedKnown) : Type 0 where
   -- what is acknowledged is on the disk, or there was nothing to be made
   pub acknowledged : tried k ≡ Acknowledged → (is_odd k ≡ false) × ((k.has_edits ≡ false) ⊎ ((k.is_written ≡ true) × (k.is_closed ≡ false)))
-  -- it goes on waiting exactly as long as nothing is written, and the fault passes
-  pub waits : tried k ≡ GoesOn → (k.is_written ≡ false) × (lasts k ≡ false)
+  -- it goes on waiting exactly as long as nothing is written, the fault passes, and the service doesn't end
+  pub waits : tried k ≡ GoesOn → (k.is_written ≡ false) × (lasts k ≡ false) × (k.ends ≡ false)
   pub written : k.is_written ≡ true → tried k ≢ GoesOn
   pub lasting : lasts k ≡ true → tried k ≢ GoesOn
   -- nothing is acknowledged before
@@ -75,3 +110,24 @@ pub record IsBounded (k : ServedKnown) : Type 0 where
 
 abbrev pub WhatWaitsIsBounded : Type 0
 WhatWaitsIsBounded = (k : ServedKnown) → IsBounded k
+
+-- what was accepted, and is known to be so at the end, and at the end of the try that was under way
+pub record IsToldAtTheEnd (k last : ServedKnown) : Type 0 where
+  -- it was answered by a try, or is told now; or a try is under way, and that one answers it
+  pub told : (served_after 4 k ≡ Late) ⊎ ((k.is_amid ≡ true) × (last.ends ≡ true → served_after 2 last ≢ GoesOn))
+  -- what isn't under way isn't written any more
+  pub unwritten : k.is_amid ≡ false → served_after 4 k ≡ Late
+  -- the thread is waited for only if nobody is left to be told
+  pub rests : served_after 7 k ≡ GoesOn → k.waiting ≡ 0
+
+abbrev pub WhoWaitsIsToldAtTheEnd : Type 0
+WhoWaitsIsToldAtTheEnd = (k last : ServedKnown) → IsToldAtTheEnd k last
+
+-- the locks of the profile count for its own database, and nothing is written while they can't be known
+pub record IsPlacedSafely (k : ServedKnown) : Type 0 where
+  pub locked : k.has_same_file ≡ true → served_after 6 k ≢ Alone
+  pub unknown : k.is_profile_open ≡ false → served_after 6 k ≡ Failed
+  pub others : served_after 6 k ≡ Profiles → k.has_same_file ≡ true
+
+abbrev pub LocksCountWhereTheyAreKnown : Type 0
+LocksCountWhereTheyAreKnown = (k : ServedKnown) → IsPlacedSafely k

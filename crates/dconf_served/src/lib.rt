@@ -1,16 +1,17 @@
-//! What the D-Bus service answers to a call that changes settings, and when: once it came, once it is read, and after each try to write it.
+//! What the D-Bus service answers to a call that changes settings, and when: once it came, once it is read, after each try to write it, and
+//! at the service's end; and which store has the database that a call names.
 //!
 //! Nothing is kept here: each call is told what is known, and says what becomes of the change.
 #![tactic(auto)]
 
-ghost use Rattle.dconf_served.specs.Served.{NothingIsAnsweredUnwritten, WhatWaitsIsBounded};
+ghost use Rattle.dconf_served.specs.Served.{LocksCountWhereTheyAreKnown, NothingIsAnsweredUnwritten, WhatWaitsIsBounded, WhoWaitsIsToldAtTheEnd};
 
 mod served;
 
 pub use served::{Served, ServedKnown, served_after, served_number};
 
 /// A change is acknowledged only if all that can be made of it is on the disk, or nothing of it was to be made; and once it is written, or
-/// the fault lasts by which it can't be, it is answered.
+/// the fault lasts by which it can't be, or the service ends, it is answered.
 pub fn nothing_is_answered_unwritten()
     ensures { NothingIsAnsweredUnwritten }
 {}
@@ -19,4 +20,15 @@ pub fn nothing_is_answered_unwritten()
 /// bytes of paths.
 pub fn what_waits_is_bounded()
     ensures { WhatWaitsIsBounded }
+{}
+
+/// At the service's end whoever isn't answered is told so, and nothing of that is written any more; only a change that is being written is
+/// answered by that try.
+pub fn who_waits_is_told_at_the_end()
+    ensures { WhoWaitsIsToldAtTheEnd }
+{}
+
+/// The locks of the profile count for the database that it has as its user's; and nothing is written while they can't be known.
+pub fn locks_count_where_they_are_known()
+    ensures { LocksCountWhereTheyAreKnown }
 {}

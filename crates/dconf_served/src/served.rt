@@ -1,6 +1,6 @@
-//! What becomes of a call that changes settings.
+//! What becomes of a call that changes settings, and of the service that takes it.
 ghost use Rattle.std.specs.Prelude.{◌≡◌};
-ghost use Rattle.dconf_served.specs.Served.{came, has_room, is_odd, lasts, read, served_after, served_number, told, tried};
+ghost use Rattle.dconf_served.specs.Served.{came, ended, has_room, is_odd, is_settled, joined, lasts, left, named, placed, read, served_after, served_number, told, tried};
 
 /// A change has so many bytes at most.
 const LARGEST: u64 = 67_108_864;
@@ -38,6 +38,18 @@ pub enum Served {
     TooMuch,
     /// It is refused: too many databases are in use.
     TooManyNames,
+    /// The service ends: nothing of it is written any more, and that is its answer; or the thread that may still be at it is left.
+    Late,
+    /// It is for a later write: it is of another database.
+    Later,
+    /// Its database is the profile's, with its locks.
+    Profiles,
+    /// Its database is one by itself.
+    Alone,
+    /// The service ends, and takes what it was sent before.
+    Ends,
+    /// Another service has the name: this one never serves.
+    Taken,
 }
 
 /// What is known of a change, and of those that wait.
@@ -62,9 +74,24 @@ pub struct ServedKnown {
     pub is_written: bool,
     /// Nobody with the rights of this process may write there.
     pub is_closed: bool,
+    /// The service ends: nothing is tried again.
+    pub ends: bool,
+    /// A try to write it is under way.
+    pub is_amid: bool,
+    /// It is of the database whose changes are taken to be written together.
+    pub is_same: bool,
+    /// The store of its database alone is open, and that of the profile; and the user's file of both is the same.
+    pub is_open: bool,
+    pub is_profile_open: bool,
+    pub has_same_file: bool,
+    /// The service had its name, and the bus is gone.
+    pub had_name: bool,
+    pub is_bus_closed: bool,
 }
 
-/// What becomes of a change: 0 it came, 1 it is read, 3 what is seen otherwise by it is told, and else it was tried to write it.
+/// What becomes of a change: 0 it came, 1 it is read, 3 what is seen otherwise by it is told, 4 the service ends before it is answered, 5 it
+/// waits behind those that are taken, 6 the stores were opened that may have its database, and else it was tried to write it. And of the
+/// service: 7 each caller is answered who can be at its end, 8 it hasn't its name.
 pub fn served_after(done: u32, known: &ServedKnown) -> Served
     ensures { result ≡ served_after done known.now }
 {
@@ -72,11 +99,18 @@ pub fn served_after(done: u32, known: &ServedKnown) -> Served
         0 => came(known),
         1 => read(known),
         3 => told(known),
+        4 => ended(known),
+        5 => joined(known),
+        6 => placed(known),
+        7 => left(known),
+        8 => named(known),
         _ => tried(known),
     }
 }
 
-/// The same as a number: 0 it goes on, 1 it is acknowledged, 2 failed, 3 closed, 4 odd, 5 too large, 6 too much waits, 7 too many databases.
+/// The same as a number: 0 it goes on, 1 it is acknowledged, 2 failed, 3 closed, 4 odd, 5 too large, 6 too much waits, 7 too many databases, 8
+/// the service ends, 9 it is for a later write, 10 the profile's store has it, 11 a store of its own has it, 12 the service ends in peace, 13
+/// another one has the name.
 pub fn served_number(done: u32, known: &ServedKnown) -> u32
     ensures { result ≡ served_number (served_after done known.now) }
 {
@@ -89,6 +123,12 @@ pub fn served_number(done: u32, known: &ServedKnown) -> u32
         Served::TooLarge => 5,
         Served::TooMuch => 6,
         Served::TooManyNames => 7,
+        Served::Late => 8,
+        Served::Later => 9,
+        Served::Profiles => 10,
+        Served::Alone => 11,
+        Served::Ends => 12,
+        Served::Taken => 13,
     }
 }
 
@@ -132,7 +172,7 @@ fn is_odd(known: &ServedKnown) -> bool
 fn tried(known: &ServedKnown) -> Served
     ensures { result ≡ tried known.now }
 {
-    if !known.is_written && !lasts(known) {
+    if !is_settled(known) {
         return Served::GoesOn;
     }
     if is_odd(known) {
@@ -150,6 +190,13 @@ fn tried(known: &ServedKnown) -> Served
     Served::Acknowledged
 }
 
+/// It is written, or isn't tried again.
+fn is_settled(known: &ServedKnown) -> bool
+    ensures { result ≡ is_settled known.now }
+{
+    known.is_written || (lasts(known) || known.ends)
+}
+
 fn told(known: &ServedKnown) -> Served
     ensures { result ≡ told known.now }
 {
@@ -163,4 +210,57 @@ fn lasts(known: &ServedKnown) -> bool
     ensures { result ≡ lasts known.now }
 {
     known.said == 1 || known.said == 2
+}
+
+/// Who is amid a try alone knows what becomes of it: that try is its last.
+fn ended(known: &ServedKnown) -> Served
+    ensures { result ≡ ended known.now }
+{
+    if known.is_amid {
+        return Served::GoesOn;
+    }
+    Served::Late
+}
+
+/// Those of one database are written together, up to the first of another one: all are answered in the order in which they came.
+fn joined(known: &ServedKnown) -> Served
+    ensures { result ≡ joined known.now }
+{
+    if known.is_same {
+        return Served::GoesOn;
+    }
+    Served::Later
+}
+
+/// Each name has a store, if it can be opened. A profile that can't be might lock what is asked for: then nothing is written.
+fn placed(known: &ServedKnown) -> Served
+    ensures { result ≡ placed known.now }
+{
+    if !known.is_open || !known.is_profile_open {
+        return Served::Failed;
+    }
+    if known.has_same_file {
+        return Served::Profiles;
+    }
+    Served::Alone
+}
+
+/// The thread rests if nothing waited when the end came, and is waited for then; else it may be in line for its turn, or amid a try.
+fn left(known: &ServedKnown) -> Served
+    ensures { result ≡ left known.now }
+{
+    if known.waiting == 0 {
+        return Served::GoesOn;
+    }
+    Served::Late
+}
+
+/// Whoever takes the name from a service that had it is sent what comes from then on.
+fn named(known: &ServedKnown) -> Served
+    ensures { result ≡ named known.now }
+{
+    if known.had_name || known.is_bus_closed {
+        return Served::Ends;
+    }
+    Served::Taken
 }

@@ -1,5 +1,5 @@
 -- The files of a store that was found, by the names that a command has for them.
-use Rattle.std.specs.Prelude.{ℕ, List, ◌++◌, ◌∷◌, Bool, true, false, Option, Some, None, if◌then◌else◌}
+use Rattle.std.specs.Prelude.{ℕ, List, ◌++◌, ◌∷◌, Option, Some, None, if◌then◌else◌}
 use Rattle.dconf_model.specs.Paths.{starts_with_slash}
 use Rattle.dconf_found.specs.Renamed.{Names, no_names, users_names}
 
@@ -11,8 +11,3 @@ names_by (Some user) = users_names user
 -- the whole path of a file of the folder, or of one that is a path already
 abbrev pub path_in : List ℕ → List ℕ → List ℕ
 path_in folder name = if starts_with_slash name then name else folder ++ 47 ∷ name
-
--- a word gives the folder
-abbrev pub is_given : Option (List ℕ) → Bool
-is_given None = false
-is_given (Some folder) = true

@@ -1,9 +1,9 @@
 //! The store that `--user` or `--store` names, found as the library for C finds it.
-ghost use Rattle.std.specs.Prelude.{◌≡◌, ◌&&◌, not, IfOk, false, option_map};
+ghost use Rattle.std.specs.Prelude.{◌≡◌, ◌&&◌, not, IfOk, false, is_some, option_map};
 ghost use Rattle.std.specs.String.{string_bytes};
 ghost use Rattle.dconf_found.specs.Renamed.{held_name, names_of};
 ghost use Rattle.dconf_places.specs.Places.{is_beside};
-ghost use Rattle.dconf_surroundings.specs.Names.{is_given, names_by, path_in};
+ghost use Rattle.dconf_surroundings.specs.Names.{names_by, path_in};
 
 use crate::profiles::{Profile, profile_of};
 use crate::surroundings::{Surroundings, user_number};
@@ -118,7 +118,7 @@ pub fn enter<R: Files + Env + AllocGlobal>(
     makes: bool,
 ) -> Result<Found, NotFound>
     ensures one { IfOk result (λ found. (place.is_users && found.is_given) ≡ false) }
-    ensures given { IfOk result (λ found. found.is_given ≡ is_given (option_map string_bytes place.folder)) }
+    ensures given { IfOk result (λ found. found.is_given ≡ is_some place.folder) }
 {
     if place.is_users && place.folder.is_some() {
         return Err(NotFound::Both);

@@ -1,4 +1,11 @@
 //! What the environment and the system say of a store, to who finds it.
+ghost use Rattle.std.specs.Prelude.{◌≡◌, [], IfErr, IfOk, vec_items};
+ghost use Rattle.dconf_places.specs.Told.{giver_of};
+ghost use Rattle.dconf_homes.specs.Homes.{kind_for};
+ghost use Rattle.dconf_homes.specs.Homes.StoreKind.{unknown};
+ghost use Rattle.dconf_homes.specs.Told.{surroundings_of};
+ghost use Rattle.dconf_surroundings.specs.Known.{kind_if, known_to, no_variables};
+
 use crate::find::NotFound;
 use dconf_disk::{Folder, FolderFault, StdFolder};
 use dconf_found::MACHINE_FILE;
@@ -32,7 +39,9 @@ impl Surroundings {
     }
 
     /// Those of the machine alone.
-    pub fn of_machine<R: Files + AllocGlobal>(rt: &R) -> Result<Surroundings, NotFound> {
+    pub fn of_machine<R: Files + AllocGlobal>(rt: &R) -> Result<Surroundings, NotFound>
+        ensures alone { IfOk result (λ it. (known_to it).variables ≡ no_variables) }
+    {
         Ok(Surroundings {
             variables: Variables::none(rt),
             machine: Machine::of(rt)?,
@@ -40,7 +49,9 @@ impl Surroundings {
     }
 
     /// As the rules have them. The variables count: where they don't, the launcher hands none on.
-    pub(crate) fn around(&self) -> Around<'_> {
+    pub(crate) fn around(&self) -> Around<'_>
+        ensures { surroundings_of result ≡ known_to self.now }
+    {
         Around {
             environment: Environment {
                 counts: true,
@@ -57,7 +68,10 @@ impl Surroundings {
     }
 
     /// Whether the store is dconf's kind, if anybody knows.
-    pub fn is_dconfs(&self, given: Given<'_>) -> Result<bool, NotFound> {
+    pub fn is_dconfs(&self, given: Given<'_>) -> Result<bool, NotFound>
+        ensures kind { IfOk result (λ it. kind_for (known_to self.now) (giver_of given.entry) ≡ kind_if it) }
+        ensures unknown { IfErr result (λ _. kind_for (known_to self.now) (giver_of given.entry) ≡ unknown) }
+    {
         match self.around().kind(given) {
             FoundKind::Own => Ok(false),
             FoundKind::Dconfs => Ok(true),
@@ -105,7 +119,12 @@ impl Variables {
         })
     }
 
-    fn none<R: AllocGlobal>(rt: &R) -> Variables {
+    fn none<R: AllocGlobal>(rt: &R) -> Variables
+        ensures store { vec_items result.store ≡ [] }
+        ensures config { vec_items result.config ≡ [] }
+        ensures home { vec_items result.home ≡ [] }
+        ensures profile { vec_items result.profile ≡ [] }
+    {
         let alloc = rt.alloc();
         Variables {
             store: Vec::new(alloc),

@@ -15,9 +15,13 @@ is_guess when = when % 2 == 1
 abbrev pub has_seen : List Note → DconfdbAsked → Bool
 has_seen seen edit = list_any (λ s. bytes_eq s.path edit.path.now && nat_lt edit.when s.when) seen
 
+-- its program looked before the edit was asked for, and the same is there
+abbrev pub is_as_before : DconfdbAsked → Bool
+is_as_before edit = edit.has_looked && (edit.was == edit.is)
+
 -- its program has seen the path as it is since before the edit was asked for
 abbrev pub knows_better : List Note → DconfdbAsked → Bool
-knows_better seen edit = edit.is_as_before && not (has_seen seen edit)
+knows_better seen edit = is_as_before edit && not (has_seen seen edit)
 
 abbrev pub is_guess_of : DconfdbAsked → Note → Bool
 is_guess_of edit note = is_guess note.when && bytes_eq note.path edit.path.now

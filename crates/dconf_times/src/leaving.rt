@@ -1,7 +1,7 @@
 //! Which edits are left out, since others set their paths later.
 ghost use Rattle.std.specs.Prelude.{◌≡◌, ◌==◌, IfOk, filter, map};
 ghost use Rattle.std.specs.List.{list_any};
-ghost use Rattle.dconf_times.specs.Leaving.{has_seen, is_guess, is_late, is_left, overtakes};
+ghost use Rattle.dconf_times.specs.Leaving.{has_seen, is_as_before, is_guess, is_late, is_left, overtakes};
 ghost use Rattle.dconf_times.specs.Seeing.{seen_of};
 ghost use Rattle.dconf_times.specs.Times.{note_of};
 
@@ -19,10 +19,13 @@ pub struct DconfdbAsked<'a> {
     pub when: u64,
     /// The number of its change: the edits of one are made together.
     pub change: usize,
+    /// Numbers for what was there when the program looked before, and for what is there now.
+    pub was: u64,
+    pub is: u64,
     /// The program's last write may have left what it says, and it is there.
     pub is_own: bool,
-    /// The program looked before the edit was asked for, and the same is there.
-    pub is_as_before: bool,
+    /// The program looked before the edit was asked for.
+    pub has_looked: bool,
 }
 
 /// Which edits are left out: those that are overtaken, and all that are of a change with one.
@@ -91,6 +94,13 @@ fn has(numbers: &[usize], number: usize) -> bool
 }
 
 impl DconfdbAsked<'_> {
+    /// Whether the program looked before the edit was asked for, and the same is there.
+    fn is_as_before(&self) -> bool
+        ensures { result ≡ is_as_before self.now }
+    {
+        self.has_looked && self.was == self.is
+    }
+
     /// Whether others have set its path since.
     fn is_late(&self, notes: &[DconfdbTime<'_>], seen: &[DconfdbSeen<'_>], now: u64) -> bool
         ensures { result ≡ is_late now (map note_of notes.now) (map seen_of seen.now) self.now }
@@ -98,7 +108,7 @@ impl DconfdbAsked<'_> {
         if self.is_own {
             return false;
         }
-        let knows_better = self.is_as_before && !self.has_seen(seen);
+        let knows_better = self.is_as_before() && !self.has_seen(seen);
         self.is_overtaken(notes, knows_better, now)
     }
 

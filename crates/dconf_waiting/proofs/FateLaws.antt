@@ -1,5 +1,5 @@
 -- What becomes of a change that waits, whatever is known of it; the order in which they wait, and how many no longer do.
-use Rattle.std.proofs.Common.{ℕ, ◌≡◌, ◌+◌, ◌<◌, ◌≤◌, Bool, true, false, not, cond, min, List, [], ◌∷◌, map, length, get_or, refl, ap, sym, ◌∙◌, subst, arith}
+use Rattle.std.proofs.Common.{ℕ, ◌≡◌, ◌+◌, ◌<◌, ◌≤◌, Bool, true, false, cond, List, [], ◌∷◌, map, length, get_or, refl, sym, subst, arith}
 use Rattle.std.specs.Prelude.{◌&&◌, ◌||◌, ◌↔◌, if◌then◌else◌, ◌==◌, nat_lt, filter}
 use Rattle.std.proofs.lemmas.Bool.{ltb-true, le-ltb}
 use Rattle.std.proofs.lemmas.List.{length-map, get_or-map}
@@ -8,7 +8,6 @@ use Rattle.std.proofs.lemmas.List.Kept.{IsNonDecreasingBy-filter}
 use Rattle.dconf_waiting.specs.declared.fate.Fate.{Fate}
 use Rattle.dconf_waiting.specs.declared.fate.Fate.TheVariants.{Waits, Written, Refused, Overtaken}
 use Rattle.dconf_waiting.specs.declared.fate.Waiter.{Waiter}
-use Rattle.dconf_waiting.specs.declared.line.Tally.{Tally}
 use Rattle.dconf_waiting.specs.Fates.{IsInTurn, fate_number, fate_of, has_fate, is_made, is_overtaken, marked, more, so_many, waits}
 use Rattle.dconf_waiting.specs.WaitingLaws.{EachIsCountedOnce, NothingIsLost, WhatWaitsIsInOrder}
 

@@ -1,10 +1,10 @@
 -- A fault is said once, as long as it is there; and reads are as new as that is promised.
-use Rattle.std.proofs.Common.{ℕ, ◌≡◌, ◌≤◌, Bool, true, false, not, cond, refl, sym, subst, arith}
+use Rattle.std.proofs.Common.{ℕ, ◌≡◌, Bool, true, false, not, cond, refl, sym, subst, arith}
 use Rattle.std.specs.Prelude.{◌&&◌, ◌||◌, if◌then◌else◌, nat_le}
 use Rattle.std.proofs.lemmas.Bool.{le-leb}
 use Rattle.dconf_waiting.specs.declared.failing.Word.{Word}
 use Rattle.dconf_waiting.specs.declared.failing.Word.TheVariants.{Nothing, Say, Said, Over}
-use Rattle.dconf_waiting.specs.Faults.{lasts, longest, since_of, is_said_after, is_word, no_fault, failing_after, EachFaultIsSaidOnce}
+use Rattle.dconf_waiting.specs.Faults.{lasts, longest, since_of, is_said_after, is_word, EachFaultIsSaidOnce}
 use Rattle.dconf_waiting.specs.Patiences.{later_by}
 
 abbrev by : Bool → Bool → Bool → Bool → Word

@@ -3,3 +3,4 @@ pub mod PatienceLaws
 pub mod FaultLaws
 pub mod WrongMachines
 pub mod FateLaws
+pub mod BatchLaws

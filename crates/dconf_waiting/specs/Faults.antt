@@ -1,5 +1,5 @@
 -- What is said of a fault while it lasts.
-use Rattle.std.specs.Prelude.{ℕ, ◌≡◌, ◌↔◌, Bool, true, false, not, ◌&&◌, ◌||◌, if◌then◌else◌, nat_le}
+use Rattle.std.specs.Prelude.{ℕ, ◌≡◌, Bool, true, false, not, ◌&&◌, ◌||◌, if◌then◌else◌, nat_le}
 use Rattle.dconf_waiting.specs.declared.failing.Failing.{Failing}
 use Rattle.dconf_waiting.specs.declared.failing.Word.{Word}
 use Rattle.dconf_waiting.specs.declared.failing.Word.TheVariants.{Nothing, Say, Said, Over}

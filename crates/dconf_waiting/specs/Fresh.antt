@@ -1,5 +1,5 @@
 -- How new what is seen is, where nobody watches the files.
-use Rattle.std.specs.Prelude.{ℕ, ◌≡◌, ◌+◌, ◌≤◌, ◌<◌, Bool, true, false, not, ◌&&◌, ◌||◌, if◌then◌else◌, ◌==◌, nat_le}
+use Rattle.std.specs.Prelude.{ℕ, ◌≡◌, ◌+◌, ◌≤◌, ◌<◌, Bool, true, not, ◌&&◌, ◌||◌, if◌then◌else◌, ◌==◌, nat_le}
 use Rattle.dconf_waiting.specs.declared.fresh.Looker.{Looker}
 use Rattle.dconf_waiting.specs.declared.fresh.Looker.TheVariants.{Reads, Failed, Tells}
 use Rattle.dconf_waiting.specs.Patiences.{later_by}

@@ -5,3 +5,4 @@ pub mod Dues
 pub mod Faults
 pub mod Fresh
 pub mod WaitingLaws
+pub mod Batches

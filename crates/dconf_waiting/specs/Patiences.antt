@@ -1,5 +1,5 @@
 -- How long somebody waits until what waits is written, in microseconds.
-use Rattle.std.specs.Prelude.{ℕ, ◌+◌, min, Bool, not, ◌&&◌, if◌then◌else◌, ◌==◌}
+use Rattle.std.specs.Prelude.{ℕ, ◌+◌, min, not, ◌&&◌, if◌then◌else◌, ◌==◌}
 use Rattle.dconf_files.specs.Stamps.{is_same_time}
 use Rattle.dconf_files.specs.declared.stamp.FileTime.{FileTime}
 use Rattle.dconf_waiting.specs.declared.patience.Patience.{Patience}

@@ -9,6 +9,7 @@ ghost use Rattle.dconf_waiting.specs.Faults.{EachFaultIsSaidOnce};
 ghost use Rattle.dconf_waiting.specs.Fresh.{NoReadIsTooOld};
 ghost use Rattle.dconf_waiting.specs.WaitingLaws.{EachIsCountedOnce, EveryWaitEnds, NothingIsLost, TheNewestIsFound, WhatWaitsIsInOrder};
 
+mod batch;
 mod due;
 mod failing;
 mod fate;
@@ -17,6 +18,7 @@ mod line;
 mod newest;
 mod patience;
 
+pub use batch::{BatchRecord, BatchStep};
 pub use due::{pause_after, sleep_until};
 pub use failing::{Failing, Word};
 pub use fate::{Fate, Waiter, WaitingEdit, fate_number, fate_of};

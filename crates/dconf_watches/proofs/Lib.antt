@@ -1,2 +1,3 @@
 pub mod BitProofs
 pub mod WatchProofs
+pub mod RoundProofs

@@ -2,4 +2,5 @@ pub mod Names
 pub mod Events
 pub mod Inotify
 pub mod Numbers
+pub mod Rounds
 pub mod WatchLaws

@@ -1,5 +1,5 @@
 -- Names, events and what is heard as numbers.
-use Rattle.std.specs.Prelude.{ℕ, List, Bool, not, ◌≡◌, if◌then◌else◌, ◌==◌}
+use Rattle.std.specs.Prelude.{ℕ, List, Bool, not, nat_lt, ◌≡◌, if◌then◌else◌, ◌==◌}
 use Rattle.dconf_watches.specs.declared.name.NameWatch.{NameWatch}
 use Rattle.dconf_watches.specs.declared.name.Way.{Way}
 use Rattle.dconf_watches.specs.declared.name.Way.TheVariants.{Ends, Follows, Enters, Stays, Rises}
@@ -38,14 +38,26 @@ way_number Enters = 2
 way_number Stays = 3
 way_number Rises = 4
 
+-- a link is followed if no more than so many were on the way, as the system has it
+abbrev pub most_links : ℕ
+most_links = 40
+
+abbrev pub within : ℕ → Way → Way
+within followed Follows = if nat_lt followed most_links then Follows else Ends
+within followed way = way
+
+-- what a change of the file means: of a profile that other files may be the store's
+abbrev pub role_of : Bool → Heard
+role_of is_profile = if is_profile then Heard.Path else Heard.File
+
 abbrev pub watched_so : Bool → List ℕ → List ℕ → Bool → ℕ → ℕ → NameWatch
 watched_so minds folder name last mode links =
     watch_at name (watch_of (found_by mode links) last (is_busy minds folder) (is_busy_in minds folder name))
 
--- a name on the way, at which a file of that mode stands, and which has so many names
-pub record IsWatchedName (it : WatchedName) (minds : Bool) (folder name : List ℕ) (last : Bool) (mode links role : ℕ) : Type 0 where
+-- a name on the way, at which a file of that mode stands, and which has so many names, after so many links
+pub record IsWatchedName (it : WatchedName) (minds : Bool) (folder name : List ℕ) (last : Bool) (mode links followed : ℕ) (is_profile : Bool) : Type 0 where
   pub watched : it.watch ≡ name_watch_number (watched_so minds folder name last mode links)
   pub asked : it.asked ≡ asked_of (watched_so minds folder name last mode links)
-  pub goes : it.way ≡ way_number (way_at name (way_of (found_by mode links) last))
+  pub goes : it.way ≡ way_number (within followed (way_at name (way_of (found_by mode links) last)))
   pub needed : it.is_needed ≡ is_needed (watched_so minds folder name last mode links)
-  pub heard : it.comes ≡ heard_number (heard_as (found_by mode links) last (heard_of role))
+  pub heard : it.comes ≡ heard_number (heard_as (found_by mode links) last (role_of is_profile))

@@ -5,12 +5,14 @@
 //! store's, or not at all. Nothing is watched here: whoever watches says what it found, and does as it is told.
 #![tactic(auto)]
 
+ghost use Rattle.dconf_watches.specs.Rounds.{RoundsEnd};
 ghost use Rattle.dconf_watches.specs.WatchLaws.{AllThatCountsIsAskedFor, AllThatCountsIsHeard, AllThatIsHeardIsAskedFor, EachBitIsRead, NobodyElseIsHeard, TheEndIsWatched};
 
 mod event;
 mod inotify;
 mod name;
 mod numbers;
+mod rounds;
 
 pub use event::{Event, Heard, Of, louder, meaning};
 pub use inotify::{asked_of, event_in, found_by};
@@ -19,6 +21,7 @@ pub use name::{
     way_of,
 };
 pub use numbers::{WatchedName, heard_number, watched_name};
+pub use rounds::{AfterRound, Sight, WatchRounds};
 
 /// Where a path ends, what comes to that name is watched, and so is each link. Only in a folder in which much happens, and which is not
 /// minded, is a missing name not waited for.
@@ -50,4 +53,9 @@ pub fn all_that_is_heard_is_asked_for()
 /// Whatever counts at a file's own name is asked for.
 pub fn all_that_counts_is_asked_for()
     ensures { AllThatCountsIsAskedFor }
+{}
+
+/// All is watched only if the last round found nothing more and missed nothing that is needed; and after 64 rounds there is no other one.
+pub fn rounds_end()
+    ensures { RoundsEnd }
 {}

@@ -3,7 +3,7 @@ ghost use Rattle.std.specs.Prelude.{◌≡◌};
 ghost use Rattle.dconf_watches.specs.Events.{louder, meaning};
 ghost use Rattle.dconf_watches.specs.Inotify.{event_in, found_by};
 ghost use Rattle.dconf_watches.specs.Names.{heard_as, way_at, way_of};
-ghost use Rattle.dconf_watches.specs.Numbers.{IsWatchedName, heard_number, heard_of, name_watch_number, name_watch_of, of_what, watched_so, way_number};
+ghost use Rattle.dconf_watches.specs.Numbers.{IsWatchedName, heard_number, heard_of, name_watch_number, name_watch_of, of_what, role_of, watched_so, way_number, within};
 
 use crate::event::{Heard, Of, louder, meaning};
 use crate::inotify::{asked_of, event_in, found_by};
@@ -26,8 +26,8 @@ pub struct WatchedName {
 }
 
 /// A name in that folder, which is no link; the root's path is empty. `is_last`: it is the path's last one. At it a file of that mode
-/// stands, which has so many names: the mode is 0 where nothing does. `minds` who minds much that happens. `role` is what a change of the
-/// file means.
+/// stands, which has so many names: the mode is 0 where nothing does. `minds` who minds much that happens. So many links were followed on the
+/// way. `is_profile`: if the file changes other files may be the store's.
 pub fn watched_name(
     minds: bool,
     folder: &[u8],
@@ -35,19 +35,42 @@ pub fn watched_name(
     is_last: bool,
     mode: u32,
     links: u64,
-    role: u32,
+    followed: u64,
+    is_profile: bool,
 ) -> WatchedName
-    ensures { IsWatchedName result minds folder.now name.now is_last mode links role }
+    ensures { IsWatchedName result minds folder.now name.now is_last mode links followed is_profile }
 {
     let found = found_by(mode, links);
     let watch = watched_so(minds, folder, name, is_last, mode, links);
     WatchedName {
         watch: watch_number(watch),
         asked: asked_of(watch),
-        way: way_number(way_at(name, way_of(found, is_last))),
-        comes: heard_number_of(heard_as(found, is_last, heard_of(role))),
+        way: way_number(within(followed, way_at(name, way_of(found, is_last)))),
+        comes: heard_number_of(heard_as(found, is_last, role_of(is_profile))),
         is_needed: is_needed(watch),
     }
+}
+
+/// So many links are followed on a way, as the system has it.
+const MOST_LINKS: u64 = 40;
+
+fn within(followed: u64, way: Way) -> Way
+    ensures { result ≡ within followed way }
+{
+    match way {
+        Way::Follows if followed < MOST_LINKS => Way::Follows,
+        Way::Follows => Way::Ends,
+        Way::Ends => Way::Ends,
+        Way::Enters => Way::Enters,
+        Way::Stays => Way::Stays,
+        Way::Rises => Way::Rises,
+    }
+}
+
+fn role_of(is_profile: bool) -> Heard
+    ensures { result ≡ role_of is_profile }
+{
+    if is_profile { Heard::Path } else { Heard::File }
 }
 
 fn watched_so(

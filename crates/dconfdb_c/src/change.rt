@@ -1,5 +1,5 @@
 //! The user's database with changes, and what of them is there already.
-ghost use Rattle.std.specs.Prelude.{◌≡◌, ◌≢◌, ◌↔◌, ◌⊎◌, ℕ, IsTrue, List, false};
+ghost use Rattle.std.specs.Prelude.{◌≡◌, ◌≢◌, ◌↔◌, ◌⊎◌, ℕ, IsTrue, List, false, true};
 ghost use Rattle.std.specs.List.{list_any};
 ghost use Rattle.dconfdb_calls.specs.Changed.{IsChanged};
 ghost use Rattle.dconfdb_calls.specs.Given.{HandsOut};
@@ -9,7 +9,7 @@ ghost use Rattle.dconf_made.specs.Courses.{course_after, task_number};
 ghost use Rattle.dconf_made.specs.Needs.{need_of, users_of};
 
 use dconf_layers::Layer;
-use dconf_made::{Course, changed_file, course_number, is_made};
+use dconf_made::{Course, changed_file, course_number, is_left};
 use dconfdb_calls::{DconfdbChange, hand_out};
 use std::alloc::Global;
 
@@ -49,19 +49,22 @@ pub extern "C" fn dconfdb_change(
 }
 
 /// Whether the user's database, which is the first if it may be written (`writable`), has what a change asks for already: this value
-/// of the key or, if it sets nothing, none, or none below the directory. Where memory is lacking, it counts as what it hasn't.
+/// of the key or, if it sets nothing, none, or none below the directory. If nothing can have left it there (`may_be` is false), it isn't asked, and
+/// hasn't. Where memory is lacking, it counts as what it hasn't.
 #[unsafe(no_mangle)]
 pub extern "C" fn dconfdb_is_made(
     alloc: Global,
     layers: &[Layer<'_>],
     writable: bool,
+    may_be: bool,
     change: &DconfdbChange<'_>,
     is: &mut bool,
 ) -> u32
-    ensures done { result ≡ 0 → IsTrue is.new ↔ IsMade (layers_of layers.now writable) change.now }
+    ensures done { may_be ≡ true → result ≡ 0 → IsTrue is.new ↔ IsMade (layers_of layers.now writable) change.now }
+    ensures none { may_be ≡ false → (result ≡ 0) × (is.new ≡ false) }
     ensures refused { result ≢ 0 → (result ≡ 1) × (is.new ≡ false) }
 {
-    match is_made(alloc, layers, writable, change) {
+    match is_left(alloc, layers, writable, may_be, change) {
         Ok(made) => {
             *is = made;
             0

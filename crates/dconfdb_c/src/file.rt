@@ -1,19 +1,11 @@
-//! Whether a file is the one that was read, or of which something was made, whose a new one is, and how it becomes so.
+//! Whether a file is the one that was read, or of which something was made, and how a new one becomes whose it is to be.
 ghost use Rattle.std.specs.Prelude.{◌≡◌};
 ghost use Rattle.dconf_files.specs.Handings.{handed_after, handing_number, handing_value, what_of};
-ghost use Rattle.dconf_files.specs.Owners.{IsToldOwner, owner_of};
 ghost use Rattle.dconf_files.specs.Stamps.{sameness_number, sameness_of};
 ghost use Rattle.dconf_parts.specs.Parts.{beside, beside_number, purpose_of};
 
-use dconf_files::{
-    FileOwner, FileStamp, MadeFile, NewFile, NewOwner, OldFile, handing_numbers, owner_and_bits,
-    sameness_number,
-};
+use dconf_files::{FileStamp, MadeFile, handing_numbers, sameness_number};
 use dconf_parts::{DconfdbPartSeen, beside_number};
-
-const EAGAIN: u32 = 11;
-
-const EACCES: u32 = 13;
 
 /// Whether a file is the one that was read from that moment on: 0 it is, 1 it is another one or has
 /// changed, 2 it may have. `is_held`: it has been open or mapped since.
@@ -41,28 +33,6 @@ pub extern "C" fn dconfdb_beside(
     ensures { result ≡ beside_number (beside (purpose_of purpose) old.now now.now seen.now) }
 {
     beside_number(purpose, old, now, seen)
-}
-
-/// Whose the new file is, and its permission bits: 0 it is given so; or an errno, 13 it is refused, 11 what was read is
-/// another one by now, and then `given` stays as it was.
-#[unsafe(no_mangle)]
-pub extern "C" fn dconfdb_owner_and_bits(
-    old: &OldFile,
-    above: &FileOwner,
-    is_root: bool,
-    keeps: bool,
-    given: &mut NewFile,
-) -> u32
-    ensures { IsToldOwner (owner_of old.now above.now is_root keeps) given.old result given.new }
-{
-    match owner_and_bits(old, *above, is_root, keeps) {
-        NewOwner::Given(new) => {
-            *given = new;
-            0
-        }
-        NewOwner::Refused => EACCES,
-        NewOwner::Again => EAGAIN,
-    }
 }
 
 /// What comes next with what was just made: what 0 a lock, 1 a file, else a folder, once that was done: 0 nothing, 1 it was made, 2 it got its user,

@@ -21,6 +21,7 @@ mod look;
 mod making;
 mod notice;
 mod open;
+mod options;
 mod order;
 mod parsing;
 mod places;

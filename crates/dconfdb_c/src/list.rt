@@ -1,24 +1,26 @@
 //! Names and paths that are listed: texts, a zero byte after each.
-ghost use Rattle.std.specs.Prelude.{◌≡◌, ◌≢◌, ◌<◌, ◌++◌, ℕ, List, false, true};
+ghost use Rattle.std.specs.Prelude.{◌≡◌, ◌≢◌, ◌<◌, ◌++◌, ◌∷◌, [], ℕ, IfErr, IfOk, IsOk, List, false, true};
 ghost use Rattle.dconf_model.specs.Layers.{all_paths, child_names, locks_below};
 ghost use Rattle.dconf_model.specs.Walks.{keys_below};
 ghost use Rattle.std.specs.FinMap.{keys};
 ghost use Rattle.dconf_differences.specs.Differing.{AreDiffering, first_keys, with_first};
 ghost use Rattle.dconf_layers.specs.LayerSettings.{settings_of};
 ghost use Rattle.dconfdb_calls.specs.Given.{HandsOut, IsDirectory};
-ghost use Rattle.dconfdb_calls.specs.Listed.{IsNoListingTold, ended};
+ghost use Rattle.dconfdb_calls.specs.Listed.{IsNoListing, IsNoListingTold, ended};
 ghost use Rattle.dconfdb_calls.specs.Seen.{layers_of};
-ghost use Rattle.dconfdb_c.specs.Own.{own_of};
+ghost use Rattle.dconfdb_c.specs.Own.{closed_below, own_of};
 
 use dconf_layers::Layer;
 use dconfdb_calls::{
-    differing_keys, directory_locks, directory_names, hand_out, keys_differing_first, paths_below,
+    Fault, differing_keys, directory_locks, directory_names, hand_out, keys_differing_first,
+    paths_below,
 };
-use std::alloc::Global;
+use std::alloc::{AllocError, Global};
 
 /// What is listed of a directory, by `what`: 0 the names of what it has in any layer, a key's, and a directory's with its `/`; 1 the
 /// same of the first layer alone, if that is the user's (`writable`), and else none; 2 the paths of the keys below it that any layer has;
-/// and else the paths of the locks that start with it, of the layers from the second on.
+/// 3 the paths of the locks that start with it, of the layers from the second on; and else the same, or, if no layer is the user's, the
+/// directory itself.
 ///
 /// They are in the order of their bytes, once each. `len` says how many bytes they take; a room that is too short for them stays as it
 /// was. Else the number of a fault, and nothing changes.
@@ -35,7 +37,8 @@ pub extern "C" fn dconfdb_list(
     ensures names { what ≡ 0 → result ≡ 0 → HandsOut (ended (child_names (layers_of layers.now true) directory.now)) room.old room.new len.new }
     ensures own { what ≡ 1 → result ≡ 0 → HandsOut (ended (child_names (layers_of (own_of writable layers.now) true) directory.now)) room.old room.new len.new }
     ensures paths { what ≡ 2 → result ≡ 0 → HandsOut (ended (keys_below (all_paths (layers_of layers.now true).layers) directory.now)) room.old room.new len.new }
-    ensures locks { 2 < what → result ≡ 0 → HandsOut (ended (locks_below (layers_of layers.now true) directory.now)) room.old room.new len.new }
+    ensures locks { what ≡ 3 → result ≡ 0 → HandsOut (ended (locks_below (layers_of layers.now true) directory.now)) room.old room.new len.new }
+    ensures closed { 3 < what → result ≡ 0 → HandsOut (ended (closed_below writable (layers_of layers.now true) directory.now)) room.old room.new len.new }
     ensures directory { result ≡ 0 → IsDirectory directory.now }
     ensures refused { result ≢ 0 → IsNoListingTold directory.now result }
     ensures kept { result ≢ 0 → (room.new ≡ room.old) × (len.new ≡ len.old) }
@@ -44,7 +47,8 @@ pub extern "C" fn dconfdb_list(
         0 => list_names(alloc, layers, directory, room, len),
         1 => list_names(alloc, own_of(writable, layers), directory, room, len),
         2 => list_paths(alloc, layers, directory, room, len),
-        _ => list_locks(alloc, layers, directory, room, len),
+        3 => list_locks(alloc, layers, directory, room, len),
+        _ => list_closed(alloc, layers, writable, directory, room, len),
     }
 }
 
@@ -125,6 +129,54 @@ fn list_locks(
         }
         Err(fault) => fault.number(),
     }
+}
+
+/// What of a directory nobody may write: the locks that start with it, or, if no layer is the user's, the directory itself.
+fn list_closed(
+    alloc: Global,
+    layers: &[Layer<'_>],
+    writable: bool,
+    directory: &[u8],
+    room: &mut [u8],
+    len: &mut usize,
+) -> u32
+    ensures done { result ≡ 0 → HandsOut (ended (closed_below writable (layers_of layers.now true) directory.now)) room.old room.new len.new }
+    ensures directory { result ≡ 0 → IsDirectory directory.now }
+    ensures refused { result ≢ 0 → IsNoListingTold directory.now result }
+    ensures kept { result ≢ 0 → (room.new ≡ room.old) × (len.new ≡ len.old) }
+{
+    if writable {
+        return list_locks(alloc, layers, directory, room, len);
+    }
+    match whole(alloc, directory) {
+        Ok(path) => {
+            *len = hand_out(path.as_slice(), room);
+            0
+        }
+        Err(fault) => fault.number(),
+    }
+}
+
+/// The path of a directory, a zero byte after it.
+fn whole(alloc: Global, directory: &[u8]) -> Result<Vec<u8>, Fault>
+    ensures path { IfOk result (λ all. all.items ≡ ended (directory.now ∷ [])) }
+    ensures directory { IsOk result → IsDirectory directory.now }
+    ensures fault { IfErr result (IsNoListing directory.now) }
+{
+    directory_locks(alloc, &[], directory)?;
+    match with_zero(alloc, directory) {
+        Ok(path) => Ok(path),
+        Err(_) => Err(Fault::Memory),
+    }
+}
+
+fn with_zero(alloc: Global, path: &[u8]) -> Result<Vec<u8>, AllocError>
+    ensures { IfOk result (λ all. all.items ≡ path.now ++ (0 ∷ [])) }
+{
+    let mut all = Vec::new(alloc);
+    all.extend_from_slice(path)?;
+    all.push(0)?;
+    Ok(all)
 }
 
 /// The paths of the keys that are seen otherwise through other layers: another value is seen, or one where none was, or only one side has

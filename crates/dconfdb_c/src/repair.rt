@@ -3,12 +3,12 @@ ghost use Rattle.std.specs.Prelude.{◌≡◌, ◌≢◌, ◌↔◌, IsTrue};
 ghost use Rattle.dconf_mended.specs.Heads.{IsHead};
 ghost use Rattle.dconf_mended.specs.Mending.{IsMendedTold};
 
-use dconf_mended::{may_be_database, mended_file, standing_number};
+use dconf_mended::{is_told, may_be_database, mended_file, standing_number};
 use dconfdb_calls::hand_out;
 use std::alloc::Global;
 
 /// What a file counts as that isn't sound: 0, the sound database that it stands for, since dconf made it of no key; 1, what the
-/// command `repair` keeps, which has so many values and locks; 2, nothing. The bytes are handed out as `dconfdb_list` does. Else the
+/// command `repair` keeps, which has so many values and locks; 2, nothing. `told` says whether what is wrong with it is told. The bytes are handed out as `dconfdb_list` does. Else the
 /// number of a fault, and nothing changes.
 #[unsafe(no_mangle)]
 pub extern "C" fn dconfdb_mend(
@@ -17,17 +17,19 @@ pub extern "C" fn dconfdb_mend(
     room: &mut [u8],
     len: &mut usize,
     standing: &mut u32,
+    told: &mut bool,
     keys: &mut usize,
     locks: &mut usize,
 ) -> u32
-    ensures done { result ≡ 0 → IsMendedTold file.now room.old room.new len.new standing.new keys.new locks.new }
+    ensures done { result ≡ 0 → IsMendedTold file.now room.old room.new len.new standing.new keys.new locks.new told.new }
     ensures refused { result ≢ 0 → result ≡ 1 }
-    ensures kept { result ≢ 0 → (room.new ≡ room.old) × (len.new ≡ len.old) × (standing.new ≡ standing.old) × (keys.new ≡ keys.old) × (locks.new ≡ locks.old) }
+    ensures kept { result ≢ 0 → (room.new ≡ room.old) × (len.new ≡ len.old) × (standing.new ≡ standing.old) × (told.new ≡ told.old) × (keys.new ≡ keys.old) × (locks.new ≡ locks.old) }
 {
     match mended_file(alloc, file) {
         Ok(mended) => {
             *len = hand_out(mended.file.as_slice(), room);
             *standing = standing_number(mended.standing);
+            *told = is_told(mended.standing);
             *keys = mended.keys;
             *locks = mended.locks;
             0

@@ -1,30 +1,41 @@
 //! As what the files of a site are looked at, and what is found there.
-ghost use Rattle.std.specs.Prelude.{◌≡◌};
+ghost use Rattle.std.specs.Prelude.{◌≡◌, ◌≢◌, ◌≤◌, false, map, true};
 ghost use Rattle.std.specs.List.{list_any};
+ghost use Rattle.dconf_roles.specs.Folders.{is_read, role_of, sources_in};
 ghost use Rattle.dconf_roles.specs.Findings.{finding_of, finding_number};
-ghost use Rattle.dconf_roles.specs.Numbers.{reading_number, role_number, role_numbered};
+ghost use Rattle.dconf_roles.specs.Nearness.{is_nearer, nearing_after};
+ghost use Rattle.dconf_roles.specs.Numbers.{reading_number};
 ghost use Rattle.dconf_roles.specs.Readings.{reading};
-ghost use Rattle.dconf_roles.specs.Roles.{role_after, role_among};
+ghost use Rattle.dconf_roles.specs.Roles.{role_among};
 ghost use Rattle.dconf_roles.specs.Slips.{is_slip};
 
-use dconf_roles::{FindingKnown, Name, finding_number, reading_number, role_number};
-
-/// As what `update` takes the files of a folder, or a file, by the role of the folder in which it has that name: 1 a keyfile, 2 a file of
-/// locks, 3 hidden, 4 not read, else what its text says.
-#[unsafe(no_mangle)]
-pub extern "C" fn dconfdb_role_after(role: u32, name: &[u8], is_folder: bool) -> u32
-    ensures { result ≡ role_number (role_after (role_numbered role) name.now is_folder) }
-{
-    role_number(role, name, is_folder)
-}
+use dconf_roles::{
+    FindingKnown, Name, Nearing, finding_number, is_nearer, is_read, reading_number, role_of,
+    sources_in,
+};
+use std::alloc::Global;
 
 /// As what a file of so many bytes is looked at, of which these are there: 0 a keyfile, 1 locks, 2 a profile, 3 a database; or not at
-/// all: 4 it is left out in silence, 5 it is not read, 6 it is a database among sources, 7 it is too big, 8 it is none of these.
-/// `is_one_read`: of the files that are asked for `update` reads one of its folder.
+/// all: 4 it is left out in silence, 5 it is not read, 6 it is a database among sources, 7 it is too big, 8 it is none of these. It has that
+/// name in the last of these folders, the first of which is in the root; `is_one_read`: of the files that are asked for `update` reads one of
+/// its folder NAME.d. `sources` is how many of the folders there are up to the last NAME.d, or 0, and `is_read` whether `update` reads the file.
 #[unsafe(no_mangle)]
-pub extern "C" fn dconfdb_read_as(role: u32, is_one_read: bool, size: u64, text: &[u8]) -> u32
-    ensures { result ≡ reading_number (reading (role_among (role_numbered role) is_one_read) size text.now) }
+pub extern "C" fn dconfdb_read_as(
+    folders: &[Name<'_>],
+    name: &[u8],
+    is_one_read: bool,
+    size: u64,
+    text: &[u8],
+    sources: &mut usize,
+    is_source: &mut bool,
+) -> u32
+    ensures reading { result ≡ reading_number (reading (role_among (role_of (map (λ f. f.text.now) folders.now) name.now) is_one_read) size text.now) }
+    ensures sources { sources.new ≡ sources_in (map (λ f. f.text.now) folders.now) }
+    ensures is_source { is_source.new ≡ is_read (role_of (map (λ f. f.text.now) folders.now) name.now) }
 {
+    let role = role_of(folders, name);
+    *sources = sources_in(folders);
+    *is_source = is_read(role);
     reading_number(role, is_one_read, size, text)
 }
 
@@ -39,4 +50,24 @@ pub extern "C" fn dconfdb_finding(
     ensures { result ≡ finding_number (finding_of known.now (list_any (λ other. is_slip directory.now other.text.now) others.now)) }
 {
     finding_number(known, directory, others)
+}
+
+/// Whether another name is near to one that is missing, and nearer than those before: 0 it isn't, 1 it is, 2 no memory is left.
+#[unsafe(no_mangle)]
+pub extern "C" fn dconfdb_is_nearer(
+    alloc: Global,
+    nearing: &mut Nearing,
+    name: &[u8],
+    other: &[u8],
+) -> u32
+    ensures no { result ≡ 0 → is_nearer nearing.old name.now other.now ≡ false }
+    ensures yes { result ≡ 1 → is_nearer nearing.old name.now other.now ≡ true }
+    ensures after { result ≢ 2 → nearing.new ≡ nearing_after nearing.old name.now other.now }
+    ensures kept { result ≡ 2 → nearing.new ≡ nearing.old }
+    ensures within { result ≤ 2 }
+{
+    match is_nearer(alloc, nearing, name, other) {
+        Ok(is) => u32::from(is),
+        Err(_) => 2,
+    }
 }

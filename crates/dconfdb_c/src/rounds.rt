@@ -1,14 +1,14 @@
-//! What is done next by who writes what waits, by who wants to know that it is on the disk, by who looks at an open store's files, and by
-//! who tells what is seen otherwise.
+//! What is done next by who writes what waits, by who has it written, or ends, or wants to know that it is on the disk, by who looks at an open
+//! store's files, and by who tells what is seen otherwise.
 ghost use Rattle.std.specs.Prelude.{◌≡◌};
 ghost use Rattle.dconf_rounds.specs.Glances.{glance_after, glance_number};
 ghost use Rattle.dconf_rounds.specs.Rounds.{is_at_work, task_after, task_number};
-ghost use Rattle.dconf_rounds.specs.Syncs.{sync_after, sync_number};
 ghost use Rattle.dconf_rounds.specs.Telling.{tell_next, telling_number};
+ghost use Rattle.dconf_rounds.specs.Writers.{writer_number};
 
 use dconf_rounds::{
-    GlanceKnown, Known, SyncKnown, TellKnown, glance_number, is_at_work, sync_number, task_number,
-    telling_number,
+    GlanceKnown, Known, TellKnown, WriterKnown, glance_number, is_at_work, task_number,
+    telling_number, writer_number,
 };
 
 /// Whether what was begun in one process is at work in this one: it has not ended, and this is no child of that process by fork().
@@ -28,13 +28,22 @@ pub extern "C" fn dconfdb_round_after(done: u32, known: &Known) -> u32
     task_number(done, known)
 }
 
-/// What whoever wants to know that all is on the disk does next, in the same way, by the answer to the last task: 1 asks for a try, 2
-/// writes, 3 waits, 4 takes its turn, 5 looks, 6 settles; 7 it is told yes, 8 no.
+/// What is done next about what waits, in the same way, by the answer to the last task. Of something new (`what` 0): 1 that is made by which a thread
+/// is woken, 2 the thread is begun, 3 woken, 4 it is done here, 5 over. Of who comes to its turn (1): 1 it is asked for, 2 a thread begun that waits
+/// for it, 3 that one asked; 4 it is had, 5 waited for in line, 6 to be asked for again. At the end (2): 1 it is said, 2 rounds are made, 3 the
+/// thread is waited for, 4 all that waits, 5 the thread as long as the program goes on, 6 it is left alone, 7 taken away, 8 it is counted, 9 told
+/// what waits, 10 that nobody knows; 11 all is done, 12 the thread has it. Of who wants to know that all is on the disk (else): 1 asks for a
+/// try, 2 writes, 3 waits, 4 takes its turn, 5 looks, 6 settles; 7 it is told yes, 8 no.
 #[unsafe(no_mangle)]
-pub extern "C" fn dconfdb_sync_after(done: u32, is_so: bool, known: &SyncKnown) -> u32
-    ensures { result ≡ sync_number (sync_after done is_so known.now) }
+pub extern "C" fn dconfdb_writer_after(
+    what: u32,
+    done: u32,
+    is_so: bool,
+    known: &WriterKnown,
+) -> u32
+    ensures { result ≡ writer_number what done is_so known.now }
 {
-    sync_number(done, is_so, known)
+    writer_number(what, done, is_so, known)
 }
 
 /// What whoever looks at the files does next, in the same way: 1 refreshes what is open, 2 opens it anew, 3 the same, but the profiles look
@@ -48,7 +57,8 @@ pub extern "C" fn dconfdb_glance_after(done: u32, known: &GlanceKnown) -> u32
 }
 
 /// What whoever tells does with the next path that is seen otherwise: 0 nothing, 1 takes it for the next notice, 2 tells what was taken, and
-/// then takes it, 3 tells what was taken, 4 tells all.
+/// then takes it, 3 tells what was taken, 4 tells all. Between two lists it is said which comes next: 5 of what may be written, 6 of what is
+/// seen, 7 none.
 #[unsafe(no_mangle)]
 pub extern "C" fn dconfdb_tell_next(known: &TellKnown) -> u32
     ensures { result ≡ telling_number (tell_next known.now) }

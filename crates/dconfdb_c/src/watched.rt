@@ -1,14 +1,15 @@
 //! What is watched of the names on the way to a file, and what is heard of them.
-ghost use Rattle.std.specs.Prelude.{◌≡◌};
+ghost use Rattle.std.specs.Prelude.{◌≡◌, ◌≢◌};
 ghost use Rattle.dconf_watches.specs.Events.{louder, meaning};
 ghost use Rattle.dconf_watches.specs.Inotify.{event_in, found_by};
 ghost use Rattle.dconf_watches.specs.Numbers.{IsWatchedName, heard_number, heard_of, name_watch_of, of_what};
+ghost use Rattle.dconf_watches.specs.Rounds.{after_number, after_round, begun, gone_through, rounds_of, sight_of};
 
-use dconf_watches::{WatchedName, heard_number, watched_name};
+use dconf_watches::{Sight, WatchRounds, WatchedName, heard_number, watched_name};
 
 /// What is watched of a name in that folder, which is no link; the root's path is empty. `is_last`: it is the path's last name. `mode` and
-/// `links` are what stat says of what stands there, 0 where nothing does. `minds` who minds much that happens. `role` is what a change of
-/// the file means: 0 that, 1 that other files may be the store's.
+/// `links` are what stat says of what stands there, 0 where nothing does. `minds` who minds much that happens. So many links were followed on the way.
+/// `is_profile`: if the file changes other files may be the store's.
 #[unsafe(no_mangle)]
 pub extern "C" fn dconfdb_watched_name(
     minds: bool,
@@ -17,12 +18,38 @@ pub extern "C" fn dconfdb_watched_name(
     is_last: bool,
     mode: u32,
     links: u64,
-    role: u32,
+    followed: u64,
+    is_profile: bool,
     watched: &mut WatchedName,
 )
-    ensures { IsWatchedName watched.new minds folder.now name.now is_last mode links role }
+    ensures { IsWatchedName watched.new minds folder.now name.now is_last mode links followed is_profile }
 {
-    *watched = watched_name(minds, folder, name, is_last, mode, links, role);
+    *watched = watched_name(
+        minds, folder, name, is_last, mode, links, followed, is_profile,
+    );
+}
+
+/// Takes that a round begins in which the names of all files are gone through (`what` 0), or what became of a name: it was watched so already (`is_known`), or
+/// could be watched (`is_had`), or can't be; then something may be missed without it (`is_needed`). Given is what comes after the round: 0 another one, 1 all
+/// is watched, 2 not all is.
+#[unsafe(no_mangle)]
+pub extern "C" fn dconfdb_watch_round(
+    rounds: &mut WatchRounds,
+    what: u32,
+    is_known: bool,
+    is_had: bool,
+    is_needed: bool,
+) -> u32
+    ensures begun { what ≡ 0 → rounds_of rounds.new ≡ begun (rounds_of rounds.old) }
+    ensures name { what ≢ 0 → rounds_of rounds.new ≡ gone_through (rounds_of rounds.old) (sight_of is_known is_had is_needed) }
+    ensures after { result ≡ after_number (after_round (rounds_of rounds.new)) }
+{
+    if what == 0 {
+        rounds.begin();
+    } else {
+        rounds.go_through(Sight::of(is_known, is_had, is_needed));
+    }
+    rounds.after().number()
 }
 
 /// What is heard of an event of that mask, and before it: 0 the file may have changed, 1 other files may be the store's, 2 nothing. `watch`

@@ -1,6 +1,6 @@
 //! Which kind of store is found, where dconf's is, which profile it has, and which file a line of that means.
 use crate::questions::TableOf;
-use dconf_homes::{Around, Place, Sought, SoughtStep, Wanted};
+use dconf_homes::{Around, DconfdbProfileLook, Place, Sought, Wanted};
 use dconf_places::{Environment, Found, Given, PathParts, kind_of_number};
 use std::alloc::{AllocError, Global};
 use std::fmt::Write;
@@ -28,7 +28,7 @@ fn put_path(
     }
 }
 
-/// The kind of store, and its folder, profile and runtime folder, by who gives the folder, by what the machine's file says (`!`: it can't be read),
+/// The kind of store, by what is known (nothing, the environment, all), or what is asked first; and its folder, profile and runtime folder, by who gives the folder, by what the machine's file says (`!`: it can't be read),
 /// and by $DCONFDB_STORE, $XDG_CONFIG_HOME, $HOME, $XDG_RUNTIME_DIR and $XDG_CACHE_HOME.
 pub(crate) fn homed(alloc: Global, asked: &str, found: &mut String) -> Result<(), AllocError> {
     let (giver, rest) = next(asked);
@@ -52,7 +52,9 @@ pub(crate) fn homed(alloc: Global, asked: &str, found: &mut String) -> Result<()
         is_unreadable: machine == "!",
     };
     let given = Given::of_number(number(giver.trim_end_matches('s')), b"/given");
-    write!(found, "{}", around.kind(given).number())?;
+    for known in 0..3 {
+        write!(found, "{}", around.kind_step(given, known))?;
+    }
     for wanted in [Wanted::Folder, Wanted::Profile, Wanted::Runtime] {
         found.push(' ')?;
         put_path(alloc, around.location(given, wanted).path(b"/base"), found)?;
@@ -61,23 +63,23 @@ pub(crate) fn homed(alloc: Global, asked: &str, found: &mut String) -> Result<()
 }
 
 const HOMED: &str = "
-0 - - /c /h /r /k | 0 /c/dconfdb /named none
-0 dconfdb - /c /h /r /k | 0 /c/dconfdb /named none
-0 dconf - /c /h /r /k | 1 /c/dconf none /r
-0 dconf - c /h r /k | 1 /h/.config/dconf none /k
-0 dconf - - /h - k | 1 /h/.config/dconf none /h/.cache
-0 dconf - - h - - | 1 /base/.config/dconf none /base/.cache
+0 - - /c /h /r /k | 340 /c/dconfdb /named none
+0 dconfdb - /c /h /r /k | 340 /c/dconfdb /named none
+0 dconf - /c /h /r /k | 341 /c/dconf none /r
+0 dconf - c /h r /k | 341 /h/.config/dconf none /k
+0 dconf - - /h - k | 341 /h/.config/dconf none /h/.cache
+0 dconf - - h - - | 341 /base/.config/dconf none /base/.cache
 -- no word, or none that can be read
-0 dconfs - /c /h /r /k | 2 none none none
-0 DCONF - /c /h /r /k | 2 none none none
-0 ! - /c /h /r /k | 2 none none none
+0 dconfs - /c /h /r /k | 342 none none none
+0 DCONF - /c /h /r /k | 342 none none none
+0 ! - /c /h /r /k | 342 none none none
 -- a user's own word goes first
-0 dconf /s /c /h /r /k | 0 /s /named none
-0 ! /s /c /h /r /k | 0 /s /named none
-1 dconf - /c /h /r /k | 0 /given none none
-2 dconf - /c /h /r /k | 0 /given /named none
+0 dconf /s /c /h /r /k | 300 /s /named none
+0 ! /s /c /h /r /k | 300 /s /named none
+1 dconf - /c /h /r /k | 000 /given none none
+2 dconf - /c /h /r /k | 300 /given /named none
 -- a program that has more rights
-0s dconf - /c /h /r /k | 0 none none none
+0s dconf - /c /h /r /k | 300 none none none
 ";
 
 /// More than are looked at here.
@@ -97,36 +99,59 @@ fn place(profile: &str) -> Place<'_> {
     }
 }
 
-/// Each that is looked at, where none is there, and what comes then, by $DCONF_PROFILE; with what is told of the last (1 refuses, 2 kept), of a
-/// store that is opened strictly, and of a lenient one.
+/// A look at nothing yet, of a store that is opened strictly.
+fn before_all() -> DconfdbProfileLook {
+    DconfdbProfileLook {
+        which: 7,
+        errno: 0,
+        dir: 0,
+        is_there: false,
+        is_lenient: false,
+        has_kept: false,
+        lists: true,
+    }
+}
+
+/// Each that is listed, and what comes then, by $DCONF_PROFILE; with what is told of the last one, which is missing (1 refuses, 2 kept), of a store that is
+/// opened strictly, and of a lenient one, and by which name.
 pub(crate) fn sought(alloc: Global, asked: &str, found: &mut String) -> Result<(), AllocError> {
     let place = place(next(asked).0);
-    let mut at = place.first();
+    let mut look = before_all();
     for _ in 0..MOST_LOOKS {
-        put_path(alloc, place.path(at), found)?;
-        found.push(' ')?;
-        match place.step(at, Found::Missing, true) {
-            SoughtStep::Look(then) => at = then,
-            step => {
-                let strict = place.said_as(at, Found::Missing, false, false).number();
-                let lenient = place.said_as(at, Found::Missing, true, false).number();
-                write!(found, "{} {strict}{lenient}", step.number())?;
-                return Ok(());
-            }
+        let then = place.next(&look);
+        if !then.looks {
+            look.lists = false;
+            let strict = place.next(&look);
+            look.is_lenient = true;
+            let lenient = place.next(&look);
+            write!(
+                found,
+                "{} {}{}=",
+                then.step, strict.telling, lenient.telling
+            )?;
+            return put_path(alloc, Some(lenient.name), found);
         }
+        put_path(
+            alloc,
+            if then.has_path { Some(then.path) } else { None },
+            found,
+        )?;
+        found.push(' ')?;
+        look.which = then.step;
+        look.dir = then.dir;
     }
     found.push_str("no end")
 }
 
 const SOUGHT: &str = "
-- | /run/dconf/user/7 /r/dconf/profile /etc/dconf/profile/user /a/dconf/profile/user none /d/dconf/profile/user 3 00
-gdm | /run/dconf/user/7 /etc/dconf/profile/gdm /a/dconf/profile/gdm none /d/dconf/profile/gdm 5 12
-a/b | /run/dconf/user/7 /etc/dconf/profile/a/b /a/dconf/profile/a/b none /d/dconf/profile/a/b 5 12
-/p | /run/dconf/user/7 /p 5 12
+- | /run/dconf/user/7 /r/dconf/profile /etc/dconf/profile/user /a/dconf/profile/user none /d/dconf/profile/user 3 00=
+gdm | /run/dconf/user/7 /etc/dconf/profile/gdm /a/dconf/profile/gdm none /d/dconf/profile/gdm 5 12=gdm
+a/b | /run/dconf/user/7 /etc/dconf/profile/a/b /a/dconf/profile/a/b none /d/dconf/profile/a/b 5 12=a/b
+/p | /run/dconf/user/7 /p 5 12=/p
 ";
 
 /// What comes after a look at one: its number, its folder of $XDG_DATA_DIRS, what was found (0 it is there, 1 missing, 2 it can't be read by its own
-/// fault, 3 by another one), whether whoever looks is lenient, and $DCONF_PROFILE. Given is the step, its folder, and what is told.
+/// fault, 3 by another one), whether whoever looks is lenient, and $DCONF_PROFILE. Given is the step, its folder, and what is told, by the errno.
 pub(crate) fn reached(asked: &str, found: &mut String) -> Result<(), AllocError> {
     let (which, rest) = next(asked);
     let (dir, rest) = next(rest);

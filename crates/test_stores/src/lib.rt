@@ -25,6 +25,8 @@ mod made;
 #[cfg(test)]
 mod maps;
 #[cfg(test)]
+mod options;
+#[cfg(test)]
 mod parts;
 #[cfg(test)]
 mod places;
@@ -36,6 +38,8 @@ mod roles;
 mod rounds;
 #[cfg(test)]
 mod seen;
+#[cfg(test)]
+mod sentences;
 #[cfg(test)]
 mod served;
 #[cfg(test)]

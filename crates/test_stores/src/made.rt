@@ -3,7 +3,9 @@
 use crate::calls::layer;
 use dconf_layers::Layer;
 use dconf_made::{Course, changed_file, course_number, is_made, need_number};
-use dconf_mended::{may_be_database, mended_file, standing_number};
+use dconf_mended::{
+    is_told, may_be_database, mended_file, read_lines, said_by, standing_number, telling_of,
+};
 use dconfdb_calls::{DconfdbChange, Fault};
 use std::alloc::Global;
 use std::test::Fail;
@@ -149,18 +151,23 @@ fn have_their_course() -> bool {
 const UNSET: &[u8] = b"GVariant\0\0\0\0\0\0\0\0\x18\0\0\0\x3c\0\0\0\
     \0\0\0\0\x01\0\0\0\0\0\0\0\xd4\xb5\x02\0\xff\xff\xff\xff\x3c\0\0\0\x01\0?\0\0\0\0\0\0\0\0\0/";
 
-/// What a file counts as: 0 is whole, 1 saved, 2 nothing; and how many values and locks are saved.
-fn standing(alloc: Global, file: &[u8]) -> Option<(u32, usize, usize)> {
+/// What a file counts as: 0 is whole, 1 saved, 2 nothing; how many values and locks are saved; and whether what is wrong is told.
+fn standing(alloc: Global, file: &[u8]) -> Option<(u32, usize, usize, bool)> {
     match mended_file(alloc, file) {
-        Ok(it) => Some((standing_number(it.standing), it.keys, it.locks)),
+        Ok(it) => Some((
+            standing_number(it.standing),
+            it.keys,
+            it.locks,
+            is_told(it.standing),
+        )),
         Err(_) => None,
     }
 }
 
 fn are_mended(alloc: Global) -> bool {
-    standing(alloc, UNSET) == Some((0, 0, 0))
-        && standing(alloc, sample("locked")) == Some((1, 1, 1))
-        && standing(alloc, b"GVariant") == Some((2, 0, 0))
+    standing(alloc, UNSET) == Some((0, 0, 0, false))
+        && standing(alloc, sample("locked")) == Some((1, 1, 1, true))
+        && standing(alloc, b"GVariant") == Some((2, 0, 0, true))
         && may_be_database(b"GVar")
         && may_be_database(sample("locked"))
         && may_be_database(b"GVariant\0\0\0\0\0\0\0\0\0\0\0\0\0\0\0\0")
@@ -168,9 +175,41 @@ fn are_mended(alloc: Global) -> bool {
         && !may_be_database(b"tnairaVG\0\0\0\0\0\0\0\0\0\0\0\0\0\0\0\0")
 }
 
+/// How many databases of a profile are taken, and the number and the line of the first bad line.
+fn read_so(alloc: Global, text: &[u8], is_lenient: bool) -> Option<(usize, u32, usize)> {
+    match read_lines(alloc, text, is_lenient) {
+        Ok(it) => match it.bad {
+            Some(bad) => Some((it.names.len(), bad.fault.number(), bad.line)),
+            None => Some((it.names.len(), 0, 0)),
+        },
+        Err(_) => None,
+    }
+}
+
+fn are_profiles_read(alloc: Global) -> bool {
+    let good = b"user-db:me\nsystem-db:site\n";
+    let bad = b"user-db:me\nservice-db:it\nsystem-db:site\n";
+    let odd = b"user-db:me\noops\n\xff\n";
+    read_so(alloc, good, false) == Some((2, 0, 0))
+        && read_so(alloc, good, true) == Some((2, 0, 0))
+        && read_so(alloc, bad, false) == Some((0, 10, 2))
+        && read_so(alloc, bad, true) == Some((2, 10, 2))
+        && read_so(alloc, odd, false) == Some((0, 9, 2))
+        && read_so(alloc, b"\xff", false) == Some((0, 8, 1))
+        && said_by(3, good) == b"user-db:user".as_slice()
+        && said_by(4, good) == good.as_slice()
+        && said_by(5, good) == b"".as_slice()
+        && telling_of(0, false, false).number() == 0
+        && telling_of(9, false, true).number() == 1
+        && telling_of(9, true, false).number() == 2
+        && telling_of(9, true, true).number() == 0
+        && telling_of(1, true, false).number() == 1
+}
+
 #[test]
 fn bad_files_count_as_they_are(rt: HostRuntime) -> Result<(), Fail> {
     assert!(rt; are_mended(rt.alloc()));
+    assert!(rt; are_profiles_read(rt.alloc()));
     Ok(())
 }
 

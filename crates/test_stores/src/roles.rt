@@ -1,77 +1,111 @@
 //! As what the files of a site are looked at, and what is found there.
-use dconf_roles::{FindingKnown, Name, finding_number, reading_number, role_number};
+use dconf_roles::{
+    FindingKnown, Name, Nearing, Role, finding_number, is_nearer, is_read, reading_number, role_of,
+    sources_in,
+};
+use std::alloc::{AllocError, Global};
 use std::test::Fail;
 
-/// The role of a file's folder, by the names of two folders that it is in.
-fn in_folders(outer: &str, inner: &str) -> u32 {
-    role_number(
-        role_number(0, outer.as_bytes(), true),
-        inner.as_bytes(),
-        true,
-    )
+fn number(role: Role) -> u32 {
+    match role {
+        Role::ByItsText => 0,
+        Role::Keyfile => 1,
+        Role::Locks => 2,
+        Role::Hidden => 3,
+        Role::Unread => 4,
+    }
 }
 
-/// That of a file in a folder of that role.
-fn file(role: u32, name: &str) -> u32 {
-    role_number(role, name.as_bytes(), false)
+/// The role of a file by the names of two folders that it is in.
+fn file(outer: &str, inner: &str, name: &str) -> u32 {
+    let folders = [
+        Name {
+            text: outer.as_bytes(),
+        },
+        Name {
+            text: inner.as_bytes(),
+        },
+    ];
+    number(role_of(&folders, name.as_bytes()))
+}
+
+/// How many of two folders there are up to the last NAME.d.
+fn sources(outer: &str, inner: &str) -> usize {
+    let folders = [
+        Name {
+            text: outer.as_bytes(),
+        },
+        Name {
+            text: inner.as_bytes(),
+        },
+    ];
+    sources_in(&folders)
 }
 
 fn folders_have_their_roles() -> bool {
-    in_folders("etc", "site") == 0
-        && in_folders("etc", "site.d") == 1
-        && in_folders("etc", ".d") == 0
-        && in_folders("etc", ".site.d") == 0
-        && in_folders("site.d", "locks") == 2
-        && in_folders("site.d", ".git") == 3
-        && in_folders("site.d", "old") == 4
-        && in_folders("site.d", "old.d") == 1
-        && role_number(2, "old".as_bytes(), true) == 4
-        && role_number(3, "locks".as_bytes(), true) == 3
+    file("etc", "site", "k") == 0
+        && file("etc", "site.d", "k") == 1
+        && file("etc", ".d", "k") == 0
+        && file("etc", ".site.d", "k") == 0
+        && file("site.d", "locks", "k") == 2
+        && file("site.d", ".git", "k") == 3
+        && file("site.d", "old", "k") == 4
+        && file("site.d", "old.d", "k") == 1
 }
 
 fn files_have_their_roles() -> bool {
-    file(0, ".hidden") == 0
-        && file(1, "00-site") == 1
-        && file(1, ".00-site.swp") == 3
-        && file(2, "00-locks") == 2
-        && file(2, ".x") == 3
-        && file(4, "x") == 4
-        && file(4, ".x") == 3
+    file("etc", "site", ".hidden") == 0
+        && file("etc", "site.d", ".00-site.swp") == 3
+        && file("site.d", "locks", ".x") == 3
+        && file("site.d", "old", ".x") == 3
+}
+
+fn sources_are_found() -> bool {
+    sources("etc", "site") == 0
+        && sources("etc", "site.d") == 2
+        && sources("site.d", "locks") == 1
+        && sources("site.d", "old.d") == 2
+        && is_read(Role::Keyfile)
+        && is_read(Role::Locks)
+        && !is_read(Role::Hidden)
+        && !is_read(Role::Unread)
+        && !is_read(Role::ByItsText)
 }
 
 /// As what a text is looked at, of a role; none of its size is left out.
-fn read_as(role: u32, is_one_read: bool, text: &str) -> u32 {
+fn read_as(role: Role, is_one_read: bool, text: &str) -> u32 {
     reading_number(role, is_one_read, 100, text.as_bytes())
 }
 
 fn texts_are_read() -> bool {
-    read_as(0, false, "[a]\nk=1\n") == 0
-        && read_as(0, false, "/a/k\n") == 1
-        && read_as(0, false, "user-db:user\n") == 2
-        && read_as(0, false, "# nothing\n") == 0
-        && read_as(0, false, "oops\n") == 8
-        && read_as(1, true, "/a/k\n") == 0
-        && read_as(1, true, "oops\n") == 0
-        && read_as(1, true, "\0") == 8
-        && read_as(2, true, "[a]\n") == 1
-        && read_as(2, false, "[a]\n") == 0
-        && read_as(3, true, "[a]\n") == 4
-        && read_as(4, true, "[a]\n") == 5
-        && read_as(4, false, "[a]\n") == 0
+    read_as(Role::ByItsText, false, "[a]\nk=1\n") == 0
+        && read_as(Role::ByItsText, false, "/a/k\n") == 1
+        && read_as(Role::ByItsText, false, "user-db:user\n") == 2
+        && read_as(Role::ByItsText, false, "# nothing\n") == 0
+        && read_as(Role::ByItsText, false, "oops\n") == 8
+        && read_as(Role::Keyfile, true, "/a/k\n") == 0
+        && read_as(Role::Keyfile, true, "oops\n") == 0
+        && read_as(Role::Keyfile, true, "\0") == 8
+        && read_as(Role::Locks, true, "[a]\n") == 1
+        && read_as(Role::Locks, false, "[a]\n") == 0
+        && read_as(Role::Hidden, true, "[a]\n") == 4
+        && read_as(Role::Unread, true, "[a]\n") == 5
+        && read_as(Role::Unread, false, "[a]\n") == 0
 }
 
 fn databases_are_read() -> bool {
-    read_as(0, false, "GVariant") == 3
-        && read_as(1, true, "GVariant") == 6
-        && reading_number(0, false, 16_777_217, "GVariant".as_bytes()) == 3
-        && reading_number(0, false, 16_777_217, "[a]".as_bytes()) == 7
-        && reading_number(0, false, 16_777_216, "[a]".as_bytes()) == 0
-        && reading_number(3, true, 16_777_217, "[a]".as_bytes()) == 4
+    read_as(Role::ByItsText, false, "GVariant") == 3
+        && read_as(Role::Keyfile, true, "GVariant") == 6
+        && reading_number(Role::ByItsText, false, 16_777_217, "GVariant".as_bytes()) == 3
+        && reading_number(Role::ByItsText, false, 16_777_217, "[a]".as_bytes()) == 7
+        && reading_number(Role::ByItsText, false, 16_777_216, "[a]".as_bytes()) == 0
+        && reading_number(Role::Hidden, true, 16_777_217, "[a]".as_bytes()) == 4
 }
 
 #[test]
 fn sources_are_read_as_update_reads_them(rt: HostRuntime) -> Result<(), Fail> {
     assert!(rt; folders_have_their_roles() && files_have_their_roles());
+    assert!(rt; sources_are_found());
     assert!(rt; texts_are_read() && databases_are_read());
     Ok(())
 }
@@ -147,5 +181,50 @@ fn names_are_judged() -> bool {
 #[test]
 fn what_schemas_lack_is_found(rt: HostRuntime) -> Result<(), Fail> {
     assert!(rt; values_are_judged() && names_are_judged());
+    Ok(())
+}
+
+/// Which of these is the nearest: its number, counted from 1, or 0; and then so many pairs of letters were compared.
+fn nearest(
+    alloc: Global,
+    nearing: &mut Nearing,
+    name: &str,
+    others: &[&str],
+) -> Result<usize, AllocError> {
+    let mut found = 0;
+    for at in 0..others.len() {
+        if is_nearer(alloc, nearing, name.as_bytes(), others[at].as_bytes())? {
+            found = at + 1;
+        }
+    }
+    Ok(found)
+}
+
+const NOTHING: Nearing = Nearing {
+    used: 0,
+    found: 0,
+    is_half: false,
+};
+
+#[test]
+fn the_nearest_name_is_found(rt: HostRuntime) -> Result<(), Fail> {
+    let mut few = NOTHING;
+    let mut half = Nearing {
+        is_half: true,
+        ..NOTHING
+    };
+    let mut full = Nearing {
+        used: 99_999_980,
+        ..NOTHING
+    };
+    let slip = nearest(
+        rt.alloc(),
+        &mut few,
+        "fnot",
+        &["quite", "fate", "font", "fnnt"],
+    )?;
+    assert!(rt; slip == 3 && few.found == 2 && few.used == 25 + 25 + 25 + 30);
+    assert!(rt; nearest(rt.alloc(), &mut half, "abcd", &["abxyz", "abxy"])? == 2);
+    assert!(rt; nearest(rt.alloc(), &mut full, "abcd", &["abcd"])? == 0 && full.used == 99_999_980);
     Ok(())
 }

@@ -1,7 +1,8 @@
-//! What is done in turn by who writes what waits, by who wants to know that it is on the disk, and by who looks at the files.
+//! What is done in turn by who writes what waits, by who has it written, or ends, or wants to know that it is on the disk, and by who looks at
+//! the files.
 use dconf_rounds::{
-    GlanceKnown, Known, SyncKnown, TellKnown, glance_number, is_at_work, passes_over, sync_number,
-    task_number, telling_number,
+    GlanceKnown, Known, SyncKnown, TellKnown, WriterKnown, glance_number, is_at_work, passes_over,
+    sync_number, task_number, telling_number, writer_number,
 };
 use dconf_seen::Known as SeenKey;
 use std::test::Fail;
@@ -197,6 +198,7 @@ fn looks_end() -> bool {
 fn notices_are_told() -> bool {
     let heard = TellKnown {
         taken: 254,
+        list: 0,
         is_first: false,
         ends: false,
         is_other: true,
@@ -204,6 +206,8 @@ fn notices_are_told() -> bool {
         is_found: true,
         has_path: true,
         is_listened: true,
+        is_between: false,
+        has_rights: true,
     };
     let full = TellKnown {
         taken: 255,
@@ -251,6 +255,162 @@ fn notices_are_told() -> bool {
         && telling_number(&none) == 0
 }
 
+fn rights_are_told_before_values() -> bool {
+    let first = TellKnown {
+        taken: 0,
+        list: 0,
+        is_first: false,
+        ends: false,
+        is_other: true,
+        has_edits: false,
+        is_found: false,
+        has_path: false,
+        is_listened: false,
+        is_between: true,
+        has_rights: true,
+    };
+    let next = TellKnown { list: 5, ..first };
+    let last = TellKnown { list: 6, ..first };
+    let without = TellKnown {
+        has_rights: false,
+        ..first
+    };
+    let silent = TellKnown {
+        is_other: false,
+        ..first
+    };
+    telling_number(&first) == 5
+        && telling_number(&next) == 6
+        && telling_number(&last) == 7
+        && telling_number(&without) == 6
+        && telling_number(&silent) == 7
+}
+
+/// A process that has begun nothing yet.
+const NOBODY: WriterKnown = WriterKnown {
+    settled: 3,
+    added: 3,
+    begun_in: 7,
+    process: 7,
+    sync: SyncKnown {
+        has_writer: true,
+        has_failed: false,
+        has_store: true,
+        has_looked: false,
+        is_to_settle: false,
+    },
+    has_store: true,
+    has_ended: false,
+    has_thread: false,
+    has_wake: true,
+    has_line: false,
+    is_wanted: true,
+    is_news: true,
+    is_owed: true,
+    exits: false,
+    is_thread: false,
+    is_let_go: false,
+};
+
+fn threads_are_begun_and_woken() -> bool {
+    let deaf = WriterKnown {
+        has_wake: false,
+        ..NOBODY
+    };
+    let child = WriterKnown {
+        process: 8,
+        ..NOBODY
+    };
+    let begun = WriterKnown {
+        has_thread: true,
+        ..NOBODY
+    };
+    let awake = WriterKnown {
+        is_news: false,
+        ..begun
+    };
+    let ended = WriterKnown {
+        has_ended: true,
+        ..begun
+    };
+    writer_number(0, 0, true, &deaf) == 1
+        && writer_number(0, 0, true, &NOBODY) == 2
+        && writer_number(0, 1, true, &deaf) == 4
+        && writer_number(0, 0, true, &child) == 4
+        && writer_number(0, 0, true, &begun) == 3
+        && writer_number(0, 3, true, &begun) == 5
+        && writer_number(0, 0, true, &awake) == 5
+        && writer_number(0, 0, true, &ended) == 4
+        && writer_number(0, 4, true, &ended) == 5
+}
+
+fn turns_are_come_to() -> bool {
+    let in_line = WriterKnown {
+        has_line: true,
+        ..NOBODY
+    };
+    writer_number(1, 0, true, &NOBODY) == 1
+        && writer_number(1, 1, true, &NOBODY) == 4
+        && writer_number(1, 1, false, &NOBODY) == 2
+        && writer_number(1, 2, false, &NOBODY) == 6
+        && writer_number(1, 2, true, &NOBODY) == 3
+        && writer_number(1, 0, true, &in_line) == 3
+        && writer_number(1, 3, true, &in_line) == 4
+        && writer_number(1, 3, false, &in_line) == 5
+}
+
+fn ends_are_waited_for() -> bool {
+    let exits = WriterKnown {
+        exits: true,
+        has_thread: true,
+        ..NOBODY
+    };
+    let child = WriterKnown {
+        process: 8,
+        ..exits
+    };
+    let itself = WriterKnown {
+        is_thread: true,
+        ..exits
+    };
+    let gone = WriterKnown {
+        is_let_go: true,
+        ..exits
+    };
+    writer_number(2, 0, true, &exits) == 1
+        && writer_number(2, 0, true, &child) == 11
+        && writer_number(2, 1, false, &exits) == 8
+        && writer_number(2, 1, true, &exits) == 3
+        && writer_number(2, 1, true, &itself) == 2
+        && writer_number(2, 1, true, &gone) == 4
+        && writer_number(2, 3, true, &exits) == 8
+}
+
+fn what_waits_is_told_at_the_end() -> bool {
+    let held = WriterKnown {
+        has_thread: true,
+        ..NOBODY
+    };
+    let left = WriterKnown {
+        is_thread: true,
+        ..held
+    };
+    let waits = WriterKnown { added: 4, ..NOBODY };
+    writer_number(2, 1, true, &held) == 5
+        && writer_number(2, 5, false, &held) == 6
+        && writer_number(2, 6, true, &held) == 12
+        && writer_number(2, 5, true, &held) == 7
+        && writer_number(2, 7, true, &held) == 8
+        && writer_number(2, 1, true, &left) == 6
+        && writer_number(2, 1, true, &NOBODY) == 8
+        && writer_number(2, 8, true, &NOBODY) == 11
+        && writer_number(2, 8, false, &NOBODY) == 10
+        && writer_number(2, 8, true, &waits) == 9
+        && writer_number(2, 9, true, &waits) == 11
+        && writer_number(3, 3, false, &NOBODY) == 4
+        && writer_number(3, 3, true, &waits) == 8
+}
+
 /// What is stored is of another type, or an edit that waits and may be made is.
 fn odd_keys_are_known() -> bool {
     let stored = SeenKey {
@@ -292,5 +452,14 @@ fn work_is_known() -> bool {
 fn tasks_come_in_their_order(rt: HostRuntime) -> Result<(), Fail> {
     assert!(rt; tasks_are_due() && threads_end() && syncs_are_answered() && looks_end());
     assert!(rt; notices_are_told() && odd_keys_are_known() && work_is_known());
+    Ok(())
+}
+
+#[test]
+fn what_waits_is_written_or_told(rt: HostRuntime) -> Result<(), Fail> {
+    assert!(rt;
+        rights_are_told_before_values() && threads_are_begun_and_woken() && turns_are_come_to()
+    );
+    assert!(rt; ends_are_waited_for() && what_waits_is_told_at_the_end());
     Ok(())
 }

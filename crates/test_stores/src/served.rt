@@ -14,6 +14,14 @@ const PLAIN: ServedKnown = ServedKnown {
     has_edits: true,
     is_written: false,
     is_closed: false,
+    ends: false,
+    is_amid: false,
+    is_same: false,
+    is_open: true,
+    is_profile_open: true,
+    has_same_file: false,
+    had_name: false,
+    is_bus_closed: false,
 };
 
 const ODD: ServedKnown = ServedKnown {
@@ -104,9 +112,65 @@ fn what_is_written_is_acknowledged() -> bool {
         && served_number(2, &empty) == 1
 }
 
+fn who_waits_is_told_at_the_end() -> bool {
+    let amid = ServedKnown {
+        is_amid: true,
+        ..PLAIN
+    };
+    let last = ServedKnown {
+        ends: true,
+        ..PLAIN
+    };
+    let one = ServedKnown {
+        waiting: 1,
+        ..PLAIN
+    };
+    served_number(4, &PLAIN) == 8
+        && served_number(4, &amid) == 0
+        && served_number(2, &last) == 2
+        && served_number(7, &PLAIN) == 0
+        && served_number(7, &one) == 8
+}
+
+fn a_name_has_a_store() -> bool {
+    let locked = ServedKnown {
+        has_same_file: true,
+        ..PLAIN
+    };
+    let unknown = ServedKnown {
+        is_profile_open: false,
+        ..PLAIN
+    };
+    served_number(6, &PLAIN) == 11
+        && served_number(6, &locked) == 10
+        && served_number(6, &unknown) == 2
+}
+
+fn one_database_is_written_at_once() -> bool {
+    let same = ServedKnown {
+        is_same: true,
+        ..PLAIN
+    };
+    served_number(5, &same) == 0 && served_number(5, &PLAIN) == 9
+}
+
+fn who_has_no_name_ends() -> bool {
+    let had = ServedKnown {
+        had_name: true,
+        ..PLAIN
+    };
+    let gone = ServedKnown {
+        is_bus_closed: true,
+        ..PLAIN
+    };
+    served_number(8, &PLAIN) == 13 && served_number(8, &had) == 12 && served_number(8, &gone) == 12
+}
+
 #[test]
 fn calls_are_answered_once_they_are_written(rt: HostRuntime) -> Result<(), Fail> {
     assert!(rt; too_much_is_refused() && names_are_bounded());
     assert!(rt; odd_bytes_are_refused() && what_is_written_is_acknowledged());
+    assert!(rt; who_waits_is_told_at_the_end() && a_name_has_a_store());
+    assert!(rt; one_database_is_written_at_once() && who_has_no_name_ends());
     Ok(())
 }

@@ -1,7 +1,7 @@
 //! What is watched of the names on the way to a file, and what is heard of what inotify tells.
 use dconf_watches::{
-    Event, Found, NameWatch, Way, asked_of, event_in, found_by, heard_number, is_busy, is_busy_in,
-    is_needed, watch_at, way_at,
+    Event, Found, NameWatch, Sight, WatchRounds, Way, asked_of, event_in, found_by, heard_number,
+    is_busy, is_busy_in, is_needed, watch_at, way_at,
 };
 use std::test::Fail;
 
@@ -83,6 +83,32 @@ fn names_are_gone_through() -> bool {
         && matches!(watch_at(etc, NameWatch::Own), NameWatch::Own)
 }
 
+/// What comes after so many rounds, each of which watches what a last one may have missed.
+fn after_rounds(mut rounds: WatchRounds, count: u32, last: Sight) -> u32 {
+    for _ in 0..count {
+        rounds.begin();
+        rounds.go_through(Sight::of(false, true, true));
+        rounds.go_through(last);
+    }
+    rounds.after().number()
+}
+
+fn rounds_are_counted(none: WatchRounds) -> bool {
+    let mut once = none;
+    once.begin();
+    let is_whole = once.after().number() == 1;
+    once.go_through(Sight::of(true, true, true));
+    once.go_through(Sight::of(false, false, false));
+    let stays_whole = once.after().number() == 1;
+    once.go_through(Sight::of(false, false, true));
+    is_whole
+        && stays_whole
+        && once.after().number() == 2
+        && after_rounds(none, 63, Sight::Known) == 0
+        && after_rounds(none, 64, Sight::Known) == 2
+        && after_rounds(none, 1, Sight::Missed) == 0
+}
+
 #[test]
 fn names_are_watched_and_heard(rt: HostRuntime) -> Result<(), Fail> {
     assert!(rt;
@@ -92,5 +118,6 @@ fn names_are_watched_and_heard(rt: HostRuntime) -> Result<(), Fail> {
             && all_that_is_heard_is_asked_for()
     );
     assert!(rt; names_are_gone_through());
+    assert!(rt; rounds_are_counted(WatchRounds::none()));
     Ok(())
 }

@@ -1,0 +1,140 @@
+-- What is done about what waits, whatever is known.
+use Rattle.std.proofs.Common.{◌≡◌, Bool, true, false, not, refl}
+use Rattle.std.specs.Prelude.{◌&&◌, if◌then◌else◌, ◌==◌, nat_lt, nat_le}
+use Rattle.dconf_rounds.specs.declared.writers.NeedTask.{NeedTask}
+use Rattle.dconf_rounds.specs.declared.writers.NeedTask.TheVariants as need
+use Rattle.dconf_rounds.specs.declared.writers.LineTask.TheVariants as line
+use Rattle.dconf_rounds.specs.declared.writers.EndTask.TheVariants as end
+use Rattle.dconf_rounds.specs.Writers.{EndAnswers, Facts, begins, does, end_after, goes_on, is_left, says, WhatWaitsIsWrittenOrTold}
+
+-- ---- what is new
+
+abbrev need_by : Bool → Bool → Bool → Bool → NeedTask
+need_by makes begun woken here = if makes then need.MakeWake else if begun then need.Begin else if woken then need.Wake else if here then need.Here else need.Over
+
+is_begun : (m b w h : Bool) → need_by m b w h ≡ need.Begin → b ≡ true
+is_begun true b w h e = absurd (let bad : need.MakeWake ≡ need.Begin = e in cc)
+is_begun false true w h e = refl
+is_begun false false true h e = absurd (let bad : need.Wake ≡ need.Begin = e in cc)
+is_begun false false false true e = absurd (let bad : need.Here ≡ need.Begin = e in cc)
+is_begun false false false false e = absurd (let bad : need.Over ≡ need.Begin = e in cc)
+
+-- begun where it is wanted: what else is so
+may_begin : (soon wanted thread store ended own wake : Bool) → soon && ((wanted && (not thread && (store && (not ended && own)))) && wake) ≡ true
+    → (thread ≡ false) × (ended ≡ false) × (own ≡ true)
+may_begin true true false true false true wake e = (refl, refl, refl)
+may_begin false wanted thread store ended own wake e = absurd (let bad : false ≡ true = e in cc)
+may_begin true false thread store ended own wake e = absurd (let bad : false ≡ true = e in cc)
+may_begin true true true store ended own wake e = absurd (let bad : false ≡ true = e in cc)
+may_begin true true false false ended own wake e = absurd (let bad : false ≡ true = e in cc)
+may_begin true true false true true own wake e = absurd (let bad : false ≡ true = e in cc)
+may_begin true true false true false false wake e = absurd (let bad : false ≡ true = e in cc)
+
+woken_by : (d n o : Bool) → d ≡ true → n ≡ true → need_by false false (d && n) (o && not d) ≡ need.Wake
+woken_by true true o p q = refl
+woken_by true false o p q = absurd (let bad : false ≡ true = q in cc)
+woken_by false n o p q = absurd (let bad : false ≡ true = p in cc)
+
+here_by : (d n o : Bool) → d ≡ false → o ≡ true → need_by false false (d && n) (o && not d) ≡ need.Here
+here_by false n true p q = refl
+here_by false n false p q = absurd (let bad : false ≡ true = q in cc)
+here_by true n o p q = absurd (let bad : true ≡ false = p in cc)
+
+-- ---- the turn
+
+is_kept : (has_line : Bool) → has_line ≡ true → (if has_line then line.Await else line.Try) ≡ line.Await
+is_kept true e = refl
+is_kept false e = absurd (let bad : false ≡ true = e in cc)
+
+-- ---- the end
+
+abbrev answers : Bool → Bool → Bool → EndAnswers
+answers marked over counted = record { marked = marked; over = over; counted = counted }
+
+abbrev of : Bool → Bool → Bool → Bool → Bool → Bool → Facts
+of exits own thread this let_go settled = record { exits = exits; own = own; thread = thread; this = this; let_go = let_go; settled = settled }
+
+ends_by : (exits own marked thread this let_go over counted settled : Bool)
+    → goes_on 6 (answers marked over counted) (of exits own thread this let_go settled) (end_after 0 true (of exits own thread this let_go settled)) ≡ (if is_left (answers marked over counted) (of exits own thread this let_go settled) then end.Left else end.Done)
+ends_by true true true true true let_go over true true = refl
+ends_by true true true true true let_go over true false = refl
+ends_by true true true true true let_go over false settled = refl
+ends_by true true true true false true over true true = refl
+ends_by true true true true false true over true false = refl
+ends_by true true true true false true over false settled = refl
+ends_by true true true true false false over true true = refl
+ends_by true true true true false false over true false = refl
+ends_by true true true true false false over false settled = refl
+ends_by true true true false this let_go over true true = refl
+ends_by true true true false this let_go over true false = refl
+ends_by true true true false this let_go over false settled = refl
+ends_by true true false thread this let_go over true true = refl
+ends_by true true false thread this let_go over true false = refl
+ends_by true true false thread this let_go over false settled = refl
+ends_by true false marked thread this let_go over counted settled = refl
+ends_by false true true true true let_go over counted settled = refl
+ends_by false true true true false let_go true true true = refl
+ends_by false true true true false let_go true true false = refl
+ends_by false true true true false let_go true false settled = refl
+ends_by false true true true false let_go false counted settled = refl
+ends_by false true true false this let_go over true true = refl
+ends_by false true true false this let_go over true false = refl
+ends_by false true true false this let_go over false settled = refl
+ends_by false true false thread this let_go over true true = refl
+ends_by false true false thread this let_go over true false = refl
+ends_by false true false thread this let_go over false settled = refl
+ends_by false false marked thread this let_go over counted settled = refl
+
+told_by : (exits own marked thread this let_go over counted settled : Bool)
+    → says 6 (answers marked over counted) (of exits own thread this let_go settled) (end_after 0 true (of exits own thread this let_go settled)) ≡ (own && (not (is_left (answers marked over counted) (of exits own thread this let_go settled)) && not (counted && settled)))
+told_by true true true true true let_go over true true = refl
+told_by true true true true true let_go over true false = refl
+told_by true true true true true let_go over false settled = refl
+told_by true true true true false true over true true = refl
+told_by true true true true false true over true false = refl
+told_by true true true true false true over false settled = refl
+told_by true true true true false false over true true = refl
+told_by true true true true false false over true false = refl
+told_by true true true true false false over false settled = refl
+told_by true true true false this let_go over true true = refl
+told_by true true true false this let_go over true false = refl
+told_by true true true false this let_go over false settled = refl
+told_by true true false thread this let_go over true true = refl
+told_by true true false thread this let_go over true false = refl
+told_by true true false thread this let_go over false settled = refl
+told_by true false marked thread this let_go over counted settled = refl
+told_by false true true true true let_go over counted settled = refl
+told_by false true true true false let_go true true true = refl
+told_by false true true true false let_go true true false = refl
+told_by false true true true false let_go true false settled = refl
+told_by false true true true false let_go false counted settled = refl
+told_by false true true false this let_go over true true = refl
+told_by false true true false this let_go over true false = refl
+told_by false true true false this let_go over false settled = refl
+told_by false true false thread this let_go over true true = refl
+told_by false true false thread this let_go over true false = refl
+told_by false true false thread this let_go over false settled = refl
+told_by false false marked thread this let_go over counted settled = refl
+
+-- ---- the law
+
+pub what_waits_is_written_or_told : WhatWaitsIsWrittenOrTold
+what_waits_is_written_or_told a k =
+    record {
+      need =
+          record {
+            begun = λ done e.
+                let makes : Bool = nat_lt done 1 && (begins k && not k.has_wake) in
+                let begun : Bool = nat_lt done 2 && (begins k && k.has_wake) in
+                may_begin (nat_lt done 2) k.is_wanted k.has_thread k.has_store k.has_ended (k.begun_in == k.process) k.has_wake
+                (is_begun makes begun (nat_lt done 3 && (does k && k.is_news)) (nat_lt done 4 && (k.is_owed && not (does k))) e);
+            woken = λ d n. woken_by (does k) k.is_news k.is_owed d n;
+            here = λ d o. here_by (does k) k.is_news k.is_owed d o;
+          };
+      line = record { place = λ e. is_kept k.has_line e; waits = refl; line = refl };
+      end =
+          record {
+            ends = ends_by k.exits (k.begun_in == k.process) a.marked k.has_thread k.is_thread k.is_let_go a.over a.counted (nat_le k.added k.settled);
+            told = told_by k.exits (k.begun_in == k.process) a.marked k.has_thread k.is_thread k.is_let_go a.over a.counted (nat_le k.added k.settled);
+          };
+    }

@@ -1,0 +1,175 @@
+//! What a program is told of a fault, how a file gets its names, what is asked of a change's notes, and what of a batch is told.
+use dconf_files::{FileOwner, NewOwner, OldFile};
+use dconf_making::{
+    FaultMet, Making, NewLook, Sentence, new_look, renamed_of, says_number, says_of, sentence_of,
+};
+use dconf_steps::QueuedEdit;
+use dconf_waiting::BatchRecord;
+use std::test::Fail;
+
+const OF_FILE: FaultMet = FaultMet {
+    of: 0,
+    number: 13,
+    told: 0,
+    outcome: 0,
+    wait: 10000,
+    looked: 0,
+    is_there: true,
+    has_user: true,
+    has_text: true,
+    has_line: false,
+    has_rule: false,
+    has_item: false,
+};
+
+fn says(met: &FaultMet) -> u32 {
+    says_number(says_of(met))
+}
+
+fn is_named(met: &FaultMet, code: u32, errno: u32, names: u32) -> bool {
+    let Sentence {
+        code: is,
+        errno: of,
+        names: named,
+        ..
+    } = sentence_of(met);
+    is == code && of == errno && named == names
+}
+
+fn are_said() -> bool {
+    let memory = FaultMet {
+        number: 12,
+        ..OF_FILE
+    };
+    let lock = FaultMet { of: 1, ..OF_FILE };
+    let busy = FaultMet { number: 11, ..lock };
+    let soon = FaultMet { wait: 7, ..busy };
+    let homeless = FaultMet {
+        is_there: false,
+        has_user: false,
+        ..lock
+    };
+    let call = FaultMet {
+        of: 2,
+        number: 7,
+        ..OF_FILE
+    };
+    let ended = FaultMet {
+        of: 3,
+        told: 3,
+        outcome: 2,
+        ..OF_FILE
+    };
+    says(&OF_FILE) == 4
+        && says(&memory) == 2
+        && says(&busy) == 6
+        && says(&soon) == 7
+        && says(&FaultMet { number: 22, ..lock }) == 5
+        && says(&call) == 13
+        && says(&FaultMet {
+            has_rule: true,
+            ..call
+        }) == 15
+        && says(&ended) == 8
+        && is_named(&OF_FILE, 64, 13, 0)
+        && is_named(&lock, 64, 13, 1)
+        && is_named(&busy, 65, 0, 0)
+        && is_named(&homeless, 64, 13, 2)
+        && is_named(&FaultMet { told: 2, ..ended }, 64, 5, 0)
+        && sentence_of(&ended).outcome == 2
+        && !sentence_of(&memory).is_placed
+}
+
+/// By EPERM, ENOENT and EIO: what has the name can have no other one, nothing has it, and nobody knows which file has.
+fn are_renamed() -> bool {
+    let (nameless, none, failed) = (
+        renamed_of(false, 1),
+        renamed_of(false, 2),
+        renamed_of(false, 5),
+    );
+    nameless.is_nameless
+        && nameless.fault == 0
+        && none.fault == 0
+        && !none.is_aside
+        && failed.fault == 5
+        && renamed_of(false, 0).is_aside
+        && renamed_of(true, 95).goes
+        && !renamed_of(true, 5).goes
+        && renamed_of(true, 0).is_aside
+}
+
+const LINK: OldFile = OldFile {
+    user: 3,
+    group: 4,
+    bits: 0o640,
+    is_there: true,
+    is_regular: true,
+    is_link: true,
+    is_read: true,
+};
+
+const ABOVE: FileOwner = FileOwner { user: 1, group: 2 };
+
+fn bits_of(look: NewLook) -> u32 {
+    match look {
+        NewLook::Is(NewOwner::Given(new)) => new.bits,
+        _ => 0,
+    }
+}
+
+fn are_looked_at() -> bool {
+    let file = OldFile {
+        is_link: false,
+        ..LINK
+    };
+    matches!(new_look(&LINK, ABOVE, false, false), NewLook::Follow)
+        && bits_of(new_look(&LINK, ABOVE, false, true)) == 512 + 0o640
+        && bits_of(new_look(&file, ABOVE, false, false)) == 0o640
+}
+
+fn are_noted() -> bool {
+    let making = Making {
+        makes_file: true,
+        is_unsettled: false,
+        is_expected: false,
+    };
+    let expected = Making {
+        is_expected: true,
+        ..making
+    };
+    making.after_number(8, 0) == 1
+        && expected.after_number(8, 0) == 0
+        && making.after_number(9, 0) == 10
+        && making.after_number(9, 1) == 11
+        && making.after_number(10, 1) == 13
+        && making.after_number(11, 0) == 12
+}
+
+/// Of two changes the second one is at fault.
+fn are_told() -> bool {
+    let set = QueuedEdit {
+        change: 0,
+        sets: true,
+        is_left_out: true,
+        is_refused: false,
+    };
+    let other = QueuedEdit {
+        change: 1,
+        is_left_out: false,
+        ..set
+    };
+    let mut edits = [set, other];
+    let mut batch = BatchRecord::begin(&mut edits);
+    let passed = !batch.answered(&mut edits, 0, 0) && !batch.answered(&mut edits, 0, 0);
+    let is_kept = batch.answered(&mut edits, 2, 0);
+    let marked = edits[1].is_refused && !edits[0].is_refused;
+    let went = !batch.answered(&mut edits, 0, 0) && !batch.answered(&mut edits, 0, 0);
+    let step = batch.next(&edits, false);
+    passed && is_kept && marked && went && step.tells && step.next.kind == 4
+}
+
+#[test]
+fn faults_are_told(rt: HostRuntime) -> Result<(), Fail> {
+    assert!(rt; are_said() && are_renamed() && are_looked_at() && are_noted() && are_told());
+    Ok(())
+}
