@@ -57,8 +57,9 @@ size_t bit_of(const Written *one, const Written *other, size_t from, size_t to, 
 /* Says how many bytes a struct takes of which all fields are found. Nothing is written after it. */
 size_t ends(const Written *room);
 
-/* ---- what is found: of a database (database.c), of a turn to change a file (turn.c), of what waits (waits.c), of faults (faults.c), of what others do
- * (others.c), of where a store is (place.c), of lines (lines.c), and of changes to a set (changesets.c); and what inotify tells (inotify.c) */
+/* ---- what is found: of a database (database.c), of a turn to change a file (turn.c), of what waits (waits.c), of what is done next (rounds.c), of faults
+ * (faults.c), of what others do (others.c), of where a store is (place.c), of lines (lines.c), and of changes to a set (changesets.c); and what inotify
+ * tells (inotify.c) */
 
 /* Of so many texts a path is made. */
 enum { PART_OF_PATH = 4 };
@@ -72,6 +73,7 @@ const void *empty_layer(void);
 void finds_database(void);
 void finds_turns(void);
 void finds_waits(void);
+void finds_next(void);
 void finds_faults(void);
 void finds_others(void);
 void finds_places(void);

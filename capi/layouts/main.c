@@ -14,6 +14,7 @@ int main(void)
     finds_database();
     finds_turns();
     finds_waits();
+    finds_next();
     finds_faults();
     finds_others();
     finds_places();
