@@ -32,9 +32,6 @@ void place_release(StorePlace *place);
 DconfdbStore *place_open(const StorePlace *place, DconfdbError *error);
 char *place_files(const StorePlace *place, int *profiles, bool *are_all, DconfdbError *error);
 
-/* False: the profile that is named couldn't be had. */
-bool place_has_profile(const DconfdbStore *store);
-
 /* What names the profile, by a path or a name; or NULL. */
 const char *place_profile_name(const StorePlace *place);
 

@@ -168,7 +168,6 @@ static bool look_at_next(DconfdbStore *store, Look *look, DconfdbError *error)
 static bool take_profile(DconfdbStore *store, const Look *look, DconfdbError *error)
 {
     const Profile profile = {look->next.step, look->path ? look->path : "", bytes_of(look->text.at), look->text.len};
-    store->lacks_profile = profile.step == DCONFDB_PROFILE_NO_DATABASE;
     return profile.step != DCONFDB_PROFILE_REFUSED && name_files(store, &profile, error);
 }
 
@@ -181,11 +180,6 @@ bool store_find_files(DconfdbStore *store, DconfdbError *error)
     done = done && take_profile(store, &look, error);
     look_release(&look);
     return done;
-}
-
-bool place_has_profile(const DconfdbStore *store)
-{
-    return !store->lacks_profile;
 }
 
 /* ---- the names of its files */

@@ -24,7 +24,6 @@ struct DconfdbStore {
     DconfdbSnapshot *now;
     Notices notices;
     StorePlace place;
-    bool lacks_profile; /* the one that is named can't be had, so there is no database */
     char *user_file; /* absolute; NULL: no user's database */
     const char *own_name; /* of that in its folder */
     char *flag;           /* of dconf's readers of it; NULL: there are none */
