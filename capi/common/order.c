@@ -13,9 +13,6 @@
 /* The room that is made first: for so many bytes, and times. */
 enum { FEW_BYTES = 1024, FEW_TIMES = 4 };
 
-/* Two clocks are read at once if no more than so many nanoseconds pass meanwhile; else again, so often. */
-enum { MOST_BETWEEN = 50000, MOST_READS = 20 };
-
 static const uint64_t second = 1000000000;
 
 /* Bytes of paths, and those that were had before. */
@@ -42,17 +39,11 @@ uint64_t order_clock(void)
     return time_by(CLOCK_BOOTTIME);
 }
 
-/* This thread may have to wait between two readings. */
+/* In this order, since this thread may have to wait between the two: no set counts as later than it was. */
 static void read_clocks(Order *order)
 {
-    uint64_t before, after = order_clock();
-    int count = 0;
-    do {
-        before = after;
-        order->now = time_by(CLOCK_REALTIME);
-        after = order_clock();
-    } while (after - before > MOST_BETWEEN && ++count < MOST_READS);
-    order->moment = after;
+    order->now = time_by(CLOCK_REALTIME);
+    order->moment = order_clock();
 }
 
 uint64_t order_time(const Order *order, uint64_t moment, uint64_t noted)

@@ -252,11 +252,18 @@ static void pass_a_moment(void)
     cancel_as_before(cancels);
 }
 
-/* Who looks too is waited for, and who reads the files before a change. The snapshot is another one only where `refreshing` is held. */
+/* Whether the files are looked at while another thread has the turn to do so. */
+static bool is_looked_at(const DconfdbStore *store)
+{
+    const DconfdbLookKnown known = {.is_open = true, .is_busy = is_amid_change(store)};
+    return dconfdb_look_due(DCONFDB_LOOKER_SEES, &known) == DCONFDB_LOOK_NOW;
+}
+
+/* The snapshot is another one only where `refreshing` is held. */
 DconfdbSnapshot *newest_unless_amid(DconfdbStore *store, bool *has_looked, DconfdbError *error)
 {
     while (pthread_mutex_trylock(&store->refreshing) != 0) {
-        *has_looked = !is_amid_change(store);
+        *has_looked = is_looked_at(store);
         if (!*has_looked)
             return dconfdb_store_snapshot(store);
         pass_a_moment();

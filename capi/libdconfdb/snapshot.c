@@ -108,13 +108,14 @@ bool dconfdb_snapshot_fault(const DconfdbSnapshot *snapshot, size_t database, Dc
     return true;
 }
 
+/* Where no database is the user's no file is asked of: none was there, and none is. */
 bool dconfdb_snapshot_is_newest(const DconfdbSnapshot *snapshot)
 {
-    FileState state;
-    if (!snapshot->is_writable) /* no file is asked of */
-        return true;
-    int fault = file_look(snapshot->parts[0]->name, &state);
-    return part_beside(snapshot->parts[0], DCONFDB_PART_TELL, &state, fault) == DCONFDB_BESIDE_SAME;
+    static const Part no_file = {.state = {.is_there = false}};
+    const Part *own = snapshot->is_writable ? snapshot->parts[0] : &no_file;
+    FileState state = {.is_there = false};
+    int fault = own == &no_file ? 0 : file_look(own->name, &state);
+    return part_beside(own, DCONFDB_PART_TELL, &state, fault) == DCONFDB_BESIDE_SAME;
 }
 
 _Static_assert(offsetof(DconfdbValue, data) == offsetof(DconfdbFound, value.at)

@@ -89,17 +89,21 @@ static void put_reset(GTree *edits, Newest *newest, const char *path)
     put(edits, edit);
 }
 
-/* The reset of a directory is that of each key below it: of those that were there, and that were set since. */
+/* Whether the reset of a directory takes away what a key has. */
+static bool takes_away(const char *directory, const char *path)
+{
+    return dconfdb_row_effect((const uint8_t *)directory, strlen(directory), false, false, (const uint8_t *)path, strlen(path)) == DCONFDB_ROW_GOES;
+}
+
+/* The reset of a directory is that of each key that it takes away: of those that were there, and that were set since. */
 static void put_resets(GTree *edits, Newest *newest, const DconfdbSnapshot *before, const char *directory)
 {
     char *paths = snapshot_paths(before, directory, NULL);
     for (const char *at = paths; at && *at; at += strlen(at) + 1)
         put_reset(edits, newest, at);
-    for (GTreeNode *node = g_tree_lower_bound(newest->edits, directory); node; node = g_tree_node_next(node)) {
-        if (!paths_meet(directory, g_tree_node_key(node)))
-            break;
+    GTreeNode *node = g_tree_lower_bound(newest->edits, directory);
+    for (; node && takes_away(directory, g_tree_node_key(node)); node = g_tree_node_next(node))
         put_reset(edits, newest, g_tree_node_key(node));
-    }
     free(paths);
 }
 

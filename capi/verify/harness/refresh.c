@@ -316,6 +316,13 @@ void store_after(DconfdbStore *at, uint32_t what, bool yes, uint64_t number)
     store.known.has_news = what == DCONFDB_STORE_FOUND && (store.known.has_news || yes);
 }
 
+/* As the proved call has it of who wants to see what the files are. */
+uint32_t dconfdb_look_due(uint32_t looker, const DconfdbLookKnown *known)
+{
+    CHECK(looker == DCONFDB_LOOKER_SEES && known->is_open, "step: an open store is looked at");
+    return known->is_busy ? DCONFDB_LOOK_LATER : DCONFDB_LOOK_NOW;
+}
+
 void store_renew(DconfdbStore *at, DconfdbSnapshot *newer)
 {
     CHECK(at == &store && newer == &newer_room && is_held(&store.refreshing), "step: the newer snapshot is the store's");
