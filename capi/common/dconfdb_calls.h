@@ -1386,6 +1386,7 @@ typedef struct {
     uint64_t waiting, waiting_size; /* how many changes wait, and how many bytes they have together */
     uint64_t names;                 /* how many databases are in use */
     uint32_t said;                  /* by dconfdb_failing_met, of the fault by which it can't be written */
+    uint32_t kind;                  /* of a text, what it is as a path, by dconfdb_path_kind */
     bool is_used;                   /* its database is in use */
     bool is_normal;                 /* its bytes are in normal form */
     bool has_edits;                 /* something of it is to be made */
@@ -1399,6 +1400,11 @@ typedef struct {
     bool has_same_file;             /* the user's file of both is the same */
     bool had_name;                  /* the service had its name */
     bool is_bus_closed;             /* the bus is gone */
+    bool is_short;                  /* the path is no longer than one may be */
+    bool is_again;                  /* it is the path of the one before it, too */
+    bool is_covered;                /* a directory's reset takes away what is there */
+    bool sets;                      /* a value is set there; else it is reset */
+    bool is_users;                  /* a database is the user's own */
 } DconfdbServed;
 
 /* What was done with it, or what happened. Of each its own fields count, and no others. */
@@ -1411,12 +1417,15 @@ enum {
     DCONFDB_SERVED_WAITS,  /* it waits behind those that are taken to be written */
     DCONFDB_SERVED_OPENED, /* the stores are open that may have its database, or can't be opened */
     DCONFDB_SERVED_LEFT,   /* of the service: all are answered that can be at its end; so many weren't when it came */
-    DCONFDB_SERVED_NAMELESS /* it hasn't its name */
+    DCONFDB_SERVED_NAMELESS, /* it hasn't its name */
+    DCONFDB_SERVED_PATH,     /* a path in it is read */
+    DCONFDB_SERVED_ORDERED,  /* .. and comes behind those before it, in the order of their bytes, and of one path as they were sent */
+    DCONFDB_SERVED_SHOWS     /* the service tells who listens of a database */
 };
 
 /* What becomes of it then. */
 enum {
-    DCONFDB_SERVED_GOES_ON, /* it is read, or waits to be written; or each path is named */
+    DCONFDB_SERVED_GOES_ON, /* it is read, or waits to be written; or each path is named; or it is made, or told of */
     DCONFDB_SERVED_ACKNOWLEDGED,
     DCONFDB_SERVED_FAILED,  /* the fault is answered by which it isn't written */
     DCONFDB_SERVED_CLOSED,  /* .. or why nobody with these rights may write there */
@@ -1429,7 +1438,10 @@ enum {
     DCONFDB_SERVED_PROFILES, /* the profile's store has its database */
     DCONFDB_SERVED_ALONE,    /* the store of its database alone has it */
     DCONFDB_SERVED_ENDS,     /* the service ends, and takes what it was sent before */
-    DCONFDB_SERVED_TAKEN     /* another service has the name */
+    DCONFDB_SERVED_TAKEN,    /* another service has the name */
+    DCONFDB_SERVED_PASSED,   /* it says nothing, or nothing is told of it */
+    DCONFDB_SERVED_LEFT_OUT, /* it isn't made, which is told */
+    DCONFDB_SERVED_REPLACES  /* it counts in the place of the one before it */
 };
 
 uint32_t dconfdb_served_after(uint32_t done, const DconfdbServed *known);

@@ -124,12 +124,3 @@ bool seen_is_writable(const DconfdbSnapshot *snapshot, bool is_open, const char 
     const DconfdbSnapshot *of = or_nothing(snapshot);
     return dconfdb_may_write(of->layers, of->count, of->is_writable, is_open, bytes_of(path), strlen(path)) == DCONFDB_MAY;
 }
-
-DconfdbSnapshot *snapshot_of_user(const DconfdbSnapshot *snapshot)
-{
-    size_t count = snapshot->is_writable ? 1 : 0;
-    DconfdbSnapshot *own = snapshot_new(count, snapshot->is_writable);
-    for (size_t i = 0; own && i < count; i++)
-        snapshot_put(own, i, part_ref(snapshot->parts[i]));
-    return own;
-}

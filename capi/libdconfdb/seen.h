@@ -34,9 +34,6 @@ void seen_free(Told *told);
  * covers it. `snapshot` may be NULL: then nothing may. Without memory it may not, but a key that may takes none. */
 bool seen_is_writable(const DconfdbSnapshot *snapshot, bool is_open, const char *path);
 
-/* What the user's own database holds of it, as if it were the store's only one. NULL: no memory is left. */
-DconfdbSnapshot *snapshot_of_user(const DconfdbSnapshot *snapshot);
-
 /* Whether one is the other, or a directory above it. */
 bool paths_meet(const char *one, const char *other);
 

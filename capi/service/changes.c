@@ -70,23 +70,31 @@ static DconfdbEdit edit_from(const Change *change, const char *path, GVariant *v
     return (DconfdbEdit){path, type, g_variant_get_data(value), g_variant_get_size(value)};
 }
 
-/* As dconf has it, what is no path, and a value at a directory, is passed over. */
+/* What becomes of a path at which a value is set, or not. */
+static uint32_t served_of(const char *path, bool sets)
+{
+    DconfdbServed known = {.sets = sets};
+    known.kind = dconfdb_path_kind((const uint8_t *)path, strlen(path), sets ? DCONFDB_KEY_WANTED : DCONFDB_PATH_WANTED, false, &known.is_short);
+    return dconfdb_served_after(DCONFDB_SERVED_PATH, &known);
+}
+
 static void read_entry(Change *change, GVariant *entry)
 {
     const char *path = NULL;
-    bool is_short = false;
     g_variant_get_child(entry, 0, "&s", &path);
     g_autoptr(GVariant) value = value_of(entry);
-    uint32_t wanted = value ? DCONFDB_KEY_WANTED : DCONFDB_PATH_WANTED;
-    uint32_t kind = dconfdb_path_kind((const uint8_t *)path, strlen(path), wanted, false, &is_short);
-    if (kind != DCONFDB_PATH_KEY && kind != DCONFDB_PATH_DIRECTORY)
-        return;
-    if (!is_short) {
+    DconfdbEdit edit;
+    switch (served_of(path, value)) {
+    case DCONFDB_SERVED_GOES_ON:
+        edit = edit_from(change, path, value);
+        g_array_append_val(change->edits, edit);
+        break;
+    case DCONFDB_SERVED_LEFT_OUT:
         g_ptr_array_add(change->unfit, (gpointer)path);
-        return;
+        break;
+    default:
+        break;
     }
-    DconfdbEdit edit = edit_from(change, path, value);
-    g_array_append_val(change->edits, edit);
 }
 
 /* ---- their order */
@@ -96,20 +104,23 @@ static int by_path(const void *one, const void *other)
     return strcmp(((const DconfdbEdit *)one)->path, ((const DconfdbEdit *)other)->path);
 }
 
-/* What becomes of an edit beside one that counts after it. */
+/* What becomes of an edit beside one that counts after it, or of none (NULL). */
 static uint32_t effect_of(const DconfdbEdit *later, const DconfdbEdit *edit)
 {
+    if (!later || !edit)
+        return DCONFDB_ROW_STAYS;
     return dconfdb_row_effect((const uint8_t *)later->path, strlen(later->path), later->type != NULL, false, (const uint8_t *)edit->path, strlen(edit->path));
 }
 
-/* Whether it is the reset of what a directory above resets already. */
-static bool is_in(const DconfdbEdit *above, const DconfdbEdit *edit)
+/* What becomes of an edit behind those before it: the last of them, and the last reset of a directory. */
+static uint32_t ordered_of(const DconfdbEdit *edit, const DconfdbEdit *last, const DconfdbEdit *above)
 {
-    return above && !edit->type && effect_of(above, edit) == DCONFDB_ROW_GOES;
+    const DconfdbServed known = {
+        .is_again = effect_of(edit, last) == DCONFDB_ROW_TAKES, .is_covered = effect_of(above, edit) == DCONFDB_ROW_GOES, .sets = edit->type != NULL};
+    return dconfdb_served_after(DCONFDB_SERVED_ORDERED, &known);
 }
 
-/* One edit of each path, the last that was sent, since those of one path stay in their order; and no resets in a directory that is reset,
- * of which there may be very many. */
+/* In the order of their paths' bytes, and of one path as they were sent. */
 static void sort(GArray *edits)
 {
     DconfdbEdit *all = (DconfdbEdit *)(gpointer)edits->data;
@@ -117,10 +128,10 @@ static void sort(GArray *edits)
     guint count = 0;
     g_array_sort(edits, by_path);
     for (guint at = 0; at < edits->len; at++) {
-        bool is_again = count > 0 && effect_of(&all[at], &all[count - 1]) == DCONFDB_ROW_TAKES;
-        if (!is_again && is_in(above, &all[at]))
+        uint32_t is = ordered_of(&all[at], count > 0 ? &all[count - 1] : NULL, above);
+        if (is == DCONFDB_SERVED_PASSED)
             continue;
-        count += !is_again;
+        count += is == DCONFDB_SERVED_GOES_ON;
         all[count - 1] = all[at];
         if (g_str_has_suffix(all[at].path, "/"))
             above = &all[count - 1];

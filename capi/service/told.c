@@ -2,6 +2,7 @@
  * sandbox see no site's. */
 #include "paths.h"
 #include "service.h"
+#include "snapshot.h"
 
 #include <stdlib.h>
 #include <string.h>
@@ -123,12 +124,27 @@ static GTree *keys_of(Newest *newest, const DconfdbSnapshot *before, const GPtrA
 
 /* ---- what is seen otherwise */
 
-/* The user's own database, as it was told, or is now. */
+/* Of how many databases of a snapshot is told: of the first ones. */
+static size_t count_shown(const DconfdbSnapshot *snapshot)
+{
+    size_t count = 0;
+    DconfdbServed known = {.is_users = snapshot->is_writable};
+    while (count < snapshot->count && dconfdb_served_after(DCONFDB_SERVED_SHOWS, &known) == DCONFDB_SERVED_GOES_ON) {
+        known.is_users = false; /* only the first may be */
+        count++;
+    }
+    return count;
+}
+
+/* These, as they were told, or are now. */
 static DconfdbSnapshot *own_of(const DconfdbSnapshot *snapshot)
 {
-    DconfdbSnapshot *own = snapshot_of_user(snapshot);
+    size_t count = count_shown(snapshot);
+    DconfdbSnapshot *own = snapshot_new(count, snapshot->is_writable);
     if (!own)
         g_error("no memory is left");
+    for (size_t i = 0; i < count; i++)
+        snapshot_put(own, i, part_ref(snapshot->parts[i]));
     return own;
 }
 
@@ -144,7 +160,8 @@ static void keep_each_once(GPtrArray *paths)
     g_autoptr(GHashTable) named = g_hash_table_new(g_str_hash, g_str_equal);
     guint count = 0;
     for (guint at = 0; at < paths->len; at++) {
-        if (g_hash_table_add(named, g_ptr_array_index(paths, at)))
+        const DconfdbServed known = {.is_again = !g_hash_table_add(named, g_ptr_array_index(paths, at))};
+        if (dconfdb_served_after(DCONFDB_SERVED_ORDERED, &known) == DCONFDB_SERVED_GOES_ON)
             g_ptr_array_index(paths, count++) = g_ptr_array_index(paths, at);
     }
     g_ptr_array_set_size(paths, (gint)count);

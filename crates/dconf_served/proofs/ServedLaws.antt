@@ -2,8 +2,8 @@
 use Rattle.std.proofs.Common.{◌≡◌, ◌≢◌, ◌⊎◌, inl, inr, arith, Bool, true, false, not, refl, sym, ◌∙◌}
 use Rattle.std.specs.Prelude.{ℕ, ◌&&◌, ◌||◌, ◌==◌, if◌then◌else◌, nat_lt, nat_le}
 use Rattle.dconf_served.specs.declared.served.Served.{Served}
-use Rattle.dconf_served.specs.declared.served.Served.TheVariants.{GoesOn, Acknowledged, Failed, Closed, Odd, TooLarge, TooMuch, TooManyNames, Late, Profiles, Alone}
-use Rattle.dconf_served.specs.Served.{has_room, is_odd, lasts, NothingIsAnsweredUnwritten, WhatWaitsIsBounded, WhoWaitsIsToldAtTheEnd, LocksCountWhereTheyAreKnown}
+use Rattle.dconf_served.specs.declared.served.Served.TheVariants.{GoesOn, Acknowledged, Failed, Closed, Odd, TooLarge, TooMuch, TooManyNames, Late, Profiles, Alone, PassedOver, LeftOut, Replaces}
+use Rattle.dconf_served.specs.Served.{has_room, is_odd, is_path, lasts, NothingIsAnsweredUnwritten, WhatIsSentCounts, WhatWaitsIsBounded, WhoWaitsIsToldAtTheEnd, LocksCountWhereTheyAreKnown}
 
 -- ---- what was tried, by whether it is written, lasts, is at its end, is odd, has edits, and is closed
 
@@ -114,6 +114,44 @@ others true false same e = absurd (let bad : Failed ≡ Profiles = e in cc)
 others true true true e = refl
 others true true false e = absurd (let bad : Alone ≡ Profiles = e in cc)
 
+-- ---- what it says
+
+abbrev entered_by : Bool → Bool → Served
+entered_by path short = if not path then PassedOver else if short then GoesOn else LeftOut
+
+path_counts : (path short : Bool) → path ≡ true → entered_by path short ≢ PassedOver
+path_counts false short h e = let bad : false ≡ true = h in cc
+path_counts true true h e = let bad : GoesOn ≡ PassedOver = e in cc
+path_counts true false h e = let bad : LeftOut ≡ PassedOver = e in cc
+
+made : (path short : Bool) → entered_by path short ≡ GoesOn → (path ≡ true) × (short ≡ true)
+made false short e = absurd (let bad : PassedOver ≡ GoesOn = e in cc)
+made true true e = (refl, refl)
+made true false e = absurd (let bad : LeftOut ≡ GoesOn = e in cc)
+
+abbrev ordered_by : Bool → Bool → Bool → Served
+ordered_by again covered sets = if again then Replaces else if covered && not sets then PassedOver else GoesOn
+
+set_stays : (again covered sets : Bool) → sets ≡ true → again ≡ false → ordered_by again covered sets ≡ GoesOn
+set_stays true covered sets s a = absurd (let bad : true ≡ false = a in cc)
+set_stays false false sets s a = refl
+set_stays false true true s a = refl
+set_stays false true false s a = absurd (let bad : false ≡ true = s in cc)
+
+passed_over : (again covered sets : Bool) → ordered_by again covered sets ≡ PassedOver → (covered ≡ true) × (sets ≡ false)
+passed_over true covered sets e = absurd (let bad : Replaces ≡ PassedOver = e in cc)
+passed_over false false sets e = absurd (let bad : GoesOn ≡ PassedOver = e in cc)
+passed_over false true true e = absurd (let bad : GoesOn ≡ PassedOver = e in cc)
+passed_over false true false e = (refl, refl)
+
+once : (again covered sets : Bool) → again ≡ true → ordered_by again covered sets ≡ Replaces
+once true covered sets a = refl
+once false covered sets a = absurd (let bad : false ≡ true = a in cc)
+
+own : (users : Bool) → (if users then GoesOn else PassedOver) ≡ GoesOn → users ≡ true
+own true e = refl
+own false e = absurd (let bad : PassedOver ≡ GoesOn = e in cc)
+
 -- ---- the laws
 
 pub nothing_is_answered_unwritten : NothingIsAnsweredUnwritten
@@ -149,4 +187,14 @@ locks_count_where_they_are_known k = record {
   locked = locked k.is_open k.is_profile_open k.has_same_file;
   unknown = unknown k.is_open k.is_profile_open k.has_same_file;
   others = others k.is_open k.is_profile_open k.has_same_file;
+}
+
+pub what_is_sent_counts : WhatIsSentCounts
+what_is_sent_counts k = record {
+  path = path_counts (is_path k) k.is_short;
+  made = made (is_path k) k.is_short;
+  set = set_stays k.is_again k.is_covered k.sets;
+  covered = passed_over k.is_again k.is_covered k.sets;
+  once = once k.is_again k.is_covered k.sets;
+  own = own k.is_users;
 }

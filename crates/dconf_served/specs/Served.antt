@@ -1,7 +1,7 @@
 -- What the D-Bus service answers to a call that changes settings, and when it ends.
 use Rattle.std.specs.Prelude.{ℕ, ◌≡◌, ◌≢◌, ◌⊎◌, Bool, true, false, not, ◌&&◌, ◌||◌, if◌then◌else◌, ◌==◌, nat_lt, nat_le}
 use Rattle.dconf_served.specs.declared.served.Served.{Served}
-use Rattle.dconf_served.specs.declared.served.Served.TheVariants.{GoesOn, Acknowledged, Failed, Closed, Odd, TooLarge, TooMuch, TooManyNames, Late, Later, Profiles, Alone, Ends, Taken}
+use Rattle.dconf_served.specs.declared.served.Served.TheVariants.{GoesOn, Acknowledged, Failed, Closed, Odd, TooLarge, TooMuch, TooManyNames, Late, Later, Profiles, Alone, Ends, Taken, PassedOver, LeftOut, Replaces}
 use Rattle.dconf_served.specs.declared.served.ServedKnown.{ServedKnown}
 
 -- ---- when it came
@@ -23,6 +23,19 @@ is_odd k = not k.is_normal && nat_lt 32768 k.size
 abbrev pub read : ServedKnown → Served
 read k = if is_odd k then Odd else GoesOn
 
+-- ---- what it says: each path that was sent, in the order of their bytes, and of those of one path as they were sent
+
+abbrev pub is_path : ServedKnown → Bool
+is_path k = (k.kind == 0) || (k.kind == 1)
+
+-- as dconf has it, what is no path is passed over; a path that is too long to be a key's is left out, which is told
+abbrev pub entered : ServedKnown → Served
+entered k = if not (is_path k) then PassedOver else if k.is_short then GoesOn else LeftOut
+
+-- of one path the last counts; the reset of what a directory's takes away says nothing more
+abbrev pub ordered : ServedKnown → Served
+ordered k = if k.is_again then Replaces else if k.is_covered && not k.sets then PassedOver else GoesOn
+
 -- ---- when it was tried to write it
 
 abbrev pub lasts : ServedKnown → Bool
@@ -42,6 +55,10 @@ tried k =
 -- 16 MiB of paths are named at most
 abbrev pub told : ServedKnown → Served
 told k = if nat_lt 16777216 k.size then TooLarge else GoesOn
+
+-- a database: programs in a sandbox see the user's own alone
+abbrev pub shown : ServedKnown → Served
+shown k = if k.is_users then GoesOn else PassedOver
 
 -- ---- when the service ends
 
@@ -69,7 +86,7 @@ placed k = if not k.is_open || not k.is_profile_open then Failed else if k.has_s
 abbrev pub served_after : ℕ → ServedKnown → Served
 served_after done k = if done == 0 then came k else if done == 1 then read k else if done == 3 then told k else
     if done == 4 then ended k else if done == 5 then joined k else if done == 6 then placed k else if done == 7 then left k else
-    if done == 8 then named k else tried k
+    if done == 8 then named k else if done == 9 then entered k else if done == 10 then ordered k else if done == 11 then shown k else tried k
 
 abbrev pub served_number : Served → ℕ
 served_number GoesOn = 0
@@ -86,6 +103,9 @@ served_number Profiles = 10
 served_number Alone = 11
 served_number Ends = 12
 served_number Taken = 13
+served_number PassedOver = 14
+served_number LeftOut = 15
+served_number Replaces = 16
 
 -- ---- the laws
 
@@ -131,3 +151,20 @@ pub record IsPlacedSafely (k : ServedKnown) : Type 0 where
 
 abbrev pub LocksCountWhereTheyAreKnown : Type 0
 LocksCountWhereTheyAreKnown = (k : ServedKnown) → IsPlacedSafely k
+
+-- each set that was sent is made, or what keeps it from that is known
+pub record CountsAsSent (k : ServedKnown) : Type 0 where
+  -- a path's is made, or left out, which is told
+  pub path : is_path k ≡ true → served_after 9 k ≢ PassedOver
+  pub made : served_after 9 k ≡ GoesOn → (is_path k ≡ true) × (k.is_short ≡ true)
+  -- a set stays unless a later one has its path
+  pub set : k.sets ≡ true → k.is_again ≡ false → served_after 10 k ≡ GoesOn
+  -- what is passed over is a reset that a directory's stands for
+  pub covered : served_after 10 k ≡ PassedOver → (k.is_covered ≡ true) × (k.sets ≡ false)
+  -- of each path there is one
+  pub once : k.is_again ≡ true → served_after 10 k ≡ Replaces
+  -- no site's database is told of
+  pub own : served_after 11 k ≡ GoesOn → k.is_users ≡ true
+
+abbrev pub WhatIsSentCounts : Type 0
+WhatIsSentCounts = (k : ServedKnown) → CountsAsSent k

@@ -4,7 +4,7 @@
 //! Nothing is kept here: each call is told what is known, and says what becomes of the change.
 #![tactic(auto)]
 
-ghost use Rattle.dconf_served.specs.Served.{LocksCountWhereTheyAreKnown, NothingIsAnsweredUnwritten, WhatWaitsIsBounded, WhoWaitsIsToldAtTheEnd};
+ghost use Rattle.dconf_served.specs.Served.{LocksCountWhereTheyAreKnown, NothingIsAnsweredUnwritten, WhatIsSentCounts, WhatWaitsIsBounded, WhoWaitsIsToldAtTheEnd};
 
 mod served;
 
@@ -31,4 +31,10 @@ pub fn who_waits_is_told_at_the_end()
 /// The locks of the profile count for the database that it has as its user's; and nothing is written while they can't be known.
 pub fn locks_count_where_they_are_known()
     ensures { LocksCountWhereTheyAreKnown }
+{}
+
+/// What is sent of a path is made, or left out, which is told; a set stays unless a later one has its path, and a reset unless a directory's stands
+/// for it; and who listens is told of no site's database.
+pub fn what_is_sent_counts()
+    ensures { WhatIsSentCounts }
 {}

@@ -1,6 +1,6 @@
 //! What becomes of a call that changes settings, and of the service that takes it.
 ghost use Rattle.std.specs.Prelude.{◌≡◌};
-ghost use Rattle.dconf_served.specs.Served.{came, ended, has_room, is_odd, is_settled, joined, lasts, left, named, placed, read, served_after, served_number, told, tried};
+ghost use Rattle.dconf_served.specs.Served.{came, ended, entered, has_room, is_odd, is_path, is_settled, joined, lasts, left, named, ordered, placed, read, served_after, served_number, shown, told, tried};
 
 /// A change has so many bytes at most.
 const LARGEST: u64 = 67_108_864;
@@ -50,6 +50,12 @@ pub enum Served {
     Ends,
     /// Another service has the name: this one never serves.
     Taken,
+    /// It says nothing.
+    PassedOver,
+    /// It isn't made, which is told.
+    LeftOut,
+    /// It counts in the place of the one before it.
+    Replaces,
 }
 
 /// What is known of a change, and of those that wait.
@@ -65,6 +71,8 @@ pub struct ServedKnown {
     pub names: u64,
     /// What is said of the fault by which it can't be written: 1 it is said, 2 it was; else it doesn't last yet.
     pub said: u32,
+    /// What a text is as the path of what is asked for there: 0 a key's, 1 a directory's; else it is none.
+    pub kind: u32,
     /// Its database is in use.
     pub is_used: bool,
     pub is_normal: bool,
@@ -87,11 +95,21 @@ pub struct ServedKnown {
     /// The service had its name, and the bus is gone.
     pub had_name: bool,
     pub is_bus_closed: bool,
+    /// The path is no longer than one may be.
+    pub is_short: bool,
+    /// It is the path of the one before it, too; and a directory's reset takes away what is there.
+    pub is_again: bool,
+    pub is_covered: bool,
+    /// A value is set there; else it is reset.
+    pub sets: bool,
+    /// A database is the user's own.
+    pub is_users: bool,
 }
 
 /// What becomes of a change: 0 it came, 1 it is read, 3 what is seen otherwise by it is told, 4 the service ends before it is answered, 5 it
-/// waits behind those that are taken, 6 the stores were opened that may have its database, and else it was tried to write it. And of the
-/// service: 7 each caller is answered who can be at its end, 8 it hasn't its name.
+/// waits behind those that are taken, 6 the stores were opened that may have its database, and else it was tried to write it. Of what it says: 9 a
+/// path is read, 10 it comes behind those before it in the order of their bytes. And of the service: 7 each caller is answered who can be at its
+/// end, 8 it hasn't its name, 11 it tells of a database.
 pub fn served_after(done: u32, known: &ServedKnown) -> Served
     ensures { result ≡ served_after done known.now }
 {
@@ -104,13 +122,16 @@ pub fn served_after(done: u32, known: &ServedKnown) -> Served
         6 => placed(known),
         7 => left(known),
         8 => named(known),
+        9 => entered(known),
+        10 => ordered(known),
+        11 => shown(known),
         _ => tried(known),
     }
 }
 
 /// The same as a number: 0 it goes on, 1 it is acknowledged, 2 failed, 3 closed, 4 odd, 5 too large, 6 too much waits, 7 too many databases, 8
 /// the service ends, 9 it is for a later write, 10 the profile's store has it, 11 a store of its own has it, 12 the service ends in peace, 13
-/// another one has the name.
+/// another one has the name, 14 it is passed over, 15 left out, 16 it takes the place of the one before it.
 pub fn served_number(done: u32, known: &ServedKnown) -> u32
     ensures { result ≡ served_number (served_after done known.now) }
 {
@@ -129,6 +150,9 @@ pub fn served_number(done: u32, known: &ServedKnown) -> u32
         Served::Alone => 11,
         Served::Ends => 12,
         Served::Taken => 13,
+        Served::PassedOver => 14,
+        Served::LeftOut => 15,
+        Served::Replaces => 16,
     }
 }
 
@@ -166,6 +190,48 @@ fn is_odd(known: &ServedKnown) -> bool
     ensures { result ≡ is_odd known.now }
 {
     !known.is_normal && known.size > MOST_ODD
+}
+
+/// What is no path, and a value at a directory, is passed over.
+fn entered(known: &ServedKnown) -> Served
+    ensures { result ≡ entered known.now }
+{
+    if !is_path(known) {
+        return Served::PassedOver;
+    }
+    if known.is_short {
+        return Served::GoesOn;
+    }
+    Served::LeftOut
+}
+
+fn is_path(known: &ServedKnown) -> bool
+    ensures { result ≡ is_path known.now }
+{
+    known.kind == 0 || known.kind == 1
+}
+
+/// There may be very many resets in a directory that is reset; what is set there is set after that.
+fn ordered(known: &ServedKnown) -> Served
+    ensures { result ≡ ordered known.now }
+{
+    if known.is_again {
+        return Served::Replaces;
+    }
+    if known.is_covered && !known.sets {
+        return Served::PassedOver;
+    }
+    Served::GoesOn
+}
+
+/// Programs in a sandbox see no site's database.
+fn shown(known: &ServedKnown) -> Served
+    ensures { result ≡ shown known.now }
+{
+    if known.is_users {
+        return Served::GoesOn;
+    }
+    Served::PassedOver
 }
 
 /// All that are written together wait together, so that they are answered in the order in which they came.

@@ -9,6 +9,7 @@ const PLAIN: ServedKnown = ServedKnown {
     waiting_size: 0,
     names: 1,
     said: 0,
+    kind: 0,
     is_used: true,
     is_normal: true,
     has_edits: true,
@@ -22,6 +23,11 @@ const PLAIN: ServedKnown = ServedKnown {
     has_same_file: false,
     had_name: false,
     is_bus_closed: false,
+    is_short: true,
+    is_again: false,
+    is_covered: false,
+    sets: true,
+    is_users: true,
 };
 
 const ODD: ServedKnown = ServedKnown {
@@ -166,11 +172,54 @@ fn who_has_no_name_ends() -> bool {
     served_number(8, &PLAIN) == 13 && served_number(8, &had) == 12 && served_number(8, &gone) == 12
 }
 
+fn each_path_counts() -> bool {
+    let directory = ServedKnown { kind: 1, ..PLAIN };
+    let none = ServedKnown { kind: 2, ..PLAIN };
+    let long = ServedKnown {
+        is_short: false,
+        ..PLAIN
+    };
+    served_number(9, &PLAIN) == 0
+        && served_number(9, &directory) == 0
+        && served_number(9, &none) == 14
+        && served_number(9, &long) == 15
+}
+
+fn the_last_of_a_path_counts() -> bool {
+    let again = ServedKnown {
+        is_again: true,
+        ..PLAIN
+    };
+    let set = ServedKnown {
+        is_covered: true,
+        ..PLAIN
+    };
+    let reset = ServedKnown { sets: false, ..set };
+    let alone = ServedKnown {
+        sets: false,
+        ..PLAIN
+    };
+    served_number(10, &PLAIN) == 0
+        && served_number(10, &again) == 16
+        && served_number(10, &set) == 0
+        && served_number(10, &reset) == 14
+        && served_number(10, &alone) == 0
+}
+
+fn sites_are_not_told() -> bool {
+    let sites = ServedKnown {
+        is_users: false,
+        ..PLAIN
+    };
+    served_number(11, &PLAIN) == 0 && served_number(11, &sites) == 14
+}
+
 #[test]
 fn calls_are_answered_once_they_are_written(rt: HostRuntime) -> Result<(), Fail> {
     assert!(rt; too_much_is_refused() && names_are_bounded());
     assert!(rt; odd_bytes_are_refused() && what_is_written_is_acknowledged());
     assert!(rt; who_waits_is_told_at_the_end() && a_name_has_a_store());
     assert!(rt; one_database_is_written_at_once() && who_has_no_name_ends());
+    assert!(rt; each_path_counts() && the_last_of_a_path_counts() && sites_are_not_told());
     Ok(())
 }
