@@ -12,10 +12,4 @@ static inline const char *text_cause(uint32_t number)
     return number - DCONFDB_BAD_TOKEN < sizeof causes / sizeof *causes ? causes[number - DCONFDB_BAD_TOKEN] : "BadToken";
 }
 
-/* Whether the call says where it is in the text, too. */
-static inline bool has_place(uint32_t number)
-{
-    return number >= DCONFDB_BAD_TOKEN && number <= DCONFDB_UNEXPECTED;
-}
-
 #endif

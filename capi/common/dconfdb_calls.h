@@ -791,7 +791,7 @@ void dconfdb_ending(uint32_t outcome, uint32_t fault, bool before, bool is_aside
 /* A fault of which a program is told, and what is known of it. */
 typedef struct {
     uint32_t of;
-    uint32_t number;        /* the errno; of a call, the number of its fault */
+    uint32_t number;        /* the errno; of a call or a text, the number of its fault; 0 of a look that failed by no errno */
     uint32_t told, outcome; /* of a change that ended, as DconfdbEnding has them */
     uint32_t wait;          /* of the lock: how many milliseconds it was waited for */
     uint32_t looked;        /* .. the errno by which its file can't be looked at, or 0 */
@@ -801,13 +801,18 @@ typedef struct {
     bool has_line;          /* a line is at fault, */
     bool has_rule;          /* it may break a rule of sound databases, */
     bool has_item;          /* and an item does */
+    bool has_edit;          /* of edits: one is at fault */
 } DconfdbFaultMet;
 
 enum {
     DCONFDB_FAULT_OF_FILE,
     DCONFDB_FAULT_OF_LOCK,
     DCONFDB_FAULT_OF_CALL,
-    DCONFDB_FAULT_OF_CHANGE /* that ended */
+    DCONFDB_FAULT_OF_CHANGE, /* that ended */
+    DCONFDB_FAULT_OF_EDITS,  /* .. of dconfdb_change */
+    DCONFDB_FAULT_OF_FOLDER, /* a store's, which is looked for */
+    DCONFDB_FAULT_OF_KIND,   /* .. and its kind */
+    DCONFDB_FAULT_OF_TEXT    /* of dconfdb_parse_value */
 };
 
 /* Which sentence is said. */
@@ -828,14 +833,23 @@ enum {
     DCONFDB_SAYS_TEXT,    /* the number's text, */
     DCONFDB_SAYS_TEXT_AT, /* at that line */
     DCONFDB_SAYS_RULE,    /* which rule is broken, */
-    DCONFDB_SAYS_RULE_AT  /* and by which item */
+    DCONFDB_SAYS_RULE_AT, /* and by which item */
+    DCONFDB_SAYS_NO_FOLDER, /* nothing names one */
+    DCONFDB_SAYS_NO_KIND,   /* the machine's file names none */
+    DCONFDB_SAYS_NOT_UTF8,  /* the text isn't UTF-8; */
+    DCONFDB_SAYS_TOO_DEEP,  /* its value is nested too deep, or too long; */
+    DCONFDB_SAYS_HAS_DOUBLE, /* it holds a double; */
+    DCONFDB_SAYS_NO_VALUE,   /* it is no value, */
+    DCONFDB_SAYS_NO_VALUE_AT /* by what is in one place of it */
 };
 
 /* Which name stands in front. */
 enum {
-    DCONFDB_NAMES_IT, /* that which is at fault */
+    DCONFDB_NAMES_IT, /* that which is at fault, or the user's file */
     DCONFDB_NAMES_LOCK,
-    DCONFDB_NAMES_FOLDER
+    DCONFDB_NAMES_FOLDER,
+    DCONFDB_NAMES_EDIT, /* an edit's path */
+    DCONFDB_NAMES
 };
 
 typedef struct {
@@ -881,6 +895,7 @@ typedef struct {
     bool has_seen;     /* it remembers what others changed */
     bool has_tried;    /* it keeps what its file is by a change of its own that is perhaps made */
     bool is_unsettled; /* its last change is perhaps not on the disk */
+    bool is_made;      /* what a look just found is what it kept: that change was made */
 } DconfdbStoreKnown;
 
 /* What happened to it. */
@@ -890,7 +905,8 @@ enum {
     DCONFDB_STORE_SEEN,   /* others changed something: is that remembered, for which memory may be lacking? */
     DCONFDB_STORE_NOTED,  /* it noted what was set: is what was asked for in its file? `number` is the time of the last of that, or 0 */
     DCONFDB_STORE_ENDED,  /* a change did: may it not be on the disk? `number` says which settings are the newest */
-    DCONFDB_STORE_FOLLOWS /* it was opened in the place of `old`: are they of the same user's file? */
+    DCONFDB_STORE_FOLLOWS, /* it was opened in the place of `old`: are they of the same user's file? */
+    DCONFDB_STORE_COMPARED /* a look found another file: is it that of the change that is perhaps made? */
 };
 
 void dconfdb_store_after(DconfdbStoreKnown *known, uint32_t what, bool yes, uint64_t number, const DconfdbStoreKnown *old);

@@ -206,7 +206,7 @@ static void finds_served(void)
 
 /* What is known of a fault is read alone: the numbers, and the fields of which these are so. */
 enum { MET_OF = 0, MET_NUMBER = 4, MET_TOLD = 8, MET_OUTCOME = 12, MET_WAIT = 16, MET_LOOKED = 20, MET_FLAGS = 24, MET_IS_THERE = 24, MET_HAS_USER = 25,
-       MET_HAS_TEXT = 26, MET_HAS_LINE = 27, MET_HAS_RULE = 28, MET_HAS_ITEM = 29, MET = 32 };
+       MET_HAS_TEXT = 26, MET_HAS_LINE = 27, MET_HAS_RULE = 28, MET_HAS_ITEM = 29, MET_HAS_EDIT = 30, MET = 32 };
 
 /* The sentence of them: which it is, its code, errno and outcome, and what it names. */
 static bool is_said(const uint32_t numbers[6], unsigned fields, const uint32_t said[5], bool is_placed)
@@ -214,7 +214,7 @@ static bool is_said(const uint32_t numbers[6], unsigned fields, const uint32_t s
     _Alignas(16) uint8_t met[MET] = {0};
     Written sentence = room_of("DconfdbSentence");
     memcpy(met, numbers, MET_FLAGS);
-    for (int i = 0; i < MET_HAS_ITEM + 1 - MET_FLAGS; i++)
+    for (int i = 0; i < MET_HAS_EDIT + 1 - MET_FLAGS; i++)
         met[MET_FLAGS + i] = fields >> i & 1;
     dconfdb_sentence(met, sentence.bytes);
     return memcmp(sentence.bytes, said, 5 * NUMBER) == 0 && sentence.bytes[5 * NUMBER] == is_placed && sentence.bytes[6 * NUMBER] == UNTOUCHED;
@@ -222,9 +222,9 @@ static bool is_said(const uint32_t numbers[6], unsigned fields, const uint32_t s
 
 static void finds_sentence(void)
 {
-    enum { IS_THERE = 1, HAS_USER = 2, HAS_TEXT = 4, HAS_LINE = 8, HAS_RULE = 16, HAS_ITEM = 32 };
+    enum { IS_THERE = 1, HAS_USER = 2, HAS_TEXT = 4, HAS_LINE = 8, HAS_RULE = 16, HAS_ITEM = 32, HAS_EDIT = 64 };
     static const uint32_t no_memory[6] = {0, 12}, busy[6] = {1, 11, 0, 0, 10000}, soon[6] = {1, 11, 0, 0, 7}, fails[6] = {1, 13},
-                          unlooked[6] = {1, 13, 0, 0, 0, 13}, call[6] = {2, 7}, ended[6] = {3, 5, 3, 2};
+                          unlooked[6] = {1, 13, 0, 0, 0, 13}, call[6] = {2, 7}, ended[6] = {3, 5, 3, 2}, edits[6] = {4, 13};
     is_so(is_said(no_memory, 0, (const uint32_t[5]){2, 1, 0, 1, 0}, false) && is_said(busy, HAS_USER, (const uint32_t[5]){6, 65, 0, 1, 0}, true)
               && is_said(soon, 0, (const uint32_t[5]){7, 65, 0, 1, 2}, true),
           "DconfdbFaultMet");
@@ -233,7 +233,9 @@ static void finds_sentence(void)
     is_so(is_said(call, HAS_TEXT, (const uint32_t[5]){13, 7, 0, 1, 0}, true) && is_said(call, HAS_TEXT | HAS_LINE, (const uint32_t[5]){14, 7, 0, 1, 0}, true)
               && is_said(call, HAS_RULE, (const uint32_t[5]){15, 7, 0, 1, 0}, true) && is_said(call, HAS_RULE | HAS_ITEM, (const uint32_t[5]){16, 7, 0, 1, 0}, true),
           "DconfdbFaultMet");
-    is_so(is_said(ended, 0, (const uint32_t[5]){8, 64, 5, 2, 0}, true), "DconfdbSentence");
+    is_so(is_said(ended, HAS_USER, (const uint32_t[5]){8, 64, 5, 2, 0}, true), "DconfdbSentence");
+    is_so(is_said(edits, HAS_USER, (const uint32_t[5]){12, 13, 0, 1, 0}, true) && is_said(edits, HAS_EDIT, (const uint32_t[5]){12, 13, 0, 1, 3}, true),
+          "DconfdbFaultMet");
     lies("DconfdbFaultMet", "of", MET_OF, NUMBER);
     lies("DconfdbFaultMet", "number", MET_NUMBER, NUMBER);
     lies("DconfdbFaultMet", "told", MET_TOLD, NUMBER);
@@ -246,6 +248,7 @@ static void finds_sentence(void)
     lies("DconfdbFaultMet", "has_line", MET_HAS_LINE, FLAG);
     lies("DconfdbFaultMet", "has_rule", MET_HAS_RULE, FLAG);
     lies("DconfdbFaultMet", "has_item", MET_HAS_ITEM, FLAG);
+    lies("DconfdbFaultMet", "has_edit", MET_HAS_EDIT, FLAG);
     printf("TAKES(DconfdbFaultMet, %d);\n", MET);
     lies("DconfdbSentence", "says", 0, NUMBER);
     lies("DconfdbSentence", "code", NUMBER, NUMBER);

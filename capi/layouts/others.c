@@ -168,7 +168,7 @@ static void finds_ending(void)
 
 /* ---- what a store knows: each field is as what happened leaves it */
 
-enum { NOTED = 0, HAS_NEWS = 8, HAS_SEEN = 9, HAS_TRIED = 10, IS_UNSETTLED = 11, STORE_KNOWN = 16 };
+enum { NOTED = 0, HAS_NEWS = 8, HAS_SEEN = 9, HAS_TRIED = 10, IS_UNSETTLED = 11, IS_MADE = 12, STORE_KNOWN = 16 };
 
 static bool knows(uint8_t *known, uint32_t what, uint64_t number, size_t field)
 {
@@ -179,14 +179,15 @@ static bool knows(uint8_t *known, uint32_t what, uint64_t number, size_t field)
 
 static void tries_known(void)
 {
-    _Alignas(16) uint8_t known[STORE_KNOWN] = {0}, wanted[STORE_KNOWN] = {[NOTED] = 7, [HAS_NEWS] = 1, [HAS_TRIED] = 1, [IS_UNSETTLED] = 1};
+    _Alignas(16) uint8_t known[STORE_KNOWN] = {0}, wanted[STORE_KNOWN] = {[NOTED] = 7, [HAS_NEWS] = 1, [HAS_TRIED] = 1, [IS_UNSETTLED] = 1, [IS_MADE] = 1};
     bool are = knows(known, 0, 0, HAS_NEWS) && knows(known, 2, 0, HAS_SEEN) && knows(known, 3, 7, NOTED) && knows(known, 4, 2, HAS_TRIED);
-    is_so(are && memcmp(known, wanted, IS_UNSETTLED + 1) == 0, "DconfdbStoreKnown");
+    is_so(are && knows(known, 6, 0, IS_MADE) && memcmp(known, wanted, IS_MADE + 1) == 0, "DconfdbStoreKnown");
     lies("DconfdbStoreKnown", "noted", NOTED, WORD);
     lies("DconfdbStoreKnown", "has_news", HAS_NEWS, FLAG);
     lies("DconfdbStoreKnown", "has_seen", HAS_SEEN, FLAG);
     lies("DconfdbStoreKnown", "has_tried", HAS_TRIED, FLAG);
     lies("DconfdbStoreKnown", "is_unsettled", IS_UNSETTLED, FLAG);
+    lies("DconfdbStoreKnown", "is_made", IS_MADE, FLAG);
     printf("TAKES(DconfdbStoreKnown, %d);\n", STORE_KNOWN);
 }
 

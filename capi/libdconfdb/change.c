@@ -15,7 +15,7 @@ bool refuse_lock(const DconfdbStore *store, int fault, DconfdbError *error)
     char *lock = joined(store->place.folder, "/", LOCK_NAME);
     if (!lock)
         return refuse_memory(error);
-    const char *const names[] = {
+    const char *const names[DCONFDB_NAMES] = {
         [DCONFDB_NAMES_IT] = store->user_file, [DCONFDB_NAMES_LOCK] = lock, [DCONFDB_NAMES_FOLDER] = store->place.folder};
     const uint32_t looked = (uint32_t)file_look(lock, &found);
     const DconfdbFaultMet met = {.of = DCONFDB_FAULT_OF_LOCK,
@@ -24,7 +24,7 @@ bool refuse_lock(const DconfdbStore *store, int fault, DconfdbError *error)
                                  .looked = looked,
                                  .is_there = found.is_there,
                                  .has_user = store->user_file != NULL};
-    refuse_locking(error, &met, names);
+    tell_met(error, &met, names, nowhere);
     free(lock);
     return false;
 }

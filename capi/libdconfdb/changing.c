@@ -206,7 +206,7 @@ static bool end(Changing *it)
     dconfdb_ending((uint32_t)it->step.number, it->step.fault, store->known.is_unsettled, it->replacing.is_aside, &ending);
     renew(it, &ending);
     store_after(store, DCONFDB_STORE_ENDED, ending.is_unsettled, ending.newest);
-    return tell_ending(it->error, &ending, (int)it->step.fault, store->user_file);
+    return tell_ending(it->error, &ending, (int)it->step.fault, store->user_file, store->place.folder);
 }
 
 /* With memory for all that the proved calls make of a file of a few keys. */

@@ -34,6 +34,17 @@ static DconfdbBytes old_bytes(const DconfdbSnapshot *now)
     return old ? (DconfdbBytes){bytes_of(old->at), old->len} : (DconfdbBytes)DCONFDB_NOTHING;
 }
 
+/* Says why there is no file: it is that change, of an edit, which is at fault, or none (NULL). It returns false. */
+static bool refuse_edits(const DconfdbStore *store, uint32_t number, const DconfdbChange *change, size_t edit, DconfdbError *error)
+{
+    const char *const names[DCONFDB_NAMES] = {[DCONFDB_NAMES_IT] = store->user_file,
+                                              [DCONFDB_NAMES_FOLDER] = store->place.folder,
+                                              [DCONFDB_NAMES_EDIT] = change ? (const char *)change->path.at : NULL};
+    const DconfdbFaultMet met = {
+        .of = DCONFDB_FAULT_OF_EDITS, .number = number, .has_user = store->user_file != NULL, .has_edit = change != NULL};
+    return tell_met(error, &met, names, (Place){.edit = edit});
+}
+
 bool edits_make_file(const DconfdbStore *store, const DconfdbChange *changes, const size_t *edits, size_t count, MadeFile *made,
                      DconfdbError *error)
 {
@@ -54,9 +65,7 @@ bool edits_make_file(const DconfdbStore *store, const DconfdbChange *changes, co
             return true;
         file_release(file);
     } while (number == DCONFDB_OK);
-    if (at < count)
-        return refuse_call(error, number, (const char *)changes[at].path.at, (Place){.edit = edits[at]});
-    return refuse_call(error, number, user_file_or_folder(store), nowhere);
+    return refuse_edits(store, number, at < count ? &changes[at] : NULL, at < count ? edits[at] : 0, error);
 }
 
 bool edit_is_made(const DconfdbSnapshot *now, bool may_be, const DconfdbChange *change)

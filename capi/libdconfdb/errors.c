@@ -1,6 +1,7 @@
 /* Errors: their fields, texts and names; and the library's version. */
 #define _GNU_SOURCE
 #include "errors.h"
+#include "causes.h"
 #include "errnos.h"
 
 #include <stdarg.h>
@@ -72,10 +73,11 @@ static Words words_of(int fault)
 
 /* What stands in it beside what it says by itself. */
 typedef struct {
-    const char *name;
+    const char *const *names; /* one of which is said */
     DconfdbBytes text;
     const DconfdbUnsound *broken;
     Place place;
+    size_t start, end; /* in a text that is read */
 } Named;
 
 static const char *const phrases[] = {
@@ -87,16 +89,41 @@ static const char *const phrases[] = {
     [DCONFDB_SAYS_UNSETTLED] = "it is replaced, but perhaps not on the disk yet",
     [DCONFDB_SAYS_UNSYNCED] = "it is as it was to be, but perhaps not on the disk yet",
     [DCONFDB_SAYS_DOUBLE] = "it holds a double, which is not printed",
+    [DCONFDB_SAYS_NO_FOLDER] = "the environment names no folder of a store, and the system no home",
+    [DCONFDB_SAYS_NO_KIND] = "it says neither dconf nor dconfdb",
+    [DCONFDB_SAYS_NOT_UTF8] = "the text is not UTF-8",
+    [DCONFDB_SAYS_TOO_DEEP] = "the text's value is nested too deep or too long",
+    [DCONFDB_SAYS_HAS_DOUBLE] = "the text holds a double, which is not read",
 };
+
+/* What is said of a fault that has a text, or a place. */
+static bool say_of(DconfdbError *error, uint32_t number, const DconfdbSentence *it, const Named *of)
+{
+    static const char no_value[] = "the text is not one of a value";
+    DconfdbErrorCode code = (DconfdbErrorCode)it->code;
+    const char *name = of->names[it->names], *text = (const char *)of->text.at;
+    int len = (int)of->text.len;
+    switch (it->says) {
+    case DCONFDB_SAYS_TEXT: return refuse(error, code, 0, of->place, "%s: %.*s", name, len, text);
+    case DCONFDB_SAYS_TEXT_AT: return refuse(error, code, 0, of->place, "%s:%zu: %.*s", name, of->place.line, len, text);
+    case DCONFDB_SAYS_RULE: return refuse(error, code, 0, of->place, "%s: the database breaks the rule S%u", name, (unsigned)of->broken->rule);
+    case DCONFDB_SAYS_RULE_AT:
+        return refuse(error, code, 0, of->place, "%s: the database breaks the rule S%u, at item %u", name, (unsigned)of->broken->rule,
+                      (unsigned)of->broken->item);
+    case DCONFDB_SAYS_NO_VALUE: return refuse(error, code, 0, of->place, "%s: %s", no_value, text_cause(number));
+    case DCONFDB_SAYS_NO_VALUE_AT:
+        return refuse(error, code, 0, of->place, "%s: %s at %zu..%zu", no_value, text_cause(number), of->start, of->end);
+    default: return refuse(error, code, 0, of->place, "%s", phrases[it->says]);
+    }
+}
 
 /* Each sentence has a form. */
 static bool say(DconfdbError *error, const DconfdbFaultMet *met, const DconfdbSentence *it, const Named *of)
 {
     DconfdbErrorCode code = (DconfdbErrorCode)it->code;
     Place place = it->is_placed ? of->place : nowhere;
-    int fault = (int)it->errnum, len = (int)of->text.len;
-    const char *name = of->name, *text = (const char *)of->text.at;
-    unsigned number = (unsigned)met->number;
+    int fault = (int)it->errnum;
+    const char *name = of->names[it->names];
     switch (it->says) {
     case DCONFDB_SAYS_NOTHING: return true;
     case DCONFDB_SAYS_ALREADY: return false;
@@ -105,14 +132,14 @@ static bool say(DconfdbError *error, const DconfdbFaultMet *met, const DconfdbSe
     case DCONFDB_SAYS_UNSETTLED:
     case DCONFDB_SAYS_UNSYNCED: refuse(error, code, fault, place, "%s: %s: %s", name, phrases[it->says], words_of(fault).text); break;
     case DCONFDB_SAYS_BUSY: return refuse(error, code, fault, place, "%s: others have been changing it for %u ms", name, (unsigned)met->wait);
-    case DCONFDB_SAYS_NUMBER: return refuse(error, code, fault, place, "%s: fault %u", name, number);
-    case DCONFDB_SAYS_TEXT: return refuse(error, code, fault, place, "%s: %.*s", name, len, text);
-    case DCONFDB_SAYS_TEXT_AT: return refuse(error, code, fault, place, "%s:%zu: %.*s", name, place.line, len, text);
-    case DCONFDB_SAYS_RULE: return refuse(error, code, fault, place, "%s: the database breaks the rule S%u", name, (unsigned)of->broken->rule);
-    case DCONFDB_SAYS_RULE_AT:
-        return refuse(error, code, fault, place, "%s: the database breaks the rule S%u, at item %u", name, (unsigned)of->broken->rule,
-                      (unsigned)of->broken->item);
-    default: return refuse(error, code, fault, place, "%s: %s", name, phrases[it->says]);
+    case DCONFDB_SAYS_NUMBER: return refuse(error, code, fault, place, "%s: fault %u", name, (unsigned)met->number);
+    case DCONFDB_SAYS_NO_MEMORY:
+    case DCONFDB_SAYS_TOO_BIG:
+    case DCONFDB_SAYS_NO_FILE:
+    case DCONFDB_SAYS_TEN_SECONDS:
+    case DCONFDB_SAYS_DOUBLE:
+    case DCONFDB_SAYS_NO_KIND: return refuse(error, code, fault, place, "%s: %s", name, phrases[it->says]);
+    default: return say_of(error, met->number, it, of);
     }
     if (error)
         error->outcome = (DconfdbOutcome)it->outcome;
@@ -126,45 +153,56 @@ static bool tell(DconfdbError *error, const DconfdbFaultMet *met, const Named *o
     return say(error, met, &sentence, of);
 }
 
+/* By a number of a proved call, which may have a text. */
+static bool tell_call(DconfdbError *error, DconfdbFaultMet *met, const char *const names[], const DconfdbUnsound *broken, Place place)
+{
+    Named of = {names, DCONFDB_NOTHING, broken, place, 0, 0};
+    met->has_text = dconfdb_fault_text(met->number, &of.text);
+    met->has_line = place.line != 0;
+    met->has_rule = broken != NULL;
+    met->has_item = broken && broken->has_item;
+    return tell(error, met, &of);
+}
+
+bool tell_met(DconfdbError *error, const DconfdbFaultMet *met, const char *const names[], Place place)
+{
+    DconfdbFaultMet it = *met;
+    return tell_call(error, &it, names, NULL, place);
+}
+
 bool refuse_file(DconfdbError *error, int fault, const char *name, Place place)
 {
     const DconfdbFaultMet met = {.of = DCONFDB_FAULT_OF_FILE, .number = (uint32_t)fault};
-    return tell(error, &met, &(Named){name, DCONFDB_NOTHING, NULL, place});
+    return tell(error, &met, &(Named){&name, DCONFDB_NOTHING, NULL, place, 0, 0});
 }
 
-bool refuse_locking(DconfdbError *error, const DconfdbFaultMet *met, const char *const names[])
+bool tell_ending(DconfdbError *error, const DconfdbEnding *ending, int fault, const char *user_file, const char *folder)
 {
-    DconfdbSentence sentence;
-    dconfdb_sentence(met, &sentence);
-    return say(error, met, &sentence, &(Named){names[sentence.names], DCONFDB_NOTHING, NULL, nowhere});
+    const char *const names[DCONFDB_NAMES] = {[DCONFDB_NAMES_IT] = user_file, [DCONFDB_NAMES_FOLDER] = folder};
+    const DconfdbFaultMet met = {.of = DCONFDB_FAULT_OF_CHANGE,
+                                 .number = (uint32_t)fault,
+                                 .told = ending->told,
+                                 .outcome = ending->outcome,
+                                 .has_user = user_file != NULL};
+    return tell(error, &met, &(Named){names, DCONFDB_NOTHING, NULL, nowhere, 0, 0});
 }
 
-bool tell_ending(DconfdbError *error, const DconfdbEnding *ending, int fault, const char *name)
+bool refuse_text(DconfdbError *error, uint32_t number, size_t start, size_t end)
 {
-    const DconfdbFaultMet met = {.of = DCONFDB_FAULT_OF_CHANGE, .number = (uint32_t)fault, .told = ending->told, .outcome = ending->outcome};
-    return tell(error, &met, &(Named){name, DCONFDB_NOTHING, NULL, nowhere});
-}
-
-static bool tell_call(DconfdbError *error, uint32_t number, const char *name, const DconfdbUnsound *broken, Place place)
-{
-    Named of = {name, DCONFDB_NOTHING, broken, place};
-    const DconfdbFaultMet met = {.of = DCONFDB_FAULT_OF_CALL,
-                                 .number = number,
-                                 .has_text = dconfdb_fault_text(number, &of.text),
-                                 .has_line = place.line != 0,
-                                 .has_rule = broken != NULL,
-                                 .has_item = broken && broken->has_item};
-    return tell(error, &met, &of);
+    static const char *const name = "the text";
+    const DconfdbFaultMet met = {.of = DCONFDB_FAULT_OF_TEXT, .number = number};
+    return tell(error, &met, &(Named){&name, DCONFDB_NOTHING, NULL, nowhere, start, end});
 }
 
 bool refuse_call(DconfdbError *error, uint32_t number, const char *name, Place place)
 {
-    return tell_call(error, number, name, NULL, place);
+    return refuse_database(error, number, name, NULL, place);
 }
 
 bool refuse_database(DconfdbError *error, uint32_t number, const char *name, const DconfdbUnsound *broken, Place place)
 {
-    return tell_call(error, number, name, broken, place);
+    DconfdbFaultMet met = {.of = DCONFDB_FAULT_OF_CALL, .number = number};
+    return tell_call(error, &met, &name, broken, place);
 }
 
 void hand_out(const DconfdbError *from, DconfdbError *to)

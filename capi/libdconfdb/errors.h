@@ -20,12 +20,15 @@ bool refuse_memory(DconfdbError *error);
 /* What a call of files.h answered. */
 bool refuse_file(DconfdbError *error, int fault, const char *name, Place place);
 
-/* What is told of the lock's fault; the names by DCONFDB_NAMES_IT to _FOLDER. */
-bool refuse_locking(DconfdbError *error, const DconfdbFaultMet *met, const char *const names[]);
+/* What is told of a fault by its sentence, which says one of these names, DCONFDB_NAMES_IT to _EDIT. True: there is none. */
+bool tell_met(DconfdbError *error, const DconfdbFaultMet *met, const char *const names[], Place place);
 
 /* What is told of a change that ended so, by its first fault. True: it is made. After its file was replaced, or may be, the code is never one
- * of those that leave the old file. */
-bool tell_ending(DconfdbError *error, const DconfdbEnding *ending, int fault, const char *name);
+ * of those that leave the old file. `user_file` may be NULL. */
+bool tell_ending(DconfdbError *error, const DconfdbEnding *ending, int fault, const char *user_file, const char *folder);
+
+/* Why a text is no value, by dconfdb_parse_value, and where, if that is in one place. */
+bool refuse_text(DconfdbError *error, uint32_t number, size_t start, size_t end);
 
 /* What a proved call answered of a file, a line of it, or a key. */
 bool refuse_call(DconfdbError *error, uint32_t number, const char *name, Place place);

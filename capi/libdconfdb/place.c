@@ -100,20 +100,11 @@ static int find_path(const Asked *asked, uint32_t wanted, uint32_t *what, char *
     return fault;
 }
 
-/* Says why there is no folder. It returns false. */
-static bool refuse_folder(DconfdbError *error, int fault, const char *of)
+/* Says why there is none of what was looked for. It returns false. */
+static bool refuse_place(DconfdbError *error, uint32_t of, int fault, const char *name, Place place)
 {
-    if (fault != 0)
-        return refuse_file(error, fault, of, nowhere);
-    return refuse(error, DCONFDB_ERROR_NO_FOLDER, 0, nowhere, "the environment names no folder of a store, and the system no home");
-}
-
-/* Says why nobody knows which kind of store there is. It returns false. */
-static bool refuse_kind(DconfdbError *error, int fault)
-{
-    if (fault != 0)
-        return refuse_file(error, fault, machine_file, nowhere);
-    return refuse(error, DCONFDB_ERROR_BAD_LINE, 0, (Place){.line = 1}, "%s: it says neither dconf nor dconfdb", machine_file);
+    const DconfdbFaultMet met = {.of = of, .number = (uint32_t)fault};
+    return tell_met(error, &met, &name, place);
 }
 
 static bool find_kind(Asked *asked, StorePlace *place, DconfdbError *error)
@@ -124,7 +115,7 @@ static bool find_kind(Asked *asked, StorePlace *place, DconfdbError *error)
         kind = dconfdb_place_kind(&asked->environment, asked->giver, known);
     }
     place->is_dconfs = kind == DCONFDB_KIND_DCONFS;
-    return kind != DCONFDB_KIND_UNKNOWN || refuse_kind(error, asked->fault);
+    return kind != DCONFDB_KIND_UNKNOWN || refuse_place(error, DCONFDB_FAULT_OF_KIND, asked->fault, machine_file, (Place){.line = asked->fault == 0});
 }
 
 static bool find_folder(const Asked *asked, StorePlace *place, DconfdbError *error)
@@ -132,7 +123,7 @@ static bool find_folder(const Asked *asked, StorePlace *place, DconfdbError *err
     uint32_t what;
     int fault = find_path(asked, DCONFDB_WANT_FOLDER, &what, &place->folder);
     const char *of = what == DCONFDB_ASK_HOME ? "the user's home" : "the folder of $DCONFDB_STORE";
-    return place->folder || refuse_folder(error, fault, place->is_given ? (const char *)asked->folder.at : of);
+    return place->folder || refuse_place(error, DCONFDB_FAULT_OF_FOLDER, fault, place->is_given ? (const char *)asked->folder.at : of, nowhere);
 }
 
 static bool find_profile(const Asked *asked, StorePlace *place, DconfdbError *error)

@@ -198,20 +198,21 @@ uint32_t files_look(const DconfdbStore *store, int turn, DconfdbSnapshot **newer
 
 /* ---- the newest snapshot */
 
-/* Whether the file is that of a change of this store's, of which it couldn't say whether it is made. */
-static bool is_tried(const DconfdbStore *store, const DconfdbSnapshot *newer)
+/* Whether the file is that of a change of this store's that is perhaps made, if there is one (NULL: there is none). */
+static bool is_as_tried(const DconfdbSnapshot *tried, const DconfdbSnapshot *newer)
 {
-    if (!store->tried)
+    if (!tried)
         return false;
-    const Part *tried = store->tried->parts[0], *now = newer->parts[0];
-    const DconfdbPartSeen seen = {.has_bytes = part_has_bytes(tried, &now->bytes)};
-    return dconfdb_beside(DCONFDB_PART_TRY, &tried->state, &now->state, &seen) == DCONFDB_BESIDE_SAME;
+    const Part *was = tried->parts[0], *now = newer->parts[0];
+    const DconfdbPartSeen seen = {.has_bytes = part_has_bytes(was, &now->bytes)};
+    return dconfdb_beside(DCONFDB_PART_TRY, &was->state, &now->state, &seen) == DCONFDB_BESIDE_SAME;
 }
 
 /* `refreshing` is held. What this store itself changed is no news. It stands apart, since most refreshes find nothing newer. */
 static void __attribute__((noinline)) hear(DconfdbStore *store, DconfdbSnapshot *newer)
 {
-    const DconfdbSnapshot *before = is_tried(store, newer) ? store->tried : store->now;
+    store_after(store, DCONFDB_STORE_COMPARED, is_as_tried(store->tried, newer), 0);
+    const DconfdbSnapshot *before = store->known.is_made ? store->tried : store->now;
     store_after(store, DCONFDB_STORE_FOUND, snapshot_is_news(before, newer), 0);
     store_renew(store, newer);
 }

@@ -19,7 +19,7 @@ bool store_settle_name(const DconfdbStore *store, const char *name, DconfdbError
     if (fault == 0)
         return true;
     dconfdb_ending(DCONFDB_TURN_UNSYNCED, (uint32_t)fault, store->known.is_unsettled, false, &ending);
-    return tell_ending(error, &ending, fault, user_file_or_folder(store));
+    return tell_ending(error, &ending, fault, store->user_file, store->place.folder);
 }
 
 /* Whether who left the file noted that it is on the disk. Nobody waits for the lock: notes that others write meanwhile are not whole. */

@@ -31,12 +31,6 @@ struct DconfdbStore {
     char *files[MOST_DATABASES];
 };
 
-/* What a fault of a change is said of, if it is of no edit. */
-static inline const char *user_file_or_folder(const DconfdbStore *store)
-{
-    return store->user_file ? store->user_file : store->place.folder;
-}
-
 /* ---- which files it has (profile.c) */
 
 bool store_find_files(DconfdbStore *store, DconfdbError *error);

@@ -2,7 +2,6 @@
 #define _DEFAULT_SOURCE
 #define _POSIX_C_SOURCE 200809L
 #define _FILE_OFFSET_BITS 64
-#include "causes.h"
 #include "dconfdb.h"
 #include "dconfdb_calls.h"
 #include "errors.h"
@@ -119,21 +118,6 @@ bool dconfdb_value_lookup(const DconfdbValue *value, const char *key, DconfdbVal
 }
 
 /* ---- the value of a text */
-
-/* Why a text has no value, and where, if it is in one place. */
-static bool refuse_text(DconfdbError *error, uint32_t number, size_t start, size_t end)
-{
-    switch (number) {
-    case DCONFDB_MEMORY: return refuse_memory(error);
-    case DCONFDB_NOT_TEXT: return refuse(error, DCONFDB_ERROR_NOT_TEXT, 0, nowhere, "the text is not UTF-8");
-    case DCONFDB_TOO_LARGE: return refuse(error, DCONFDB_ERROR_VALUE_TOO_LARGE, 0, nowhere, "the text's value is nested too deep or too long");
-    case DCONFDB_DOUBLE_TEXT: return refuse(error, DCONFDB_ERROR_DOUBLE_TEXT, 0, nowhere, "the text holds a double, which is not read");
-    default: break;
-    }
-    if (!has_place(number))
-        return refuse(error, DCONFDB_ERROR_BAD_TEXT, 0, nowhere, "the text is not one of a value: %s", text_cause(number));
-    return refuse(error, DCONFDB_ERROR_BAD_TEXT, 0, nowhere, "the text is not one of a value: %s at %zu..%zu", text_cause(number), start, end);
-}
 
 /* Calls with a room that mostly is enough, and else with one that is. */
 bool dconfdb_value_parse(const char *text, DconfdbValue *value, DconfdbError *error)

@@ -9,13 +9,17 @@
 
 static void find_no_value(Place at, const char *path, uint32_t number, size_t start, size_t end)
 {
+    const DconfdbFaultMet met = {.of = DCONFDB_FAULT_OF_TEXT, .number = number};
+    DconfdbSentence sentence;
     DconfdbBytes said = DCONFDB_NOTHING;
-    if (dconfdb_fault_text(number, &said))
+    dconfdb_sentence(&met, &sentence);
+    switch (sentence.says) {
+    case DCONFDB_SAYS_NO_VALUE: find(at, "%s: the text is no value: %s", path, text_cause(number)); break;
+    case DCONFDB_SAYS_NO_VALUE_AT: find(at, "%s: the text is no value: %s at %zu..%zu", path, text_cause(number), start, end); break;
+    default:
+        dconfdb_fault_text(number, &said);
         find(at, "%s: the text is no value: %.*s", path, (int)said.len, (const char *)said.at);
-    else if (has_place(number))
-        find(at, "%s: the text is no value: %s at %zu..%zu", path, text_cause(number), start, end);
-    else
-        find(at, "%s: the text is no value: %s", path, text_cause(number));
+    }
 }
 
 /* By GLib, of a text with a double, which ours refuses. */

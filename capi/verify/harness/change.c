@@ -94,9 +94,9 @@ int file_look(const char *name, FileState *state)
 }
 
 /* Each name that may be said is there: that of the user's file, if there is one. */
-bool refuse_locking(DconfdbError *error, const DconfdbFaultMet *met, const char *const names[])
+bool tell_met(DconfdbError *error, const DconfdbFaultMet *met, const char *const names[], Place place)
 {
-    (void)error;
+    (void)error, (void)place;
     CHECK(met->of == DCONFDB_FAULT_OF_LOCK && met->number > 0 && met->wait == (uint32_t)store.options.longest_wait, "answer: a fault of the lock");
     CHECK(met->looked == (uint32_t)look_fault && met->is_there == is_found, "answer: whether its file is there");
     CHECK(met->has_user == (store.user_file != NULL) && names[DCONFDB_NAMES_IT] == store.user_file, "answer: whether a database is the user's");

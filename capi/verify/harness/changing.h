@@ -53,10 +53,10 @@ bool refuse_file(DconfdbError *error, int fault, const char *name, Place place)
     return false;
 }
 
-bool tell_ending(DconfdbError *error, const DconfdbEnding *ending, int fault, const char *name)
+bool tell_ending(DconfdbError *error, const DconfdbEnding *ending, int fault, const char *user_file, const char *folder)
 {
     (void)fault;
-    CHECK(name == store.user_file, "answer: what is told is of the user's file");
+    CHECK(user_file == store.user_file && folder == store.place.folder, "answer: what is told is of the user's file");
     bool done = ending->told == DCONFDB_TOLD_NOTHING;
     refused += !done;
     if (!done && error)

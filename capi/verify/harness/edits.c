@@ -50,10 +50,12 @@ uint32_t dconfdb_change(const DconfdbLayer *layers, size_t n, bool writable, con
 
 static Place told;
 
-bool refuse_call(DconfdbError *error, uint32_t number, const char *name, Place place)
+bool tell_met(DconfdbError *error, const DconfdbFaultMet *met, const char *const names[], Place place)
 {
     (void)error;
-    CHECK(number == answered && number != DCONFDB_OK && __CPROVER_r_ok(name, 1), "answer: the fault of the call");
+    CHECK(met->of == DCONFDB_FAULT_OF_EDITS && met->number == answered && answered != DCONFDB_OK, "answer: the fault of the call");
+    CHECK(names[DCONFDB_NAMES_IT] == store.user_file && met->has_user && names[DCONFDB_NAMES_FOLDER] == store.place.folder, "answer: the names of the store");
+    CHECK(!met->has_edit || __CPROVER_r_ok(names[DCONFDB_NAMES_EDIT], 1), "answer: the path of an edit");
     told = place;
     refused++;
     return false;

@@ -312,7 +312,12 @@ bool snapshot_is_news(const DconfdbSnapshot *before, const DconfdbSnapshot *afte
 void store_after(DconfdbStore *at, uint32_t what, bool yes, uint64_t number)
 {
     (void)number;
-    CHECK(at == &store && (what == DCONFDB_STORE_FOUND || what == DCONFDB_STORE_TOLD) && is_held(&store.refreshing), "step: what is found is known");
+    CHECK(at == &store && is_held(&store.refreshing), "step: what is found is known");
+    if (what == DCONFDB_STORE_COMPARED) {
+        CHECK(!yes && !store.known.is_made, "answer: nothing was tried");
+        return;
+    }
+    CHECK(what == DCONFDB_STORE_FOUND || what == DCONFDB_STORE_TOLD, "step: what is found is known");
     store.known.has_news = what == DCONFDB_STORE_FOUND && (store.known.has_news || yes);
 }
 

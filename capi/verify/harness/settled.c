@@ -53,10 +53,10 @@ bool part_is_readable(const Part *part)
     return is_readable;
 }
 
-bool tell_ending(DconfdbError *error, const DconfdbEnding *ending, int fault, const char *name)
+bool tell_ending(DconfdbError *error, const DconfdbEnding *ending, int fault, const char *user_file, const char *folder)
 {
     (void)error;
-    CHECK(fault > 0 && name, "answer: a fault, of a file or a folder");
+    CHECK(fault > 0 && user_file == store.user_file && folder == store.place.folder, "answer: a fault, of a file or a folder");
     CHECK(ending->told == DCONFDB_TOLD_UNSYNCED && ending->outcome == (uint32_t)DCONFDB_OUTCOME_UNSETTLED, "answer: it is as it was, and perhaps not on the disk");
     refused++;
     return false;

@@ -39,6 +39,10 @@ told_number told.Unsettled = 4
 told_number told.Unsynced = 5
 told_number told.Already = 6
 
+abbrev pub told_by : ℕ → Told
+told_by n = if n == 0 then told.Nothing else if n == 1 then told.First else if n == 2 then told.BadWrite else if n == 3 then told.Either else
+    if n == 4 then told.Unsettled else if n == 5 then told.Unsynced else told.Already
+
 -- what has become of the file, as a program is told: made, kept, either, unsettled
 abbrev pub outcome_number : Outcome → ℕ
 outcome_number Made = 0

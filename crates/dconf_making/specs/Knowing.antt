@@ -1,10 +1,10 @@
 -- What a store knows beside what it shows: what it learns, and what ends that.
-use Rattle.std.specs.Prelude.{ℕ, ◌≡◌, Bool, true, false, ◌||◌, if◌then◌else◌, ◌==◌, max, List, [], ◌∷◌}
+use Rattle.std.specs.Prelude.{ℕ, ◌≡◌, Bool, true, false, ◌&&◌, ◌||◌, if◌then◌else◌, ◌==◌, max, List, [], ◌∷◌}
 use Rattle.dconf_making.specs.declared.ending.Newest.{Newest}
 use Rattle.dconf_making.specs.declared.ending.Newest.TheVariants.{Old, Newer, Tried}
 use Rattle.dconf_making.specs.declared.knowing.StoreKnown.{StoreKnown}
 use Rattle.dconf_making.specs.declared.knowing.Happening.{Happening}
-use Rattle.dconf_making.specs.declared.knowing.Happening.TheVariants.{Found, Told, Seen, Noted, Ended, Follows, Begins}
+use Rattle.dconf_making.specs.declared.knowing.Happening.TheVariants.{Found, Told, Seen, Noted, Ended, Follows, Begins, Compared}
 
 -- What may be made is tried until a later change is made.
 abbrev pub tried_after : Newest → Bool → Bool
@@ -20,10 +20,12 @@ follows k old = record {
   has_seen = k.has_seen || old.has_seen;
   has_tried = k.has_tried || old.has_tried;
   is_unsettled = k.is_unsettled || old.is_unsettled;
+  is_made = false;
 }
 
 abbrev pub after : StoreKnown → Happening → StoreKnown
-after k (Found news) = record k { has_news = k.has_news || news; has_tried = false }
+after k (Compared same) = record k { is_made = k.has_tried && same }
+after k (Found news) = record k { has_news = k.has_news || news; has_tried = false; is_made = false }
 after k Told = record k { has_news = false }
 after k (Seen had) = record k { has_seen = k.has_seen || had }
 after k (Noted time) = record k { noted = if time == 0 then k.noted else time; has_seen = false }
@@ -37,7 +39,7 @@ newest_of n = if n == 0 then Old else if n == 1 then Newer else Tried
 abbrev pub happening_of : ℕ → Bool → ℕ → StoreKnown → Happening
 happening_of what is number old =
     if what == 0 then Found is else if what == 1 then Told else if what == 2 then Seen is else
-    if what == 3 then Noted (if is then number else 0) else if what == 4 then Ended (newest_of number) is else
+    if what == 3 then Noted (if is then number else 0) else if what == 4 then Ended (newest_of number) is else if what == 6 then Compared is else
     if is then Follows old else Begins
 
 -- ---- the law
@@ -85,3 +87,6 @@ pub record NothingKnownIsLost : Type 0 where
   pub unsettled : (whats : List Happening) (k : StoreKnown) → Never settles whats → k.is_unsettled ≡ true → (after_all k whats).is_unsettled ≡ true
   -- and another one's, by whoever takes its place
   pub followed : (k old : StoreKnown) → old.has_news ≡ true → (after k (Follows old)).has_news ≡ true
+  -- what a look finds is its own change exactly if one is perhaps made, and that is the file
+  pub made : (k : StoreKnown) (same : Bool) → k.has_tried ≡ true → (after k (Compared same)).is_made ≡ same
+  pub others : (k : StoreKnown) (same : Bool) → k.has_tried ≡ false → (after k (Compared same)).is_made ≡ false

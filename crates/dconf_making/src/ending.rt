@@ -1,7 +1,7 @@
 //! What a program has of a change that is over.
 ghost use Rattle.std.specs.Prelude.{◌≡◌};
 ghost use Rattle.dconf_turn.specs.Records.{outcome_of};
-ghost use Rattle.dconf_making.specs.Endings.{IsEndingTold, ending_of, newest_number, outcome_number, told_number, told_of_kept};
+ghost use Rattle.dconf_making.specs.Endings.{IsEndingTold, ending_of, newest_number, outcome_number, told_by, told_number, told_of_kept};
 
 use dconf_turn::Outcome;
 
@@ -176,6 +176,21 @@ fn told_number(told: Told) -> u32
         Told::Unsettled => 4,
         Told::Unsynced => 5,
         Told::Already => 6,
+    }
+}
+
+/// What is told, of its number.
+pub(crate) fn told_by(number: u32) -> Told
+    ensures { result ≡ told_by number }
+{
+    match number {
+        0 => Told::Nothing,
+        1 => Told::First,
+        2 => Told::BadWrite,
+        3 => Told::Either,
+        4 => Told::Unsettled,
+        5 => Told::Unsynced,
+        _ => Told::Already,
     }
 }
 

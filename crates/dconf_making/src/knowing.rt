@@ -18,6 +18,8 @@ pub struct StoreKnown {
     pub has_tried: bool,
     /// Its last change is perhaps not on the disk.
     pub is_unsettled: bool,
+    /// What a look just found is what it kept: that change was made.
+    pub is_made: bool,
 }
 
 /// What happened to it.
@@ -37,6 +39,8 @@ pub enum Happening {
     Follows(StoreKnown),
     /// .. of another one.
     Begins,
+    /// A look found another file. It is that of the change that is perhaps made, or not.
+    Compared(bool),
 }
 
 impl StoreKnown {
@@ -48,6 +52,7 @@ impl StoreKnown {
             Happening::Found(is_news) => StoreKnown {
                 has_news: self.has_news || is_news,
                 has_tried: false,
+                is_made: false,
                 ..self
             },
             Happening::Told => StoreKnown {
@@ -70,6 +75,10 @@ impl StoreKnown {
             },
             Happening::Follows(old) => self.follows(old),
             Happening::Begins => self,
+            Happening::Compared(is_same) => StoreKnown {
+                is_made: self.has_tried && is_same,
+                ..self
+            },
         }
     }
 
@@ -83,12 +92,14 @@ impl StoreKnown {
             has_seen: self.has_seen || old.has_seen,
             has_tried: self.has_tried || old.has_tried,
             is_unsettled: self.is_unsettled || old.is_unsettled,
+            is_made: false,
         }
     }
 
-    /// The same in numbers: what happened is 0 found, 1 told, 2 seen, 3 noted, 4 ended, else opened in the place of the old one. `yes` is whether
-    /// there is news, what was seen is remembered, what was asked for is in the file, it may not be on the disk, or both have the same file;
-    /// `number` the time of a note, 0 if nothing was set, or, of an end, which settings are the newest.
+    /// The same in numbers: what happened is 0 found, 1 told, 2 seen, 3 noted, 4 ended, 6 compared, else opened in the place of the old one. `yes`
+    /// is whether there is news, what was seen is remembered, what was asked for is in the file, it may not be on the disk, the file is that of the
+    /// change that is perhaps made, or both have the same file; `number` the time of a note, 0 if nothing was set, or, of an end, which settings are
+    /// the newest.
     pub fn after_number(self, what: u32, yes: bool, number: u64, old: &StoreKnown) -> StoreKnown
         ensures { result ≡ after self (happening_of what yes number old.now) }
     {
@@ -127,6 +138,7 @@ fn happening_of(what: u32, yes: bool, number: u64, old: &StoreKnown) -> Happenin
         3 if yes => Happening::Noted(number),
         3 => Happening::Noted(0),
         4 => Happening::Ended(newest_of(number), yes),
+        6 => Happening::Compared(yes),
         _ if yes => Happening::Follows(*old),
         _ => Happening::Begins,
     }

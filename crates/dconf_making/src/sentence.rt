@@ -1,7 +1,8 @@
 //! What a program is told of a fault: which sentence, with which code and errno, and which file that names.
 ghost use Rattle.std.specs.Prelude.{◌≡◌};
-ghost use Rattle.dconf_making.specs.Sentences.{called, code_of, ended, errno_of, is_placed, locked, named_of, outcome_of, said_of_file, says_number, says_of, sentence_of};
+ghost use Rattle.dconf_making.specs.Sentences.{called, code_for, ended, ended_code, ended_errno, errno_of, fault_of, is_placed, locked, locks_name, named_for, outcome_of, parsed, parsed_code, said_for, said_of_file, says_number, says_of, sentence_of, sought, sought_code, system_errno, users_name};
 
+use crate::ending::{Told as EndingTold, told_by};
 use dconf_verdicts::{Told, told_code, told_of};
 
 /// EIO: what is told of a write that wrote nothing, or more than there was.
@@ -17,9 +18,10 @@ const USUAL_WAIT: u32 = 10000;
 #[repr(C)]
 #[derive(Clone, Copy)]
 pub struct FaultMet {
-    /// Of what it is: 0 a file, 1 the lock by which programs take turns, 2 a proved call, else a change that ended.
+    /// Of what it is: 0 a file, 1 the lock by which programs take turns, 2 a proved call, 4 the one that makes a file of edits, 5 the look for a
+    /// store's folder, 6 for its kind, 7 the reading of a value's text, else a change that ended.
     pub of: u32,
-    /// The errno; of a call, the number of its fault.
+    /// The errno; of a call and of a text, the number of its fault; 0 of a look that failed by no errno.
     pub number: u32,
     /// Of a change, what is told, as [`DconfdbEnding`](crate::DconfdbEnding) has it, and what has become of its file.
     pub told: u32,
@@ -36,6 +38,21 @@ pub struct FaultMet {
     pub has_line: bool,
     pub has_rule: bool,
     pub has_item: bool,
+    /// Of edits: one of them is at fault.
+    pub has_edit: bool,
+}
+
+/// Of what it is.
+#[derive(Clone, Copy)]
+pub enum FaultOf {
+    File,
+    Lock,
+    Call,
+    Change,
+    Edits,
+    Folder,
+    Kind,
+    Parsing,
 }
 
 /// The sentence.
@@ -68,6 +85,16 @@ pub enum Says {
     /// Which rule is broken; and by which item.
     Rule,
     RuleAt,
+    /// That nothing names a store's folder; that the machine's file names no kind of store.
+    NoFolder,
+    NoKind,
+    /// Of a text that is read as a value: it isn't UTF-8; its value is nested too deep, or too long; it holds a double; it is none, for a cause that
+    /// is in one place of it or not.
+    NotUtf8,
+    TooDeep,
+    HoldsDouble,
+    NoValue,
+    NoValueAt,
 }
 
 /// What a program is told. The numbers of the sentences are those of [`says_number`]; the code is the library's header's, and so is the outcome.
@@ -79,7 +106,8 @@ pub struct Sentence {
     /// 0, if no call of the system failed.
     pub errno: u32,
     pub outcome: u32,
-    /// The name that stands in front: 0 that which is handed in, 1 that of the lock's file, 2 that of the store's folder.
+    /// The name that stands in front: 0 that which is handed in, or the user's file, 1 that of the lock's file, 2 that of the store's folder, 3 an
+    /// edit's path.
     pub names: u32,
     /// It is told which edit, database or line is at fault.
     pub is_placed: bool,
@@ -90,12 +118,13 @@ pub fn sentence_of(met: &FaultMet) -> Sentence
     ensures { result ≡ sentence_of met.now }
 {
     let says = says_of(met);
+    let of = fault_of(met.of);
     Sentence {
         says: says_number(says),
-        code: code_of(met),
+        code: code_for(of, met),
         errno: errno_of(says, met),
         outcome: outcome_of(says, met),
-        names: named_of(says, met),
+        names: named_for(of, says, met),
         is_placed: is_placed(says),
     }
 }
@@ -104,11 +133,36 @@ pub fn sentence_of(met: &FaultMet) -> Sentence
 pub fn says_of(met: &FaultMet) -> Says
     ensures { result ≡ says_of met.now }
 {
-    match met.of {
-        0 => said_of_file(met.number),
-        1 => locked(met),
-        2 => called(met),
-        _ => ended(met),
+    said_for(fault_of(met.of), met)
+}
+
+fn fault_of(number: u32) -> FaultOf
+    ensures { result ≡ fault_of number }
+{
+    match number {
+        0 => FaultOf::File,
+        1 => FaultOf::Lock,
+        2 => FaultOf::Call,
+        4 => FaultOf::Edits,
+        5 => FaultOf::Folder,
+        6 => FaultOf::Kind,
+        7 => FaultOf::Parsing,
+        _ => FaultOf::Change,
+    }
+}
+
+fn said_for(of: FaultOf, met: &FaultMet) -> Says
+    ensures { result ≡ said_for of met.now }
+{
+    match of {
+        FaultOf::File => said_of_file(met.number),
+        FaultOf::Lock => locked(met),
+        FaultOf::Call => called(met),
+        FaultOf::Edits => called(met),
+        FaultOf::Change => ended(told_by(met.told), met),
+        FaultOf::Folder => sought(Says::NoFolder, met.number),
+        FaultOf::Kind => sought(Says::NoKind, met.number),
+        FaultOf::Parsing => parsed(met.number),
     }
 }
 
@@ -152,29 +206,83 @@ fn called(met: &FaultMet) -> Says
     }
 }
 
-fn ended(met: &FaultMet) -> Says
-    ensures { result ≡ ended met.now }
+fn ended(told: EndingTold, met: &FaultMet) -> Says
+    ensures { result ≡ ended told met.now }
 {
-    match met.told {
-        0 => Says::Nothing,
-        1 => said_of_file(met.number),
-        2 => Says::System,
-        3 => Says::Either,
-        4 => Says::Unsettled,
-        5 => Says::Unsynced,
-        _ => Says::Already,
+    match told {
+        EndingTold::Nothing => Says::Nothing,
+        EndingTold::First => said_of_file(met.number),
+        EndingTold::BadWrite => Says::System,
+        EndingTold::Either => Says::Either,
+        EndingTold::Unsettled => Says::Unsettled,
+        EndingTold::Unsynced => Says::Unsynced,
+        EndingTold::Already => Says::Already,
     }
 }
 
-fn code_of(met: &FaultMet) -> u32
-    ensures { result ≡ code_of met.now }
+/// No call failed, and there is none of what was looked for; or one did.
+fn sought(says: Says, errno: u32) -> Says
+    ensures { result ≡ sought says errno }
 {
-    match met.of {
-        0 => told_code(false, met.number),
-        1 => told_code(true, met.number),
-        2 => met.number,
-        _ if met.told == 1 => told_code(false, met.number),
+    if errno == 0 {
+        return says;
+    }
+    said_of_file(errno)
+}
+
+fn parsed(number: u32) -> Says
+    ensures { result ≡ parsed number }
+{
+    match number {
+        1 => Says::NoMemory,
+        8 => Says::NotUtf8,
+        17 => Says::TooDeep,
+        19 => Says::HoldsDouble,
+        32..=35 => Says::NoValueAt,
+        _ => Says::NoValue,
+    }
+}
+
+fn code_for(of: FaultOf, met: &FaultMet) -> u32
+    ensures { result ≡ code_for of met.now }
+{
+    match of {
+        FaultOf::File => told_code(false, met.number),
+        FaultOf::Lock => told_code(true, met.number),
+        FaultOf::Call => met.number,
+        FaultOf::Edits => met.number,
+        FaultOf::Change => ended_code(told_by(met.told), met.number),
+        FaultOf::Folder => sought_code(66, met.number),
+        FaultOf::Kind => sought_code(9, met.number),
+        FaultOf::Parsing => parsed_code(parsed(met.number), met.number),
+    }
+}
+
+fn ended_code(told: EndingTold, errno: u32) -> u32
+    ensures { result ≡ ended_code told errno }
+{
+    match told {
+        EndingTold::First => told_code(false, errno),
         _ => 64,
+    }
+}
+
+fn sought_code(code: u32, errno: u32) -> u32
+    ensures { result ≡ sought_code code errno }
+{
+    if errno == 0 {
+        return code;
+    }
+    told_code(false, errno)
+}
+
+/// A text that is no value has one code, whatever it is that is wrong with it.
+fn parsed_code(says: Says, number: u32) -> u32
+    ensures { result ≡ parsed_code says number }
+{
+    match says {
+        Says::NoValue | Says::NoValueAt => 21,
+        _ => number,
     }
 }
 
@@ -182,9 +290,27 @@ fn errno_of(says: Says, met: &FaultMet) -> u32
     ensures { result ≡ errno_of says met.now }
 {
     match says {
-        Says::System if met.of > 2 && met.told == 2 => EIO,
-        Says::System | Says::NoFile | Says::Either | Says::Unsettled | Says::Unsynced => met.number,
+        Says::System => system_errno(fault_of(met.of), met),
+        Says::NoFile | Says::Either | Says::Unsettled | Says::Unsynced => met.number,
         _ => 0,
+    }
+}
+
+fn system_errno(of: FaultOf, met: &FaultMet) -> u32
+    ensures { result ≡ system_errno of met.now }
+{
+    match of {
+        FaultOf::Change => ended_errno(told_by(met.told), met.number),
+        _ => met.number,
+    }
+}
+
+fn ended_errno(told: EndingTold, errno: u32) -> u32
+    ensures { result ≡ ended_errno told errno }
+{
+    match told {
+        EndingTold::BadWrite => EIO,
+        _ => errno,
     }
 }
 
@@ -197,18 +323,44 @@ fn outcome_of(says: Says, met: &FaultMet) -> u32
     }
 }
 
-/// A lock that could be looked at is named itself; else what it is of.
-fn named_of(says: Says, met: &FaultMet) -> u32
-    ensures { result ≡ named_of says met.now }
+fn named_for(of: FaultOf, says: Says, met: &FaultMet) -> u32
+    ensures { result ≡ named_for of says met.now }
 {
-    let is_busy = matches!(says, Says::TenSeconds | Says::Busy);
-    let is_lock = matches!(says, Says::NoFile) || !is_busy && met.looked == 0 && met.is_there;
-    if met.of != 1 {
-        return 0;
+    match of {
+        FaultOf::Lock => locks_name(says, met),
+        FaultOf::Change => users_name(met),
+        FaultOf::Edits => {
+            if met.has_edit {
+                3
+            } else {
+                users_name(met)
+            }
+        }
+        _ => 0,
     }
-    if is_lock {
-        return 1;
+}
+
+/// A lock that could be looked at is named itself; else what it is of.
+fn locks_name(says: Says, met: &FaultMet) -> u32
+    ensures { result ≡ locks_name says met.now }
+{
+    let is_there = met.looked == 0 && met.is_there;
+    match says {
+        Says::NoFile => 1,
+        Says::TenSeconds | Says::Busy => users_name(met),
+        _ => {
+            if is_there {
+                1
+            } else {
+                users_name(met)
+            }
+        }
     }
+}
+
+fn users_name(met: &FaultMet) -> u32
+    ensures { result ≡ users_name met.now }
+{
     if met.has_user { 0 } else { 2 }
 }
 
@@ -241,5 +393,12 @@ pub fn says_number(says: Says) -> u32
         Says::TextAt => 14,
         Says::Rule => 15,
         Says::RuleAt => 16,
+        Says::NoFolder => 17,
+        Says::NoKind => 18,
+        Says::NotUtf8 => 19,
+        Says::TooDeep => 20,
+        Says::HoldsDouble => 21,
+        Says::NoValue => 22,
+        Says::NoValueAt => 23,
     }
 }

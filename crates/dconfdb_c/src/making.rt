@@ -100,8 +100,8 @@ pub extern "C" fn dconfdb_settling_after(done: u32, is_so: bool, known: &Settlin
 
 /// What a store knows beside what it shows, after that: 0 a look found other files, which is news (`yes`) or not; 1 it told its news; 2 others changed
 /// something, which it remembers from now on (`yes`) or has no memory for; 3 it noted what was set, and (`yes`) what was asked for is in its file, the last of it at the time `number`, or 0; 4 a change
-/// ended, after which these settings are the newest (`number`), and which may not be on the disk (`yes`); else it was opened in the place of `old`, of
-/// the same user's file (`yes`) or of another one.
+/// ended, after which these settings are the newest (`number`), and which may not be on the disk (`yes`); 6 a look found another file, which is that of
+/// the change that is perhaps made (`yes`) or not; else it was opened in the place of `old`, of the same user's file (`yes`) or of another one.
 #[unsafe(no_mangle)]
 pub extern "C" fn dconfdb_store_after(
     known: &mut StoreKnown,

@@ -1,7 +1,8 @@
 //! What a program is told of a fault, how a file gets its names, what is asked of a change's notes, and what of a batch is told.
 use dconf_files::{FileOwner, NewOwner, OldFile};
 use dconf_making::{
-    FaultMet, Making, NewLook, Sentence, new_look, renamed_of, says_number, says_of, sentence_of,
+    FaultMet, Making, NewLook, Sentence, StoreKnown, new_look, renamed_of, says_number, says_of,
+    sentence_of,
 };
 use dconf_steps::QueuedEdit;
 use dconf_waiting::BatchRecord;
@@ -20,6 +21,7 @@ const OF_FILE: FaultMet = FaultMet {
     has_line: false,
     has_rule: false,
     has_item: false,
+    has_edit: false,
 };
 
 fn says(met: &FaultMet) -> u32 {
@@ -78,6 +80,73 @@ fn are_said() -> bool {
         && is_named(&FaultMet { told: 2, ..ended }, 64, 5, 0)
         && sentence_of(&ended).outcome == 2
         && !sentence_of(&memory).is_placed
+}
+
+fn is_said_so(of: u32, number: u32, says: u32, code: u32) -> bool {
+    let met = FaultMet {
+        of,
+        number,
+        ..OF_FILE
+    };
+    let sentence = sentence_of(&met);
+    sentence.says == says && sentence.code == code
+}
+
+/// Of a store that is looked for, and of a text that is read.
+fn are_sought() -> bool {
+    is_said_so(5, 0, 17, 66)
+        && is_said_so(5, 13, 4, 64)
+        && is_said_so(6, 0, 18, 9)
+        && is_said_so(6, 75, 3, 18)
+        && is_said_so(7, 8, 19, 8)
+        && is_said_so(7, 17, 20, 17)
+        && is_said_so(7, 19, 21, 19)
+        && is_said_so(7, 35, 23, 21)
+        && is_said_so(7, 36, 22, 21)
+}
+
+fn are_named() -> bool {
+    let edits = FaultMet {
+        of: 4,
+        number: 16,
+        ..OF_FILE
+    };
+    let homeless = FaultMet {
+        has_user: false,
+        ..edits
+    };
+    let one = FaultMet {
+        has_edit: true,
+        ..homeless
+    };
+    let ended = FaultMet {
+        of: 3,
+        told: 5,
+        ..homeless
+    };
+    is_named(&edits, 16, 0, 0)
+        && is_named(&homeless, 16, 0, 2)
+        && is_named(&one, 16, 0, 3)
+        && is_named(&ended, 64, 16, 2)
+}
+
+/// A look finds the file of a change that was perhaps made.
+fn own_changes_are_known() -> bool {
+    let none = StoreKnown {
+        noted: 0,
+        has_news: false,
+        has_seen: false,
+        has_tried: false,
+        is_unsettled: false,
+        is_made: false,
+    };
+    let tried = none.after_number(4, true, 2, &none);
+    let made = tried.after_number(6, true, 0, &none);
+    made.has_tried
+        && made.is_made
+        && !tried.after_number(6, false, 0, &none).is_made
+        && !none.after_number(6, true, 0, &none).is_made
+        && !made.after_number(0, true, 0, &none).is_made
 }
 
 /// By EPERM, ENOENT and EIO: what has the name can have no other one, nothing has it, and nobody knows which file has.
@@ -171,5 +240,6 @@ fn are_told() -> bool {
 #[test]
 fn faults_are_told(rt: HostRuntime) -> Result<(), Fail> {
     assert!(rt; are_said() && are_renamed() && are_looked_at() && are_noted() && are_told());
+    assert!(rt; are_sought() && are_named() && own_changes_are_known());
     Ok(())
 }
