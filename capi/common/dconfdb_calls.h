@@ -1848,12 +1848,14 @@ typedef struct {
     bool has_value;        /* it is set to a value */
     bool is_taken;         /* .. which one of the keys takes */
     bool is_of_type;       /* .. and that is of the first one's type */
+    bool is_system;        /* a database is the system's */
 } DconfdbFinding;
 
 enum {
     DCONFDB_OF_KEY,
     DCONFDB_OF_LOCKED_KEY,
-    DCONFDB_OF_LOCKED_DIRECTORY
+    DCONFDB_OF_LOCKED_DIRECTORY,
+    DCONFDB_OF_DATABASE /* that a profile names: `is_known`, it has its file, or nobody can say */
 };
 
 /* What is found wrong with it. */
@@ -1863,18 +1865,32 @@ enum {
     DCONFDB_FINDING_NO_LOCKED_KEY,
     DCONFDB_FINDING_NO_LOCKED_DIRECTORY,
     DCONFDB_FINDING_OTHER_TYPE,
-    DCONFDB_FINDING_NOT_TAKEN
+    DCONFDB_FINDING_NOT_TAKEN,
+    DCONFDB_FINDING_NO_DATABASE
 };
 
 /* What a schema without a path may have is passed over, but where the directory is a slip away from one of these, where schemas have such a key: a
- * letter is more, less or otherwise, or two have changed places. */
+ * letter is more, less or otherwise, or two have changed places. Of a database it is the name of the profile's file. */
 uint32_t dconfdb_finding(const DconfdbFinding *known, const uint8_t *directory, size_t directory_len, const DconfdbBytes *others, size_t count);
 
-/* What was compared with a name that is missing. Of each such name it begins with `found` 0, and of all that a run looks for `used` goes on. */
+/* Where the name is looked for that is the nearest to one that is missing, one place after the other. */
+enum {
+    DCONFDB_NEAR_BEGINS,
+    DCONFDB_NEAR_DIRECTORIES, /* a directory: among all of them */
+    DCONFDB_NEAR_KEYS,        /* a key: among those of its directory; */
+    DCONFDB_NEAR_HOLDERS,     /* that among those that have a key of its name; */
+    DCONFDB_NEAR_PATHS,       /* the same among all that have keys, */
+    DCONFDB_NEAR_KEYS_THERE,  /* and the key among those of the one that was found */
+    DCONFDB_NEAR_OVER
+};
+
+/* What was compared with a name that is missing. For each such name all begins with 0 but `used`, which goes on in a run, and `is_directory`. */
 typedef struct {
     uint64_t used;  /* how many pairs of letters; a run compares 100,000,000, and finds nothing after that */
     uint64_t found; /* one more than the letters that are otherwise in the nearest one; 0: none is near */
-    bool is_half;   /* half of the letters may be otherwise; else one, and one more for each five, but 64 at most */
+    uint32_t place;
+    bool is_half;      /* half of the letters may be otherwise; else one, and one more for each five, but 64 at most */
+    bool is_directory; /* a directory is missing */
 } DconfdbNearing;
 
 enum {
@@ -1884,8 +1900,9 @@ enum {
 };
 
 /* Whether another name is near, and nearer than those before: so many letters are put in, left out, replaced, or swapped with the next one, and
- * no two of these touch the same. */
-uint32_t dconfdb_is_nearer(DconfdbNearing *nearing, const uint8_t *name, size_t name_len, const uint8_t *other, size_t other_len);
+ * no two of these touch the same. `is_end`: all names of the place were compared, and the next one comes, if there is one (YES), with nothing found
+ * there yet. */
+uint32_t dconfdb_is_nearer(DconfdbNearing *nearing, bool is_end, const uint8_t *name, size_t name_len, const uint8_t *other, size_t other_len);
 
 /* ---- the words of `watch` and of `lint` */
 

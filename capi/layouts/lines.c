@@ -5,7 +5,7 @@
 #include <string.h>
 
 bool dconfdb_line(bool is_of_locks, void *cursor, void *line);
-uint32_t dconfdb_is_nearer(void *nearing, const char *name, size_t name_len, const char *other, size_t other_len);
+uint32_t dconfdb_is_nearer(void *nearing, bool is_end, const char *name, size_t name_len, const char *other, size_t other_len);
 uint32_t dconfdb_option(void *read, bool is_end, const char *word, size_t len, size_t *from);
 uint32_t dconfdb_finding(const void *known, const char *directory, size_t directory_len, const void *others, size_t count);
 
@@ -14,7 +14,7 @@ enum { CURSOR_GROUP = 16, CURSOR_LINE = 32, CURSOR_PLACE = 40, CURSOR = 48, GROU
 
 /* What is known of a key is read alone: what it is, and the fields of which these are so. */
 enum { FINDING_WHAT = 0, FINDING_IS_KNOWN = 4, FINDING_HAS_SCHEMAS = 5, FINDING_MAY_BE_ELSEWHERE = 6, FINDING_HAS_VALUE = 7,
-       FINDING_IS_TAKEN = 8, FINDING_IS_OF_TYPE = 9, FINDING = 12 };
+       FINDING_IS_TAKEN = 8, FINDING_IS_OF_TYPE = 9, FINDING_IS_SYSTEM = 10, FINDING = 12 };
 
 /* Beside one directory, of which `/a/` is a slip away, and `/ab/c/` isn't. */
 static bool is_found_at(const char *directory, uint32_t what, unsigned fields, uint32_t finding)
@@ -22,7 +22,7 @@ static bool is_found_at(const char *directory, uint32_t what, unsigned fields, u
     _Alignas(16) uint8_t known[FINDING] = {0}, other[LENT];
     lends(other, "/b/", 3);
     memcpy(known, &what, NUMBER);
-    for (int i = 0; i < FINDING_IS_OF_TYPE + 1 - FINDING_IS_KNOWN; i++)
+    for (int i = 0; i < FINDING_IS_SYSTEM + 1 - FINDING_IS_KNOWN; i++)
         known[FINDING_IS_KNOWN + i] = fields >> i & 1;
     return dconfdb_finding(known, directory, strlen(directory), other, 1) == finding;
 }
@@ -34,10 +34,11 @@ static bool is_found(uint32_t what, unsigned fields, uint32_t finding)
 
 static void finds_finding(void)
 {
-    enum { KNOWN = 1, SCHEMAS = 2, ELSEWHERE = 4, VALUE = 8, TAKEN = 16, TYPED = 32 };
+    enum { KNOWN = 1, SCHEMAS = 2, ELSEWHERE = 4, VALUE = 8, TAKEN = 16, TYPED = 32, SYSTEM = 64 };
     is_so(is_found(0, 0, 1) && is_found(1, 0, 2) && is_found(2, 0, 3) && is_found(0, KNOWN, 0), "DconfdbFinding");
     is_so(is_found(0, ELSEWHERE, 0) && is_found_at("/a/", 0, ELSEWHERE, 1) && is_found(0, ELSEWHERE | SCHEMAS, 1), "DconfdbFinding");
     is_so(is_found(0, KNOWN | VALUE, 4) && is_found(0, KNOWN | VALUE | TYPED, 5) && is_found(0, KNOWN | VALUE | TAKEN, 0), "DconfdbFinding");
+    is_so(is_found_at("profile", 3, SYSTEM, 6) && is_found_at("profile", 3, 0, 0) && is_found_at("profile", 3, SYSTEM | KNOWN, 0), "DconfdbFinding");
     lies("DconfdbFinding", "what", FINDING_WHAT, NUMBER);
     lies("DconfdbFinding", "is_known", FINDING_IS_KNOWN, FLAG);
     lies("DconfdbFinding", "has_schemas", FINDING_HAS_SCHEMAS, FLAG);
@@ -45,10 +46,11 @@ static void finds_finding(void)
     lies("DconfdbFinding", "has_value", FINDING_HAS_VALUE, FLAG);
     lies("DconfdbFinding", "is_taken", FINDING_IS_TAKEN, FLAG);
     lies("DconfdbFinding", "is_of_type", FINDING_IS_OF_TYPE, FLAG);
+    lies("DconfdbFinding", "is_system", FINDING_IS_SYSTEM, FLAG);
     printf("TAKES(DconfdbFinding, %d);\n", FINDING);
 }
 
-enum { NEARING_USED = 0, NEARING_FOUND = 8, NEARING_IS_HALF = 16, NEARING = 24 };
+enum { NEARING_USED = 0, NEARING_FOUND = 8, NEARING_PLACE = 16, NEARING_IS_HALF = 20, NEARING_IS_DIRECTORY = 21, NEARING = 24 };
 
 /* Of two names of four letters, of which two are otherwise: that is half of them. */
 static void finds_nearing(void)
@@ -56,10 +58,15 @@ static void finds_nearing(void)
     _Alignas(16) uint8_t nearing[NEARING] = {0}, half[NEARING] = {0};
     const uint64_t pairs = 25, found = 3, nothing = 0;
     half[NEARING_IS_HALF] = true;
-    is_so(dconfdb_is_nearer(nearing, "abcd", 4, "abxy", 4) == 0 && dconfdb_is_nearer(half, "abcd", 4, "abxy", 4) == 1, "DconfdbNearing");
+    is_so(dconfdb_is_nearer(nearing, false, "abcd", 4, "abxy", 4) == 0 && dconfdb_is_nearer(half, false, "abcd", 4, "abxy", 4) == 1, "DconfdbNearing");
     is_so(memcmp(nearing + NEARING_USED, &pairs, WORD) == 0 && memcmp(nearing + NEARING_FOUND, &nothing, WORD) == 0, "DconfdbNearing");
     is_so(memcmp(half + NEARING_USED, &pairs, WORD) == 0 && memcmp(half + NEARING_FOUND, &found, WORD) == 0, "DconfdbNearing");
+    nearing[NEARING_IS_DIRECTORY] = true; /* the place after the first is that of directories, and then none is left */
+    is_so(dconfdb_is_nearer(nearing, true, "", 0, "", 0) == 1 && nearing[NEARING_PLACE] == 1, "DconfdbNearing");
+    is_so(dconfdb_is_nearer(nearing, true, "", 0, "", 0) == 0 && nearing[NEARING_PLACE] == 6, "DconfdbNearing");
     lies("DconfdbNearing", "used", NEARING_USED, WORD);
+    lies("DconfdbNearing", "place", NEARING_PLACE, NUMBER);
+    lies("DconfdbNearing", "is_directory", NEARING_IS_DIRECTORY, FLAG);
     lies("DconfdbNearing", "found", NEARING_FOUND, WORD);
     lies("DconfdbNearing", "is_half", NEARING_IS_HALF, FLAG);
     printf("TAKES(DconfdbNearing, %d);\n", NEARING);

@@ -71,14 +71,21 @@ static void check_layer(const Lint *lint, Place at, const DconfdbLayer *layers)
 static void find_fault(Place at, uint32_t number, const DconfdbUnsound *broken)
 {
     DconfdbBytes text = DCONFDB_NOTHING;
-    if (number == DCONFDB_UNSOUND && broken->has_item)
+    DconfdbSentence sentence;
+    const DconfdbFaultMet met = {.of = DCONFDB_FAULT_OF_CALL,
+                                 .number = number,
+                                 .has_text = dconfdb_fault_text(number, &text),
+                                 .has_rule = true,
+                                 .has_item = broken->has_item};
+    dconfdb_sentence(&met, &sentence);
+    switch (sentence.says) {
+    case DCONFDB_SAYS_RULE_AT:
         find(at, "unsound: S%u item %u; what 'repair' keeps is looked at", (unsigned)broken->rule, (unsigned)broken->item);
-    else if (number == DCONFDB_UNSOUND)
-        find(at, "unsound: S%u; what 'repair' keeps is looked at", (unsigned)broken->rule);
-    else if (dconfdb_fault_text(number, &text))
-        find(at, "%.*s", (int)text.len, (const char *)text.at);
-    else
-        find(at, "fault %u", (unsigned)number);
+        break;
+    case DCONFDB_SAYS_RULE: find(at, "unsound: S%u; what 'repair' keeps is looked at", (unsigned)broken->rule); break;
+    case DCONFDB_SAYS_TEXT: find(at, "%.*s", (int)text.len, (const char *)text.at); break;
+    default: find(at, "fault %u", (unsigned)number);
+    }
 }
 
 void check_database(const Lint *lint, const char *file, FileBytes *bytes)

@@ -22,9 +22,14 @@ size_t findings_count(void);
 
 /* ---- nearest.c: names that are alike */
 
-/* The one of these names that is said to be the nearest, of which half of the letters may be otherwise, or few; or NULL. 100,000 findings
- * take no minute: a run compares so much, and then finds none. */
-const char *nearest(const GPtrArray *names, const char *name, bool is_half);
+/* What is compared with a name that is missing: nothing yet. 100,000 findings take no minute: a run compares so much, and then finds none. */
+DconfdbNearing nearest_begin(bool is_directory);
+
+/* Goes on to the next place, if there is one. */
+bool nearest_goes_on(DconfdbNearing *nearing);
+
+/* The one of these names, of the place, that is said to be the nearest; or NULL. */
+const char *nearest(DconfdbNearing *nearing, const GPtrArray *names, const char *name);
 
 /* ---- schemas.c: which keys there are */
 

@@ -16,7 +16,7 @@ static size_t line_of(const char *text, const uint8_t *at)
 }
 
 /* As `update` says it, of the profile that lies in its folder: in any other one the line is of a file in each user's store. */
-static void check_system(const Asked *asked, const char *text, const DconfdbName *database)
+static void check_named(const Asked *asked, const char *text, const DconfdbName *database)
 {
     FileState state;
     Place at = {asked->file, line_of(text, database->name.at)};
@@ -25,7 +25,9 @@ static void check_system(const Asked *asked, const char *text, const DconfdbName
     const DconfdbPlace place = {folder, nothing, nothing, nothing, nothing, nothing, true, false};
     dconfdb_database_path(&place, (const uint8_t *)asked->file, strlen(asked->file), database->kind, database->name.at, database->name.len, &path, &flag);
     char *file = path_of(&path);
-    if (file_look(file, &state) == 0 && !state.is_there)
+    const DconfdbFinding known = {
+        .what = DCONFDB_OF_DATABASE, .is_known = file_look(file, &state) != 0 || state.is_there, .is_system = database->kind == SYSTEMS};
+    if (dconfdb_finding(&known, (const uint8_t *)asked->name, strlen(asked->name), &nothing, 0) == DCONFDB_FINDING_NO_DATABASE)
         find(at, "it names system-db:%.*s, and there is no %s", (int)database->name.len, (const char *)database->name.at, file);
     g_free(file);
 }
@@ -47,7 +49,6 @@ void check_profile(const Asked *asked, const char *text, size_t len)
     if (dconfdb_profile(DCONFDB_PROFILE_COUNTS, (const uint8_t *)text, len, true, false, names, MOST_DATABASES, &count, &fault, &line) == DCONFDB_TELLING_REFUSES)
         g_error("no memory is left");
     for (size_t i = 0; i < count; i++)
-        if (names[i].kind == SYSTEMS && strcmp(asked->name, "profile") == 0)
-            check_system(asked, text, &names[i]);
+        check_named(asked, text, &names[i]);
     find_fault(asked, fault, line);
 }

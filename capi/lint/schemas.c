@@ -236,44 +236,45 @@ uint32_t schemas_finding(const Schemas *schemas, const char *path, const Dconfdb
 
 /* ---- what is nearest */
 
-static char *nearest_directory(const Schemas *schemas, const char *directory)
+/* What is missing, and where the nearest is looked for: in which directory, at last. */
+typedef struct {
+    const Schemas *schemas;
+    const char *directory, *name;
+} Missing;
+
+/* The one that is nearest of those of a place; or NULL. */
+static const char *nearest_at(const Missing *it, DconfdbNearing *nearing)
 {
-    return g_strdup(nearest(schemas->directories, directory, false));
+    const Schemas *schemas = it->schemas;
+    switch (nearing->place) {
+    case DCONFDB_NEAR_DIRECTORIES: return nearest(nearing, schemas->directories, it->directory);
+    case DCONFDB_NEAR_HOLDERS: return nearest(nearing, g_hash_table_lookup(schemas->with, it->name), it->directory);
+    case DCONFDB_NEAR_PATHS: return nearest(nearing, schemas->paths, it->directory);
+    default: return nearest(nearing, g_hash_table_lookup(schemas->keys, it->directory), it->name);
+    }
 }
 
-/* The nearest key of a directory. */
-static char *nearest_key(const Schemas *schemas, const char *directory, const char *name)
+/* The whole path of what was found at a place; or NULL: the next one goes on from there. */
+static char *path_at(Missing *it, uint32_t place, const char *found)
 {
-    const char *key = nearest(g_hash_table_lookup(schemas->keys, directory), name, false);
-    return key ? g_strconcat(directory, key, NULL) : NULL;
-}
-
-/* The nearest directory that has a key of the name. */
-static char *nearest_with(const Schemas *schemas, const char *directory, const char *name)
-{
-    const char *found = nearest(g_hash_table_lookup(schemas->with, name), directory, true);
-    return found ? g_strconcat(found, name, NULL) : NULL;
-}
-
-/* Both names are unknown: the nearest path of a schema, and its nearest key. */
-static char *nearest_path(const Schemas *schemas, const char *directory, const char *name)
-{
-    const char *found = nearest(schemas->paths, directory, false);
-    return found ? nearest_key(schemas, found, name) : NULL;
+    switch (place) {
+    case DCONFDB_NEAR_DIRECTORIES: return g_strdup(found);
+    case DCONFDB_NEAR_HOLDERS: return g_strconcat(found, it->name, NULL);
+    case DCONFDB_NEAR_PATHS: it->directory = found; return NULL;
+    default: return g_strconcat(it->directory, found, NULL);
+    }
 }
 
 char *schemas_nearest(const Schemas *schemas, const char *path)
 {
-    char *directory = directory_of(path), *found = NULL;
-    const char *name = path + strlen(directory);
-    if (*name == 0)
-        found = nearest_directory(schemas, path);
-    else
-        found = nearest_key(schemas, directory, name);
-    if (*name && !found)
-        found = nearest_with(schemas, directory, name);
-    if (*name && !found)
-        found = nearest_path(schemas, directory, name);
+    char *directory = directory_of(path), *whole = NULL;
+    Missing missing = {schemas, directory, path + strlen(directory)};
+    DconfdbNearing nearing = nearest_begin(*missing.name == 0);
+    while (nearest_goes_on(&nearing)) {
+        const char *found = nearest_at(&missing, &nearing);
+        if (found)
+            whole = path_at(&missing, nearing.place, found);
+    }
     g_free(directory);
-    return found;
+    return whole;
 }

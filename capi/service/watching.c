@@ -46,11 +46,9 @@ static void read_files(Writer *writer, uint32_t task, Looking *it)
     it->known.is_done = task == DCONFDB_GLANCE_REFRESH ? dconfdb_store_refresh(writer->store, NULL, &it->error) : open_anew(writer, &it->error);
 }
 
-/* Tells what is new. */
+/* Tells what is new: after a look that failed nothing is. */
 static void hand_out(Writer *writer, Looking *it)
 {
-    if (!it->known.is_done)
-        return;
     it->before = dconfdb_snapshot_ref(writer->told);
     tell_others(writer, NULL, NULL);
     it->known.is_other = it->before != writer->told;

@@ -134,14 +134,13 @@ static GPtrArray *made_of(const Run *run, const Change *change, GPtrArray *left_
     return made;
 }
 
-/* The file is there. Dconf's readers are to see it before anybody is answered or told. */
+/* Dconf's readers are to see what is there before anybody is answered or told. */
 static void answer_all(Run *run)
 {
     Newest newest;
     g_autoptr(GPtrArray) left_out = g_ptr_array_new();
     newest_begin(&newest);
-    if (run->is_done && run->count > 0)
-        flag_readers(run->writer->name);
+    flag_readers(run->writer->name);
     for (const GList *at = run->first; at; at = at->next) {
         Change *change = at->data;
         g_autofree char *tag = tag_of(change);

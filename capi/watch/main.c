@@ -107,7 +107,7 @@ static bool open_anew(Watching *watch, Looking *it)
     return true;
 }
 
-/* Tells what is new. False: it failed. */
+/* Tells what is new: after a look that failed nothing is. False: it failed. */
 static bool hand_out(Watching *watch, Looking *it)
 {
     DconfdbSnapshot *now = dconfdb_store_snapshot(watch->store);
@@ -129,7 +129,7 @@ static void carry_out(Watching *watch, uint32_t task, Looking *it)
 {
     switch (task) {
     case DCONFDB_GLANCE_HAND:
-        it->is_told = it->known.is_done && hand_out(watch, it);
+        it->is_told = hand_out(watch, it);
         break;
     case DCONFDB_GLANCE_HEED: /* nothing waits here */
         break;

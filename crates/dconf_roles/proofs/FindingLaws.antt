@@ -1,8 +1,9 @@
 -- What is found is wrong, and what is wrong is found.
 use Rattle.std.proofs.Common.{ℕ, ◌≡◌, ◌⊎◌, inl, inr, Bool, true, false, not, refl}
-use Rattle.std.specs.Prelude.{◌||◌, if◌then◌else◌}
+use Rattle.std.specs.Prelude.{◌&&◌, ◌||◌, if◌then◌else◌, codes}
+use Rattle.std.specs.Str.{bytes_eq}
 use Rattle.dconf_roles.specs.declared.findings.Finding.{Finding}
-use Rattle.dconf_roles.specs.declared.findings.Finding.TheVariants.{Nothing, NotTaken, OtherType}
+use Rattle.dconf_roles.specs.declared.findings.Finding.TheVariants.{Nothing, NotTaken, OtherType, NoDatabase}
 use Rattle.dconf_roles.specs.Findings.{NoAlarmIsFalse, may_be_there, missing}
 
 -- by whether it is known, has a value, that is taken, is of the type; whether it may be there, and what is missing else
@@ -37,6 +38,20 @@ elsewhere_by false v t y true gone a b = refl
 elsewhere_by false v t y false gone a b = absurd (let bad : false ≡ true = b in cc)
 elsewhere_by true v t y m gone a b = absurd (let bad : true ≡ false = a in cc)
 
+-- by whether it is there, is the system's, and the profile is that of a folder
+abbrev named_by : Bool → Bool → Bool → Finding
+named_by there system own = if there || not (system && own) then Nothing else NoDatabase
+
+there_by : (there system own : Bool) → there ≡ true → named_by there system own ≡ Nothing
+there_by true system own a = refl
+there_by false system own a = absurd (let bad : false ≡ true = a in cc)
+
+database_by : (there system own : Bool) → there ≡ false → system ≡ true → own ≡ true → named_by there system own ≡ NoDatabase
+database_by false true true a b c = refl
+database_by false true false a b c = absurd (let bad : false ≡ true = c in cc)
+database_by false false own a b c = absurd (let bad : false ≡ true = b in cc)
+database_by true system own a b c = absurd (let bad : true ≡ false = a in cc)
+
 pub no_alarm_is_false : NoAlarmIsFalse
 no_alarm_is_false k slip = record {
   taken = taken_by k.is_known k.has_value k.is_taken k.is_of_type (may_be_there k slip) (missing k.what);
@@ -44,4 +59,6 @@ no_alarm_is_false k slip = record {
   untaken = untaken_by k.is_known k.has_value k.is_taken k.is_of_type (may_be_there k slip) (missing k.what);
   unknown = unknown_by k.is_known k.has_value k.is_taken k.is_of_type (may_be_there k slip) (missing k.what);
   elsewhere = elsewhere_by k.is_known k.has_value k.is_taken k.is_of_type (may_be_there k slip) (missing k.what);
+  there = λ file. there_by k.is_known k.is_system (bytes_eq file (codes "profile"));
+  database = λ file. database_by k.is_known k.is_system (bytes_eq file (codes "profile"));
 }

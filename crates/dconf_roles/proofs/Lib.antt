@@ -1,3 +1,4 @@
 pub mod RoleLaws
 pub mod FindingLaws
 pub mod FolderLaws
+pub mod PlaceLaws

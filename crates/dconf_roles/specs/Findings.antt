@@ -1,7 +1,8 @@
 -- What is found wrong with a key that is set, and with a lock. docs/MANUAL.md, "lint FILE..".
-use Rattle.std.specs.Prelude.{ℕ, ◌≡◌, ◌⊎◌, Bool, true, false, not, ◌&&◌, ◌||◌, if◌then◌else◌, ◌==◌}
+use Rattle.std.specs.Prelude.{ℕ, ◌≡◌, ◌⊎◌, Bool, true, false, not, ◌&&◌, ◌||◌, if◌then◌else◌, ◌==◌, List, codes}
+use Rattle.std.specs.Str.{bytes_eq}
 use Rattle.dconf_roles.specs.declared.findings.Finding.{Finding}
-use Rattle.dconf_roles.specs.declared.findings.Finding.TheVariants.{Nothing, NoKey, NoLockedKey, NoLockedDirectory, OtherType, NotTaken}
+use Rattle.dconf_roles.specs.declared.findings.Finding.TheVariants.{Nothing, NoKey, NoLockedKey, NoLockedDirectory, OtherType, NotTaken, NoDatabase}
 use Rattle.dconf_roles.specs.declared.findings.FindingKnown.{FindingKnown}
 
 -- no schema is at its directory, one without a path may have it, and it is no slip
@@ -17,6 +18,14 @@ missing what = if what == 0 then NoKey else if what == 1 then NoLockedKey else N
 abbrev pub finding_of : FindingKnown → Bool → Finding
 finding_of k slip = if k.is_known then of_value k else if may_be_there k slip then Nothing else missing k.what
 
+-- A database that a profile names, a file of that name. The system's lie beside the profile of a folder, `profile`; of any other one nobody knows
+-- where they do.
+abbrev pub of_database : FindingKnown → List ℕ → Finding
+of_database k file = if k.is_known || not (k.is_system && bytes_eq file (codes "profile")) then Nothing else NoDatabase
+
+abbrev pub finding_for : FindingKnown → List ℕ → Bool → Finding
+finding_for k name slip = if k.what == 3 then of_database k name else finding_of k slip
+
 abbrev pub finding_number : Finding → ℕ
 finding_number Nothing = 0
 finding_number NoKey = 1
@@ -24,6 +33,7 @@ finding_number NoLockedKey = 2
 finding_number NoLockedDirectory = 3
 finding_number OtherType = 4
 finding_number NotTaken = 5
+finding_number NoDatabase = 6
 
 -- ---- the law
 
@@ -36,6 +46,9 @@ pub record IsNoFalseAlarm (k : FindingKnown) (slip : Bool) : Type 0 where
   -- what is unknown is found, unless a schema without a path may have it
   pub unknown : k.is_known ≡ false → may_be_there k slip ≡ false → finding_of k slip ≡ missing k.what
   pub elsewhere : k.is_known ≡ false → may_be_there k slip ≡ true → finding_of k slip ≡ Nothing
+  -- a database of the system that isn't there is found, in the profile of a folder alone
+  pub there : (file : List ℕ) → k.is_known ≡ true → of_database k file ≡ Nothing
+  pub database : (file : List ℕ) → k.is_known ≡ false → k.is_system ≡ true → bytes_eq file (codes "profile") ≡ true → of_database k file ≡ NoDatabase
 
 abbrev pub NoAlarmIsFalse : Type 0
 NoAlarmIsFalse = (k : FindingKnown) (slip : Bool) → IsNoFalseAlarm k slip

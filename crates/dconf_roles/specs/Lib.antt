@@ -5,3 +5,4 @@ pub mod Findings
 pub mod Slips
 pub mod Folders
 pub mod Nearness
+pub mod Places

@@ -42,7 +42,7 @@ abbrev pub is_near : Nearing → List ℕ → List ℕ → Bool
 is_near n name other = nat_lt (letters_apart name other) (bound n (length name))
 
 abbrev pub nearing_with : Nearing → ℕ → ℕ → Bool → Nearing
-nearing_with n cost apart is = record { used = n.used + cost; found = if is then apart + 1 else n.found; is_half = n.is_half }
+nearing_with n cost apart is = record n { used = n.used + cost; found = if is then apart + 1 else n.found }
 
 abbrev pub nearing_after : Nearing → List ℕ → List ℕ → Nearing
 nearing_after n name other =

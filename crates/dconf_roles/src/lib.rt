@@ -5,20 +5,23 @@
 #![tactic(auto)]
 
 ghost use Rattle.dconf_roles.specs.Findings.{NoAlarmIsFalse};
+ghost use Rattle.dconf_roles.specs.Places.{EachPlaceComesOnce};
 ghost use Rattle.dconf_roles.specs.Roles.{WhatUpdateReadsIsRead};
 
 mod findings;
 mod folders;
 mod nearness;
 mod numbers;
+mod places;
 mod readings;
 mod roles;
 mod slips;
 
-pub use findings::{Finding, FindingKnown, finding_number, finding_of};
+pub use findings::{Finding, FindingKnown, finding_for, finding_number, finding_of};
 pub use folders::{is_read, role_of, sources_in};
 pub use nearness::{Nearing, is_nearer};
 pub use numbers::reading_number;
+pub use places::{Place, is_over, next_place};
 pub use readings::{ReadAs, reading};
 pub use roles::{Role, role_among};
 pub use slips::{Name, has_slip};
@@ -28,7 +31,13 @@ pub fn what_update_reads_is_read()
     ensures { WhatUpdateReadsIsRead }
 {}
 
-/// What no schema has is found, unless one without a path may have it; and so is a value that no key takes. Nothing else is.
+/// What no schema has is found, unless one without a path may have it; and so is a value that no key takes, and a database of the system that isn't
+/// there, in the profile of a folder. Nothing else is.
 pub fn no_alarm_is_false()
     ensures { NoAlarmIsFalse }
+{}
+
+/// The nearest name is looked for in five places at most: none comes twice.
+pub fn each_place_comes_once()
+    ensures { EachPlaceComesOnce }
 {}

@@ -11,7 +11,7 @@ const MOST_COMPARED: u64 = 100_000_000;
 /// Names of more bytes aren't compared.
 const LONGEST: usize = 65_536;
 
-/// What was compared so far; 0 and false at first.
+/// What was compared so far; all is 0 and false at first but `used`, which goes on, and `is_directory`.
 #[repr(C)]
 #[derive(Clone, Copy)]
 pub struct Nearing {
@@ -19,8 +19,12 @@ pub struct Nearing {
     pub used: u64,
     /// One more than the letters that are otherwise in the nearest name; 0: none is near.
     pub found: u64,
+    /// Where it is looked for: the number of a [`Place`](crate::Place).
+    pub place: u32,
     /// Half of the letters may be otherwise, and not a fifth alone.
     pub is_half: bool,
+    /// What is missing is a directory; else it is a key.
+    pub is_directory: bool,
 }
 
 /// Whether another name is near to one that is missing, and nearer than those before.

@@ -1,17 +1,18 @@
 //! As what the files of a site are looked at, and what is found there.
-ghost use Rattle.std.specs.Prelude.{◌≡◌, ◌≢◌, ◌≤◌, false, map, true};
+ghost use Rattle.std.specs.Prelude.{◌≡◌, ◌≢◌, ◌≤◌, false, if◌then◌else◌, map, true};
 ghost use Rattle.std.specs.List.{list_any};
 ghost use Rattle.dconf_roles.specs.Folders.{is_read, role_of, sources_in};
-ghost use Rattle.dconf_roles.specs.Findings.{finding_of, finding_number};
+ghost use Rattle.dconf_roles.specs.Findings.{finding_for, finding_number};
 ghost use Rattle.dconf_roles.specs.Nearness.{is_nearer, nearing_after};
 ghost use Rattle.dconf_roles.specs.Numbers.{reading_number};
+ghost use Rattle.dconf_roles.specs.Places.{is_over, next_place};
 ghost use Rattle.dconf_roles.specs.Readings.{reading};
 ghost use Rattle.dconf_roles.specs.Roles.{role_among};
 ghost use Rattle.dconf_roles.specs.Slips.{is_slip};
 
 use dconf_roles::{
-    FindingKnown, Name, Nearing, finding_number, is_nearer, is_read, reading_number, role_of,
-    sources_in,
+    FindingKnown, Name, Nearing, finding_number, is_nearer, is_over, is_read, next_place,
+    reading_number, role_of, sources_in,
 };
 use std::alloc::Global;
 
@@ -40,26 +41,41 @@ pub extern "C" fn dconfdb_read_as(
 }
 
 /// What is found of a key that is set, or of a lock, by what the schemas have: 0 nothing, 1 no schema has the key, 2 the locked key, 3 a key
-/// below the locked directory, 4 the value is of another type, 5 the key doesn't take it. Beside these other directories its own may be a slip.
+/// below the locked directory, 4 the value is of another type, 5 the key doesn't take it. Beside these other directories its own may be a slip. Of a
+/// database that a profile of that name names 6: it has no file.
 #[unsafe(no_mangle)]
-pub extern "C" fn dconfdb_finding(
-    known: &FindingKnown,
-    directory: &[u8],
-    others: &[Name<'_>],
-) -> u32
-    ensures { result ≡ finding_number (finding_of known.now (list_any (λ other. is_slip directory.now other.text.now) others.now)) }
+pub extern "C" fn dconfdb_finding(known: &FindingKnown, name: &[u8], others: &[Name<'_>]) -> u32
+    ensures { result ≡ finding_number (finding_for known.now name.now (list_any (λ other. is_slip name.now other.text.now) others.now)) }
 {
-    finding_number(known, directory, others)
+    finding_number(known, name, others)
 }
 
-/// Whether another name is near to one that is missing, and nearer than those before: 0 it isn't, 1 it is, 2 no memory is left.
+/// Whether another name is near to one that is missing, and nearer than those before: 0 it isn't, 1 it is, 2 no memory is left. `is_end`: all names
+/// of a place were compared; then the next place follows, if there is one (1), or none (0).
 #[unsafe(no_mangle)]
 pub extern "C" fn dconfdb_is_nearer(
     alloc: Global,
     nearing: &mut Nearing,
+    is_end: bool,
     name: &[u8],
     other: &[u8],
 ) -> u32
+    ensures next { is_end ≡ true → nearing.new ≡ next_place nearing.old }
+    ensures last { is_end ≡ true → result ≡ (if is_over (next_place nearing.old) then 0 else 1) }
+    ensures no { is_end ≡ false → result ≡ 0 → is_nearer nearing.old name.now other.now ≡ false }
+    ensures yes { is_end ≡ false → result ≡ 1 → is_nearer nearing.old name.now other.now ≡ true }
+    ensures after { is_end ≡ false → result ≢ 2 → nearing.new ≡ nearing_after nearing.old name.now other.now }
+    ensures kept { result ≡ 2 → nearing.new ≡ nearing.old }
+    ensures within { result ≤ 2 }
+{
+    if is_end {
+        *nearing = next_place(nearing);
+        return u32::from(!is_over(nearing));
+    }
+    nearer(alloc, nearing, name, other)
+}
+
+fn nearer(alloc: Global, nearing: &mut Nearing, name: &[u8], other: &[u8]) -> u32
     ensures no { result ≡ 0 → is_nearer nearing.old name.now other.now ≡ false }
     ensures yes { result ≡ 1 → is_nearer nearing.old name.now other.now ≡ true }
     ensures after { result ≢ 2 → nearing.new ≡ nearing_after nearing.old name.now other.now }

@@ -1,7 +1,7 @@
 //! As what the files of a site are looked at, and what is found there.
 use dconf_roles::{
-    FindingKnown, Name, Nearing, Role, finding_number, is_nearer, is_read, reading_number, role_of,
-    sources_in,
+    FindingKnown, Name, Nearing, Role, finding_number, is_nearer, is_over, is_read, next_place,
+    reading_number, role_of, sources_in,
 };
 use std::alloc::{AllocError, Global};
 use std::test::Fail;
@@ -119,6 +119,7 @@ const FINE: FindingKnown = FindingKnown {
     has_value: true,
     is_taken: true,
     is_of_type: true,
+    is_system: true,
 };
 
 const UNKNOWN: FindingKnown = FindingKnown {
@@ -178,9 +179,27 @@ fn names_are_judged() -> bool {
         && found(&beside, "/c/") == 1
 }
 
+/// Of a system's database that a profile of that name names, of which no file is there.
+fn named_in(name: &str, is_known: bool, is_system: bool) -> u32 {
+    let known = FindingKnown {
+        what: 3,
+        is_known,
+        is_system,
+        ..UNKNOWN
+    };
+    finding_number(&known, name.as_bytes(), &[])
+}
+
+fn databases_are_looked_for() -> bool {
+    named_in("profile", false, true) == 6
+        && named_in("profile", true, true) == 0
+        && named_in("profile", false, false) == 0
+        && named_in("site", false, true) == 0
+}
+
 #[test]
 fn what_schemas_lack_is_found(rt: HostRuntime) -> Result<(), Fail> {
-    assert!(rt; values_are_judged() && names_are_judged());
+    assert!(rt; values_are_judged() && names_are_judged() && databases_are_looked_for());
     Ok(())
 }
 
@@ -203,8 +222,38 @@ fn nearest(
 const NOTHING: Nearing = Nearing {
     used: 0,
     found: 0,
+    place: 0,
     is_half: false,
+    is_directory: false,
 };
+
+/// The place after that one, where so much was found there; and whether half of the letters may be otherwise there, as a tenth.
+fn after(place: u32, found: u64) -> u32 {
+    let next = next_place(&Nearing {
+        place,
+        found,
+        ..NOTHING
+    });
+    let half = if next.is_half { 10 } else { 0 };
+    if is_over(&next) { 99 } else { next.place + half }
+}
+
+fn places_follow() -> bool {
+    let directory = Nearing {
+        is_directory: true,
+        ..NOTHING
+    };
+    next_place(&directory).place == 1
+        && after(1, 0) == 99
+        && after(0, 0) == 2
+        && after(2, 1) == 99
+        && after(2, 0) == 13
+        && after(3, 1) == 99
+        && after(3, 0) == 4
+        && after(4, 0) == 99
+        && after(4, 1) == 5
+        && after(5, 0) == 99
+}
 
 #[test]
 fn the_nearest_name_is_found(rt: HostRuntime) -> Result<(), Fail> {
@@ -226,5 +275,6 @@ fn the_nearest_name_is_found(rt: HostRuntime) -> Result<(), Fail> {
     assert!(rt; slip == 3 && few.found == 2 && few.used == 25 + 25 + 25 + 30);
     assert!(rt; nearest(rt.alloc(), &mut half, "abcd", &["abxyz", "abxy"])? == 2);
     assert!(rt; nearest(rt.alloc(), &mut full, "abcd", &["abcd"])? == 0 && full.used == 99_999_980);
+    assert!(rt; places_follow());
     Ok(())
 }
