@@ -329,13 +329,8 @@ fn named_for(of: FaultOf, says: Says, met: &FaultMet) -> u32
     match of {
         FaultOf::Lock => locks_name(says, met),
         FaultOf::Change => users_name(met),
-        FaultOf::Edits => {
-            if met.has_edit {
-                3
-            } else {
-                users_name(met)
-            }
-        }
+        FaultOf::Edits if met.has_edit => 3,
+        FaultOf::Edits => users_name(met),
         _ => 0,
     }
 }
@@ -348,13 +343,8 @@ fn locks_name(says: Says, met: &FaultMet) -> u32
     match says {
         Says::NoFile => 1,
         Says::TenSeconds | Says::Busy => users_name(met),
-        _ => {
-            if is_there {
-                1
-            } else {
-                users_name(met)
-            }
-        }
+        _ if is_there => 1,
+        _ => users_name(met),
     }
 }
 

@@ -26,7 +26,11 @@ pub enum Place {
 pub fn next_place(nearing: &Nearing) -> Nearing
     ensures { result ≡ next_place nearing.now }
 {
-    let place = place_after(place_of(nearing.place), nearing.is_directory, nearing.found != 0);
+    let place = place_after(
+        place_of(nearing.place),
+        nearing.is_directory,
+        nearing.found != 0,
+    );
     moved(nearing, place)
 }
 

@@ -235,7 +235,11 @@ fn after(place: u32, found: u64) -> u32 {
         ..NOTHING
     });
     let half = if next.is_half { 10 } else { 0 };
-    if is_over(&next) { 99 } else { next.place + half }
+    if is_over(&next) {
+        99
+    } else {
+        next.place + half
+    }
 }
 
 fn places_follow() -> bool {
