@@ -34,15 +34,29 @@ static void tell_untold(DconfdbBackend *self)
 
 /* ---- in the thread */
 
+/* The program closed what is waited for, or no memory is left: nothing that happens is heard. */
+static void rest_unheard(void)
+{
+    gint64 now = g_get_monotonic_time();
+    g_usleep((gulong)(after_a_fault(now) - now));
+}
+
+/* That it was woken; where nothing is to be read, it wasn't. */
+static void take_wakes(DconfdbBackend *self)
+{
+    uint64_t count;
+    ssize_t taken = read(self->wakes, &count, sizeof count);
+    (void)taken;
+}
+
 /* Until it is woken, a file changes, or so many milliseconds have passed (-1: however many). */
 static void await(DconfdbBackend *self, int wait)
 {
-    uint64_t count;
     struct pollfd files[] = {{self->wakes, POLLIN, 0}, {watch_file(self), POLLIN, 0}};
     if (poll(files, 2, wait) < 0 || ((files[0].revents | files[1].revents) & POLLNVAL) != 0)
-        g_usleep(SECOND / NANOSECONDS); /* the program closed them, or no memory is left */
-    if (files[0].revents & POLLIN && read(self->wakes, &count, sizeof count) < 0)
-        return;
+        rest_unheard();
+    if (files[0].revents & POLLIN)
+        take_wakes(self);
     if (files[1].revents & POLLIN)
         watch_take(self);
 }
@@ -106,7 +120,7 @@ static void know_anew(DconfdbBackend *self, DconfdbRound *known)
 
 static void take_turn(DconfdbBackend *self, DconfdbRound *known, Turn *turn)
 {
-    *turn = turn_take(self, 0);
+    *turn = turn_take(self, &self->wait, true, 0);
     self->again = turn_next(self);
     known->has_asked = true;
     known->is_others = turn->fault == EWOULDBLOCK;
