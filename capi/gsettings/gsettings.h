@@ -201,7 +201,8 @@ void store_write_alone(DconfdbBackend *self, gint64 end);
 
 bool store_has_waiting(DconfdbBackend *self);
 
-/* Looks at the files, and notifies of every difference; of a first opening, of nothing. False: they can't be read now. */
+/* Looks at the files, and notifies of every difference; of a first opening, of nothing. False: they can't be read now. For the worker, which is
+ * begun only where there is a place for a store. */
 bool store_look(DconfdbBackend *self);
 
 /* The same for who reads where nothing is watched: it waits for nobody who looks or writes, but sees what who writes has seen. The worker tells. */
@@ -250,7 +251,7 @@ bool patience_goes_on(DconfdbPatience *patience, guint64 settled, guint64 added,
 /* To be called now and then: it is renewed if there was a turn since the last call. */
 void patience_renew(DconfdbPatience *patience, const DconfdbBackend *self);
 
-/* ---- the thread that writes and watches (worker.c); `lock` is held */
+/* ---- the thread that writes and watches (worker.c), and its end (ends.c); `lock` is held */
 
 /* Whether it sets, writes and watches: it hasn't ended, and this is no child of fork(), which has no such thread, and whose parent writes what
  * waits. */

@@ -46,7 +46,7 @@ bool store_look(DconfdbBackend *self)
 {
     Notice notice = {.faults = NULL};
     g_mutex_lock(&self->turn);
-    bool done = !self->place.folder || look(self, &notice);
+    bool done = look(self, &notice);
     g_mutex_unlock(&self->turn);
     notice_tell(self, &notice);
     return done;
@@ -117,6 +117,12 @@ static DconfdbGlance ask_for_turn(DconfdbBackend *self, gint64 end)
     return (DconfdbGlance){.is_barred = !g_mutex_trylock(&self->turn), .is_late = g_get_monotonic_time() >= end};
 }
 
+static DconfdbGlance ask_again(DconfdbBackend *self, gint64 end)
+{
+    g_usleep(TRY);
+    return ask_for_turn(self, end);
+}
+
 /* In a turn that is had until then. Where the worker writes, what it has seen in its own is as new: nobody else changes the user's file until it has
  * written. */
 static void look_until(DconfdbBackend *self, gint64 end)
@@ -124,10 +130,8 @@ static void look_until(DconfdbBackend *self, gint64 end)
     DconfdbGlance known = ask_for_turn(self, end);
     uint32_t task = DCONFDB_GLANCE_BEGINS;
     while (known.is_barred && (task = go_on_barred(self, task, &known)) < DCONFDB_GLANCE_SEEN) {
-        if (task != DCONFDB_GLANCE_AGAIN)
-            continue;
-        g_usleep(TRY);
-        known = ask_for_turn(self, end);
+        if (task == DCONFDB_GLANCE_AGAIN)
+            known = ask_again(self, end);
     }
     if (!known.is_barred)
         look_quietly(self);
