@@ -13,9 +13,16 @@
 typedef struct {
     uint64_t when;   /* by order_clock() */
     uint64_t number; /* of all that was asked for: greater than that of what was asked for before */
-    uint64_t change; /* with which others: the number of the first of them */
+    uint64_t change; /* the same of all paths of a change, and of no others */
     gchar path[];
 } Moment;
+
+static void ask(Engine *self, Moment *moment, uint64_t when, uint64_t change)
+{
+    moment->when = when;
+    moment->change = change;
+    moment->number = ++self->asked;
+}
 
 /* `lock` is held, as of what follows. A path for which nobody has asked is asked for now. */
 static Moment *moment_of(Engine *self, const gchar *path)
@@ -25,8 +32,7 @@ static Moment *moment_of(Engine *self, const gchar *path)
         return moment;
     size_t size = strlen(path) + 1;
     moment = g_malloc(sizeof *moment + size);
-    moment->when = order_clock();
-    moment->number = moment->change = ++self->asked;
+    ask(self, moment, order_clock(), self->asked + 1);
     memcpy(moment->path, path, size);
     g_hash_table_insert(self->moments, moment->path, moment);
     return moment;
@@ -35,12 +41,8 @@ static Moment *moment_of(Engine *self, const gchar *path)
 void ask_now(Engine *self, const Edits *edits)
 {
     uint64_t now = order_clock(), change = self->asked + 1;
-    for (guint at = 0; at < edits->edits->len; at++) {
-        Moment *moment = moment_of(self, edit_at(edits, at)->path);
-        moment->when = now;
-        moment->change = change;
-        moment->number = ++self->asked;
-    }
+    for (guint at = 0; at < edits->edits->len; at++)
+        ask(self, moment_of(self, edit_at(edits, at)->path), now, change);
 }
 
 static void forget_moments(Engine *self)
