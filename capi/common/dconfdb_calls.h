@@ -1246,9 +1246,10 @@ enum {
     DCONFDB_LINE_TRY = 1, /* ask for it, without a wait: is that over, as others don't have it? */
     DCONFDB_LINE_BEGIN,   /* begin a thread that waits in line: is there one? */
     DCONFDB_LINE_AWAIT,   /* ask that one: is its wait over? */
+    DCONFDB_LINE_WAIT,    /* as TRY, but wait for it, as this isn't the thread that writes */
     DCONFDB_LINE_HAD,     /* over: the turn is had, or why not is known */
-    DCONFDB_LINE_WAITS,   /* over for now: the other thread wakes this one */
-    DCONFDB_LINE_AGAIN    /* over for now: it is asked for again later */
+    DCONFDB_LINE_WAITS,   /* over for now: the other thread wakes this one, and nothing else does but what is due to be said */
+    DCONFDB_LINE_AGAIN    /* over for now: it is asked for again when the failing says so */
 };
 
 /* At the end, in this order. */
@@ -1267,7 +1268,7 @@ enum {
     DCONFDB_END_LEFT      /* over: the thread has it all */
 };
 
-/* By whoever wants to know that all is on the disk, in this order. */
+/* By whoever wants to know that all is on the disk, in this order; in a child of fork() it is over at once, as what waits is its parent's. */
 enum {
     DCONFDB_SYNC_ASK = 1, /* the thread that writes for a try now; any answer will do */
     DCONFDB_SYNC_WRITE,   /* what waits, since no other thread does */
@@ -1291,6 +1292,8 @@ enum {
     DCONFDB_GLANCE_HAND,       /* hands out what is the newest */
     DCONFDB_GLANCE_HEED,       /* heeds what others changed, while own changes wait */
     DCONFDB_GLANCE_WATCH,      /* has the files watched that are the store's now */
+    DCONFDB_GLANCE_SETTLE,     /* settles what waits and is there already, by the files that were read */
+    DCONFDB_GLANCE_AGAIN,      /* rests a moment, and asks for the turn to look again */
     DCONFDB_GLANCE_SEEN,       /* over: it succeeded */
     DCONFDB_GLANCE_FAILED      /* over: it failed */
 };
@@ -1306,6 +1309,8 @@ typedef struct {
     bool has_same_files; /* the store that was opened has the files of the one before */
     bool is_barred;      /* another thread has the turn to look */
     bool is_amid;        /* that one changes the files: what it has seen in its turn is the newest */
+    bool is_late;        /* it is waited no longer for the turn */
+    bool is_to_settle;   /* who looks wants to know what of that which waits is there already */
 } DconfdbGlance;
 
 /* The task that is due after that one. */
@@ -1361,8 +1366,9 @@ enum {
     DCONFDB_LOOKER_TELLS   /* it is about to tell of a change */
 };
 
-/* When the next look is due, if this one is made, which was due in that moment; of TELLS, how long it is waited for it. 0: none is made. */
-uint64_t dconfdb_next_look(uint32_t looker, uint64_t due, uint64_t now, bool has_store, bool has_opened, bool is_at_work);
+/* When the next look is due, if this one is made, which was due in that moment, unless somebody watches the files; of TELLS, how long it is
+ * waited for it. 0: none is made. */
+uint64_t dconfdb_next_look(uint32_t looker, uint64_t due, uint64_t now, bool has_store, bool has_opened, bool is_at_work, bool is_watched);
 
 /* Whether what was begun in one process is at work in this one: it has not ended, and this is no child of that by fork(). */
 bool dconfdb_is_at_work(bool has_ended, uint32_t begun_in, uint32_t process);
@@ -1380,6 +1386,8 @@ typedef struct {
     bool is_listened; /* somebody listens to it; or, of all, to what they begin with */
     bool is_between;  /* no list is being told: it is asked which comes next */
     bool has_rights;  /* it may be otherwise what may be written */
+    bool is_of_files; /* what is told stands in files, of which somebody else tells, too */
+    bool has_faults;  /* there are faults to be told */
 } DconfdbTelling;
 
 /* What is done with a path, or which list comes next. */
@@ -1389,8 +1397,11 @@ enum {
     DCONFDB_TELL_THEN_TAKE,   /* tell what was taken, which are as many as one notice may have, and then take it */
     DCONFDB_TELL_WHAT_IS_TAKEN,
     DCONFDB_TELL_ALL,         /* as if everything were seen otherwise */
+    DCONFDB_TELL_CATCH_UP,    /* before all lists: whoever else tells of the files looks at them */
     DCONFDB_TELL_RIGHTS,      /* the list of what may be written or no longer */
     DCONFDB_TELL_VALUES,      /* the list of what is seen otherwise */
+    DCONFDB_TELL_WARN,        /* the faults, each as a warning */
+    DCONFDB_TELL_PRINT,       /* the same, but printed, as whatever takes warnings may be gone */
     DCONFDB_TELL_OVER
 };
 

@@ -201,14 +201,18 @@ void store_write_alone(DconfdbBackend *self, gint64 end);
 
 bool store_has_waiting(DconfdbBackend *self);
 
-/* Looks at the files, and notifies of every difference; of a first opening, of nothing. False: they can't be read now. */
+/* Looks at the files, and notifies of every difference; of a first opening, of nothing. False: they can't be read now. For the worker, which is
+ * begun only where there is a place for a store. */
 bool store_look(DconfdbBackend *self);
 
-/* The same for who reads where nothing is watched, if nobody else looks: the worker tells. */
+/* The same for who reads where nothing is watched: it waits for nobody who looks or writes, but sees what who writes has seen. The worker tells. */
 void store_peek(DconfdbBackend *self);
 
 /* The same for who is about to tell of a change by itself: it waits for who looks, a fifth of a second at most, and for no write. */
 void store_catch_up(DconfdbBackend *self);
+
+/* When a look that failed is made again by who reads, and a wait that failed by who works. */
+gint64 after_a_fault(gint64 now);
 
 /* Until what waits is written, and the files are looked at: ten seconds at most, and as long again after each turn of other
  * programs, up to a minute. Where the disk goes on being full or failing, until one more write has failed. False: it isn't
@@ -225,16 +229,16 @@ void store_leave(DconfdbBackend *self);
 /* ---- the turn to write (turn.c), by the worker; neither mutex is held */
 
 /* Takes the turn, or goes on waiting for it, until then. Its fault is EWOULDBLOCK as long as others have it: the
- * worker is woken when it comes. */
-Turn turn_take(DconfdbBackend *self, gint64 end);
+ * worker is woken when it comes. `at` is the worker's `wait`, or, of another thread (`is_worker` false), one of its own. */
+Turn turn_take(DconfdbBackend *self, Wait **at, bool is_worker, gint64 end);
 
 /* When the worker is to ask again without being woken; 0: never. */
 gint64 turn_next(const DconfdbBackend *self);
 
-/* Ends a turn that turn_take gave, be it with a fault. */
-void turn_give(DconfdbBackend *self);
+/* Ends a turn that turn_take gave, be it with a fault; or forgets that there is none. */
+void turn_give(Wait **at);
 
-/* Where nothing waits any longer, as it is there without a turn: gives the turn back, now or when it is called again after the turn has
+/* Where nothing waits any longer, as it is there without a turn: the worker gives the turn back, now or when it is called again after the turn has
  * come. */
 void turn_leave(DconfdbBackend *self);
 
@@ -247,15 +251,10 @@ bool patience_goes_on(DconfdbPatience *patience, guint64 settled, guint64 added,
 /* To be called now and then: it is renewed if there was a turn since the last call. */
 void patience_renew(DconfdbPatience *patience, const DconfdbBackend *self);
 
-/* ---- the thread that writes and watches (worker.c); `lock` is held */
+/* ---- the thread that writes and watches (worker.c), and its end (ends.c); `lock` is held */
 
-/* Whether this is a child of fork(): it has no such thread, and its parent writes what waits; so it sets nothing. `lock` may be let go. */
-static inline bool is_forked(const DconfdbBackend *self)
-{
-    return !dconfdb_is_at_work(false, (uint32_t)self->process, (uint32_t)getpid());
-}
-
-/* Whether it sets, writes and watches: it is no such child, and hasn't ended. */
+/* Whether it sets, writes and watches: it hasn't ended, and this is no child of fork(), which has no such thread, and whose parent writes what
+ * waits. */
 static inline bool is_at_work(const DconfdbBackend *self)
 {
     return dconfdb_is_at_work(self->has_ended, (uint32_t)self->process, (uint32_t)getpid());
@@ -310,6 +309,7 @@ typedef struct {
     DconfdbSnapshot *before, *after;
     bool is_first; /* the store was opened: nobody has seen another one */
     bool waits_again; /* what was taken could not be written */
+    bool is_to_settle; /* what waits is settled if it is there already by the files that are read */
     GQueue taken;     /* changes of ours that are being written */
     GQueue gone;      /* and those that no longer wait */
     GArray *edited;          /* keys that an edit of ours was for; NULL: none */

@@ -35,12 +35,13 @@ static gboolean has_turned(gpointer data)
     return G_SOURCE_REMOVE;
 }
 
-/* Each GSettings subscribes, also that of a program which only gets and sets: it runs no main loop. */
+/* Each GSettings subscribes, also that of a program which only gets and sets: it runs no main loop. What has turned, or is asked, isn't asked
+ * again. */
 static void ask_whether_it_turns(DconfdbBackend *self)
 {
     GMainContext *context = g_main_context_ref_thread_default();
     g_mutex_lock(&self->lock);
-    bool is_new = !self->has_ended && !self->is_to_watch && g_hash_table_add(self->asked, context);
+    bool is_new = !self->is_to_watch && g_hash_table_add(self->asked, context);
     g_mutex_unlock(&self->lock);
     if (is_new) {
         Asked *asked = g_new(Asked, 1);
@@ -59,11 +60,9 @@ void dconfdb_backend_subscribe(GSettingsBackend *backend, const char *name)
 {
     DconfdbBackend *self = backend_of(backend);
     g_mutex_lock(&self->lock);
-    if (!self->has_ended) {
-        guint count = GPOINTER_TO_UINT(g_hash_table_lookup(self->subscribed, name));
-        g_hash_table_insert(self->subscribed, g_strdup(name), GUINT_TO_POINTER(count + 1));
-        worker_need(self, &(const Need){.is_wanted = true, .is_news = self->is_to_watch});
-    }
+    guint count = GPOINTER_TO_UINT(g_hash_table_lookup(self->subscribed, name));
+    g_hash_table_insert(self->subscribed, g_strdup(name), GUINT_TO_POINTER(count + 1));
+    worker_need(self, &(const Need){.is_wanted = true, .is_news = self->is_to_watch});
     g_mutex_unlock(&self->lock);
     ask_whether_it_turns(self);
 }
@@ -72,12 +71,10 @@ void dconfdb_backend_unsubscribe(GSettingsBackend *backend, const char *name)
 {
     DconfdbBackend *self = backend_of(backend);
     g_mutex_lock(&self->lock);
-    if (!self->has_ended) {
-        guint count = GPOINTER_TO_UINT(g_hash_table_lookup(self->subscribed, name));
-        if (count > 1)
-            g_hash_table_insert(self->subscribed, g_strdup(name), GUINT_TO_POINTER(count - 1));
-        else
-            g_hash_table_remove(self->subscribed, name);
-    }
+    guint count = GPOINTER_TO_UINT(g_hash_table_lookup(self->subscribed, name));
+    if (count > 1)
+        g_hash_table_insert(self->subscribed, g_strdup(name), GUINT_TO_POINTER(count - 1));
+    else
+        g_hash_table_remove(self->subscribed, name);
     g_mutex_unlock(&self->lock);
 }

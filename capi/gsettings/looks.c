@@ -132,6 +132,17 @@ static void hand_out(DconfdbBackend *self, Looking *it)
     it->known.waits = it->known.is_other && store_has_waiting(self);
 }
 
+/* `turn` is held. Somebody may wait for that; and another program may have written it, and not brought it to the disk. */
+static void settle_what_is_there(DconfdbBackend *self)
+{
+    g_mutex_lock(&self->lock);
+    if (waiting_settle(&self->waiting, self->now)) {
+        self->is_to_settle = true;
+        g_cond_broadcast(&self->settles);
+    }
+    g_mutex_unlock(&self->lock);
+}
+
 /* The worker does. */
 static void watch_anew(DconfdbBackend *self)
 {
@@ -153,6 +164,9 @@ static void carry_out(DconfdbBackend *self, uint32_t task, Looking *it)
     case DCONFDB_GLANCE_WATCH:
         watch_anew(self);
         break;
+    case DCONFDB_GLANCE_SETTLE:
+        settle_what_is_there(self);
+        break;
     default:
         read_files(self, task, it);
     }
@@ -164,6 +178,7 @@ bool look(DconfdbBackend *self, Notice *notice)
     uint32_t task = DCONFDB_GLANCE_BEGINS;
     profiles_compare(&self->seen, &it.profiles, &it.known);
     it.known.is_open = self->store != NULL;
+    it.known.is_to_settle = notice->is_to_settle;
     while ((task = dconfdb_glance_after(task, &it.known)) < DCONFDB_GLANCE_SEEN)
         carry_out(self, task, &it);
     return task == DCONFDB_GLANCE_SEEN;

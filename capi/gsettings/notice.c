@@ -80,9 +80,16 @@ static void ask(Asked *asked, const Notice *notice)
         add_asked(asked, notice->odd[2 * i], notice->odd[2 * i + 1], edited_of(notice, notice->odd[2 * i]));
 }
 
+/* What is told by whom. */
+typedef struct {
+    DconfdbBackend *backend;
+    const Notice *notice;
+} Telling;
+
 /* The keys that are seen otherwise. False: no memory is left. */
-static bool is_told(Told *told, const Notice *notice)
+static bool finds_changed(const void *it, Told *told)
 {
+    const Notice *notice = ((const Telling *)it)->notice;
     Asked asked;
     ask(&asked, notice);
     bool is = seen_otherwise(told, notice->before, notice->after, asked.keys, asked.count, NULL);
@@ -104,8 +111,9 @@ static void send_taken(DconfdbBackend *self, DconfdbTelling *telling, const char
 }
 
 /* The keys, without their first slash, as GSettings wants them below `/`. */
-static void send_changed(DconfdbBackend *self, DconfdbTelling *telling, const char *paths)
+static void send_changed(const void *it, DconfdbTelling *telling, const char *paths)
 {
+    DconfdbBackend *self = ((const Telling *)it)->backend;
     const char *items[NOTICE_ROOM];
     telling->has_path = true;
     for (const char *at = paths; telling->has_path; at += strlen(at) + 1) {
@@ -124,15 +132,17 @@ static void send_changed(DconfdbBackend *self, DconfdbTelling *telling, const ch
 /* Which keys a directory has, only GSettings knows. */
 static void send_writable_of(DconfdbBackend *self, const char *path)
 {
-    if (g_str_has_suffix(path, "/"))
+    bool is_short;
+    if (dconfdb_path_kind((const uint8_t *)path, strlen(path), DCONFDB_PATH_WANTED, false, &is_short) == DCONFDB_PATH_DIRECTORY)
         g_settings_backend_path_writable_changed(&self->parent, path);
     else
         g_settings_backend_writable_changed(&self->parent, path);
 }
 
 /* Keys, and directories as a whole, of which it changed whether they may be written: each is a notice of its own. */
-static void send_writable(DconfdbBackend *self, DconfdbTelling *telling, const char *paths)
+static void send_writable(const void *it, DconfdbTelling *telling, const char *paths)
 {
+    DconfdbBackend *self = ((const Telling *)it)->backend;
     telling->has_path = true;
     for (const char *at = paths; telling->has_path; at += strlen(at) + 1) {
         telling->has_path = *at != 0;
@@ -145,38 +155,7 @@ static void send_writable(DconfdbBackend *self, DconfdbTelling *telling, const c
     }
 }
 
-/* The list that comes next, as the proved call has it. */
-static uint32_t next_list(DconfdbTelling *telling)
-{
-    telling->is_between = true;
-    telling->list = dconfdb_tell_next(telling);
-    telling->is_between = false;
-    return telling->list;
-}
-
-static bool is_found(Told *told, uint32_t list, const Notice *notice)
-{
-    return list == DCONFDB_TELL_RIGHTS ? seen_relocked(told, notice->before, notice->after, NULL) : is_told(told, notice);
-}
-
-static void send(DconfdbBackend *self, const Notice *notice, DconfdbTelling *telling)
-{
-    Told told;
-    telling->is_found = is_found(&told, telling->list, notice);
-    const char *paths = telling->is_found ? told.paths : "";
-    if (telling->list == DCONFDB_TELL_RIGHTS)
-        send_writable(self, telling, paths);
-    else
-        send_changed(self, telling, paths);
-    if (telling->is_found)
-        seen_free(&told);
-}
-
-/* Whether anything is told, whatever is found. */
-static bool is_news(DconfdbTelling telling)
-{
-    return next_list(&telling) != DCONFDB_TELL_OVER;
-}
+/* ---- faults */
 
 static bool has_ended(DconfdbBackend *self)
 {
@@ -186,35 +165,71 @@ static bool has_ended(DconfdbBackend *self)
     return has;
 }
 
-void say(DconfdbBackend *self, const char *text)
+static void say_as(uint32_t list, const char *text)
 {
-    if (has_ended(self))
+    if (list == DCONFDB_TELL_PRINT)
         fprintf(stderr, "dconfdb: %s\n", text);
     else
         g_warning("%s", text);
 }
 
+void say(DconfdbBackend *self, const char *text)
+{
+    DconfdbTelling telling = {.is_first = true, .ends = has_ended(self), .has_faults = true};
+    say_as(tell_next_list(&telling), text);
+}
+
+/* ---- all of it */
+
 /* What is known of it before anything is found. */
 static DconfdbTelling telling_of(const Notice *notice)
 {
-    return (DconfdbTelling){
-        .is_first = notice->is_first, .is_other = notice->before != notice->after, .has_edits = notice->edited != NULL, .has_rights = true};
+    return (DconfdbTelling){.is_first = notice->is_first,
+                            .is_other = notice->before != notice->after,
+                            .has_edits = notice->edited != NULL,
+                            .has_rights = true,
+                            .has_faults = notice->faults != NULL};
 }
 
-void notice_tell(DconfdbBackend *self, Notice *notice)
+/* Whether anything is told, whatever is found. */
+static bool is_news(DconfdbTelling telling)
 {
-    DconfdbTelling telling = telling_of(notice);
-    telling.ends = is_news(telling) && has_ended(self);
-    while (next_list(&telling) != DCONFDB_TELL_OVER)
-        send(self, notice, &telling);
-    for (guint i = 0; notice->faults && i < notice->faults->len; i++)
-        say(self, notice->faults->pdata[i]);
+    return tell_next_list(&telling) != DCONFDB_TELL_OVER;
+}
+
+static void carry_out(const Telling *it, DconfdbTelling *telling)
+{
+    static const Teller teller = {finds_changed, send_writable, send_changed};
+    const Notice *notice = it->notice;
+    switch (telling->list) {
+    case DCONFDB_TELL_WARN:
+    case DCONFDB_TELL_PRINT:
+        for (guint i = 0; i < notice->faults->len; i++)
+            say_as(telling->list, notice->faults->pdata[i]);
+        break;
+    default:
+        tell_list(&teller, it, notice->before, notice->after, telling);
+    }
+}
+
+static void notice_end(Notice *notice)
+{
     g_clear_pointer(&notice->faults, g_ptr_array_unref);
     g_clear_pointer(&notice->edited, g_array_unref);
     g_strfreev(notice->odd);
     changes_free(&notice->gone);
     dconfdb_snapshot_unref(notice->before);
     dconfdb_snapshot_unref(notice->after);
+}
+
+void notice_tell(DconfdbBackend *self, Notice *notice)
+{
+    const Telling it = {self, notice};
+    DconfdbTelling telling = telling_of(notice);
+    telling.ends = is_news(telling) && has_ended(self);
+    while (tell_next_list(&telling) != DCONFDB_TELL_OVER)
+        carry_out(&it, &telling);
+    notice_end(notice);
 }
 
 void notice_tell_and_free(DconfdbBackend *self, Notice *notice)
@@ -225,5 +240,5 @@ void notice_tell_and_free(DconfdbBackend *self, Notice *notice)
 
 void notice_tell_elsewhere(DconfdbBackend *self, Notice *notice)
 {
-    worker_tells(self, notice, is_news(telling_of(notice)) || notice->faults);
+    worker_tells(self, notice, is_news(telling_of(notice)));
 }

@@ -7,7 +7,7 @@
 
 /* ---- reads */
 
-/* Where nothing is watched, since no main loop has turned, each read may look at the files. */
+/* Where nothing is watched, since no main loop has turned, each read may look at the files; and else none does, as the proved call has it, too. */
 void look_if_unwatched(DconfdbBackend *self)
 {
     if (!g_atomic_int_get(&self->is_watching))
@@ -63,8 +63,7 @@ static void remember_odd(DconfdbBackend *self, const char *key, const GVariantTy
 {
     char *type = g_variant_type_dup_string(expected);
     g_mutex_lock(&self->lock);
-    if (!self->has_ended)
-        g_hash_table_add(self->odd, g_strconcat(type, " ", key, NULL));
+    g_hash_table_add(self->odd, g_strconcat(type, " ", key, NULL));
     g_mutex_unlock(&self->lock);
     g_free(type);
 }

@@ -91,7 +91,7 @@ gboolean dconfdb_backend_write_tree(GSettingsBackend *backend, GTree *tree, gpoi
 void dconfdb_backend_sync(GSettingsBackend *backend)
 {
     DconfdbBackend *self = backend_of(backend);
-    if (is_forked(self) || store_sync(self))
+    if (store_sync(self))
         return;
     g_autofree char *text = g_strdup_printf("%s: what was set is not on the disk yet; it goes on waiting", self->place.folder);
     say(self, text);

@@ -46,7 +46,7 @@ bool store_look(DconfdbBackend *self)
 {
     Notice notice = {.faults = NULL};
     g_mutex_lock(&self->turn);
-    bool done = !self->place.folder || look(self, &notice);
+    bool done = look(self, &notice);
     g_mutex_unlock(&self->turn);
     notice_tell(self, &notice);
     return done;
@@ -65,7 +65,8 @@ static gint64 coarse_time(void)
 static gint64 next_look(const DconfdbBackend *self, uint32_t looker, gint64 now)
 {
     uint64_t due = (uint64_t)atomic_load(&self->looks);
-    return (gint64)dconfdb_next_look(looker, due, (uint64_t)now, self->place.folder != NULL, self->has_opened, is_at_work(self));
+    return (gint64)dconfdb_next_look(looker, due, (uint64_t)now, self->place.folder != NULL, self->has_opened, is_at_work(self),
+                                     g_atomic_int_get(&self->is_watching));
 }
 
 /* Whether this thread is to look. */
@@ -79,15 +80,61 @@ static bool is_to_peek(DconfdbBackend *self, gint64 now)
     return next != 0;
 }
 
+gint64 after_a_fault(gint64 now)
+{
+    return (gint64)dconfdb_next_look(DCONFDB_LOOKER_FAILED, 0, (uint64_t)now, true, true, true, false);
+}
+
 /* `turn` is held, and given back. A handler would run amid what the caller does, if this thread told. */
 static void look_quietly(DconfdbBackend *self)
 {
     Notice notice = {.faults = NULL};
     /* A file that can't be read is read again and again. */
     if (!look(self, &notice))
-        atomic_store(&self->looks, (gint64)dconfdb_next_look(DCONFDB_LOOKER_FAILED, 0, (uint64_t)coarse_time(), true, true, true));
+        atomic_store(&self->looks, after_a_fault(coarse_time()));
     g_mutex_unlock(&self->turn);
     notice_tell_elsewhere(self, &notice);
+}
+
+/* Another thread has `turn`: what that one has seen is handed out, if the proved call says so. Gives what comes next. */
+static uint32_t go_on_barred(DconfdbBackend *self, uint32_t task, DconfdbGlance *known)
+{
+    Notice notice = {.faults = NULL};
+    g_mutex_lock(&self->lock);
+    known->is_open = self->store != NULL;
+    known->is_amid = known->is_open && is_amid_change(self->store);
+    known->is_shown = known->is_open && is_shown(self);
+    uint32_t next = dconfdb_glance_after(task, known);
+    if (next == DCONFDB_GLANCE_HAND)
+        hand_newest(self, &notice);
+    g_mutex_unlock(&self->lock);
+    notice_tell_elsewhere(self, &notice);
+    return next;
+}
+
+static DconfdbGlance ask_for_turn(DconfdbBackend *self, gint64 end)
+{
+    return (DconfdbGlance){.is_barred = !g_mutex_trylock(&self->turn), .is_late = g_get_monotonic_time() >= end};
+}
+
+static DconfdbGlance ask_again(DconfdbBackend *self, gint64 end)
+{
+    g_usleep(TRY);
+    return ask_for_turn(self, end);
+}
+
+/* In a turn that is had until then. Where the worker writes, what it has seen in its own is as new: nobody else changes the user's file until it has
+ * written. */
+static void look_until(DconfdbBackend *self, gint64 end)
+{
+    DconfdbGlance known = ask_for_turn(self, end);
+    uint32_t task = DCONFDB_GLANCE_BEGINS;
+    while (known.is_barred && (task = go_on_barred(self, task, &known)) < DCONFDB_GLANCE_SEEN) {
+        if (task == DCONFDB_GLANCE_AGAIN)
+            known = ask_again(self, end);
+    }
+    if (!known.is_barred)
+        look_quietly(self);
 }
 
 void store_peek(DconfdbBackend *self)
@@ -96,24 +143,8 @@ void store_peek(DconfdbBackend *self)
     /* Nearly all reads end here, without a lock: before that moment the proved call says no, too. */
     if (G_LIKELY(now < atomic_load_explicit(&self->looks, memory_order_relaxed)))
         return;
-    if (is_to_peek(self, now) && g_mutex_trylock(&self->turn))
-        look_quietly(self);
-}
-
-/* Where the worker writes: hands out what it has seen in its turn. Nobody else changes the user's file until it has written. */
-static bool shows_amid_write(DconfdbBackend *self)
-{
-    Notice notice = {.faults = NULL};
-    g_mutex_lock(&self->lock);
-    uint32_t task = DCONFDB_GLANCE_BEGINS;
-    DconfdbGlance known = {.is_barred = true, .is_open = self->store != NULL};
-    known.is_amid = known.is_open && is_amid_change(self->store);
-    known.is_shown = known.is_open && is_shown(self);
-    while ((task = dconfdb_glance_after(task, &known)) < DCONFDB_GLANCE_SEEN)
-        hand_newest(self, &notice);
-    g_mutex_unlock(&self->lock);
-    notice_tell_elsewhere(self, &notice);
-    return task == DCONFDB_GLANCE_SEEN;
+    if (is_to_peek(self, now))
+        look_until(self, 0);
 }
 
 void store_catch_up(DconfdbBackend *self)
@@ -121,14 +152,8 @@ void store_catch_up(DconfdbBackend *self)
     g_mutex_lock(&self->lock);
     gint64 end = next_look(self, DCONFDB_LOOKER_TELLS, g_get_monotonic_time());
     g_mutex_unlock(&self->lock);
-    bool is = end != 0;
-    while (is && !g_mutex_trylock(&self->turn)) {
-        is = !shows_amid_write(self) && g_get_monotonic_time() < end;
-        if (is)
-            g_usleep(TRY);
-    }
-    if (is)
-        look_quietly(self);
+    if (end != 0)
+        look_until(self, end);
 }
 
 void store_end(DconfdbBackend *self)

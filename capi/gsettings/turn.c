@@ -32,6 +32,9 @@ static void *wait_in_kernel(void *data)
     return NULL;
 }
 
+/* In microseconds. */
+enum { MILLISECOND = 1000 };
+
 /* Whether the thread ends by then; it is gone when this is so. */
 static bool is_thread_over(DconfdbBackend *self, Wait *wait, gint64 end)
 {
@@ -51,6 +54,9 @@ static bool carry_out(DconfdbBackend *self, Wait *wait, gint64 end)
     case DCONFDB_LINE_TRY:
         wait->fault = folder_lock(self->place.folder, 0, &wait->lock);
         return wait->fault != EWOULDBLOCK;
+    case DCONFDB_LINE_WAIT:
+        wait->fault = folder_lock(self->place.folder, (int)(MAX(end - g_get_monotonic_time(), 0) / MILLISECOND), &wait->lock);
+        return wait->fault != EWOULDBLOCK;
     case DCONFDB_LINE_BEGIN:
         wait->known.has_line = thread_begin(&wait->thread, wait_in_kernel, wait);
         return wait->known.has_line;
@@ -68,20 +74,21 @@ static void meet_others(DconfdbBackend *self, Wait *wait)
     say(self, text);
 }
 
-static Wait *wait_new(DconfdbBackend *self)
+static Wait *wait_new(DconfdbBackend *self, bool is_worker)
 {
     Wait *wait = g_new0(Wait, 1);
     wait->backend = self;
+    wait->known.is_thread = is_worker;
     wait->fault = EWOULDBLOCK;
     return wait;
 }
 
-Turn turn_take(DconfdbBackend *self, gint64 end)
+Turn turn_take(DconfdbBackend *self, Wait **at, bool is_worker, gint64 end)
 {
     bool yes = true;
-    if (!self->wait)
-        self->wait = wait_new(self);
-    Wait *wait = self->wait;
+    if (!*at)
+        *at = wait_new(self, is_worker);
+    Wait *wait = *at;
     wait->task = DCONFDB_WRITER_BEGINS;
     while ((wait->task = dconfdb_writer_after(DCONFDB_WRITER_LINE, wait->task, yes, &wait->known)) < DCONFDB_LINE_HAD)
         yes = carry_out(self, wait, end);
@@ -100,18 +107,18 @@ gint64 turn_next(const DconfdbBackend *self)
     return (gint64)(wait->task == DCONFDB_LINE_WAITS ? wait->failing.due : wait->failing.again);
 }
 
-void turn_give(DconfdbBackend *self)
+void turn_give(Wait **at)
 {
-    if (self->wait->fault == 0)
-        folder_unlock(&self->wait->lock);
-    g_clear_pointer(&self->wait, g_free);
+    if (*at && (*at)->fault == 0)
+        folder_unlock(&(*at)->lock);
+    g_clear_pointer(at, g_free);
 }
 
 /* No thread that waits can be called back: it wakes the worker when it has the turn. */
 void turn_leave(DconfdbBackend *self)
 {
     if (self->wait && (!self->wait->known.has_line || is_thread_over(self, self->wait, 0)))
-        turn_give(self);
+        turn_give(&self->wait);
 }
 
 /* ---- how long it is waited for */

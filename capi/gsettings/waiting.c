@@ -1,17 +1,9 @@
 /* Changes that wait to be written: what becomes of one beside the others, which is the newest of a key, and how they are written. */
 #include "gsettings.h"
+#include "lent_value.h"
+#include "seen.h"
 
 #include <string.h>
-
-/* Normal forms of one type are alike where their bytes are. */
-static bool are_alike(const DconfdbEdit *one, const DconfdbEdit *other)
-{
-    if (!one->type || !other->type)
-        return one->type == other->type;
-    /* GLib has one text of a type that is in use. */
-    bool are_of_one_type = one->type == other->type || strcmp(one->type, other->type) == 0;
-    return one->size == other->size && are_of_one_type && memcmp(one->data, other->data, one->size) == 0;
-}
 
 /* The number of a key, as that edit of it has it which the set has; NO_KEY if no edit of it waits. */
 static size_t key_of(const Waiting *waiting, const Edit *edit)
@@ -39,13 +31,20 @@ static bool is_alone(const Edit *edit)
 
 static bool may_be_made(const Edit *edit, const DconfdbSnapshot *now, bool is_at_work)
 {
-    bool may = now && dconfdb_snapshot_is_writable(now, edit->path);
+    bool may = dconfdb_snapshot_is_writable(or_nothing(now), edit->path);
     return dconfdb_may_be_made((const uint8_t *)edit->path, strlen(edit->path), edit->value != NULL, is_at_work, may);
 }
 
 static bool is_stored(const Edit *edit, const DconfdbSnapshot *now)
 {
-    return now && dconfdb_snapshot_has_edit(now, &edit->asked);
+    return dconfdb_snapshot_has_edit(or_nothing(now), &edit->asked);
+}
+
+/* Whether an edit says what the newest one of its key says that waits, if there is one, or else what is stored, as the proved call has it. */
+static bool is_said(const Edit *edit, const Edit *waits, const DconfdbSnapshot *now)
+{
+    const DconfdbSaid said = {.says = waits != NULL, .is_same = waits && are_alike(waits->value, edit->value)};
+    return dconfdb_is_said(&said, 1, !waits && is_stored(edit, now));
 }
 
 /* What is known of an edit beside the newest one of its key that waits, or else beside the newest snapshot. */
@@ -53,7 +52,7 @@ static DconfdbNewEdit known_of(const Edit *edit, const Edit *waits, const Dconfd
 {
     return (DconfdbNewEdit){.sets = edit->value != NULL,
                             .may = may_be_made(edit, now, is_at_work),
-                            .is_same = waits ? are_alike(&waits->asked, &edit->asked) : is_stored(edit, now),
+                            .is_same = is_said(edit, waits, now),
                             .waits = waits != NULL,
                             .is_alone = waits && is_alone(waits),
                             .is_taken = waits && waits->change->is_taken};

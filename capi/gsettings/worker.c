@@ -1,8 +1,8 @@
 /* The thread that writes what waits, tells, and sees what others change. It has a main context of its own,
  * so that no handler of the program's runs in it. */
 #define _GNU_SOURCE
-#include "dconfdb_calls.h"
-#include "gsettings.h"
+#include "worker.h"
+
 #include "memory.h"
 #include "threads.h"
 
@@ -15,10 +15,6 @@
 #include <sys/eventfd.h>
 #include <time.h>
 #include <unistd.h>
-
-/* In microseconds: how long the program's end waits for a write, and for a lock; and how often it asks. */
-enum { LONGEST_END = 5000000, LONGEST_REST = 2000000, TICK = 5000 };
-enum { NANOSECONDS = 1000, MILLISECOND = 1000, SECOND = 1000000000 };
 
 static void tell_untold(DconfdbBackend *self)
 {
@@ -34,15 +30,28 @@ static void tell_untold(DconfdbBackend *self)
 
 /* ---- in the thread */
 
-/* Until it is woken, a file changes, or so many milliseconds have passed (-1: however many). */
-static void await(DconfdbBackend *self, int wait)
+/* The program closed what is waited for, or no memory is left: nothing that happens is heard. */
+static void rest_unheard(void)
+{
+    gint64 now = g_get_monotonic_time();
+    g_usleep((gulong)(after_a_fault(now) - now));
+}
+
+/* That it was woken; where nothing is to be read, it wasn't. */
+static void take_wakes(DconfdbBackend *self)
 {
     uint64_t count;
+    ssize_t taken = read(self->wakes, &count, sizeof count);
+    (void)taken;
+}
+
+void await(DconfdbBackend *self, int wait)
+{
     struct pollfd files[] = {{self->wakes, POLLIN, 0}, {watch_file(self), POLLIN, 0}};
     if (poll(files, 2, wait) < 0 || ((files[0].revents | files[1].revents) & POLLNVAL) != 0)
-        g_usleep(SECOND / NANOSECONDS); /* the program closed them, or no memory is left */
-    if (files[0].revents & POLLIN && read(self->wakes, &count, sizeof count) < 0)
-        return;
+        rest_unheard();
+    if (files[0].revents & POLLIN)
+        take_wakes(self);
     if (files[1].revents & POLLIN)
         watch_take(self);
 }
@@ -106,7 +115,7 @@ static void know_anew(DconfdbBackend *self, DconfdbRound *known)
 
 static void take_turn(DconfdbBackend *self, DconfdbRound *known, Turn *turn)
 {
-    *turn = turn_take(self, 0);
+    *turn = turn_take(self, &self->wait, true, 0);
     self->again = turn_next(self);
     known->has_asked = true;
     known->is_others = turn->fault == EWOULDBLOCK;
@@ -143,8 +152,7 @@ static void carry_out(DconfdbBackend *self, uint32_t task, DconfdbRound *known, 
     know_anew(self, known);
 }
 
-/* Does what is due, as the proved call says. False: the program ends, and nothing waits, or can be written. */
-static bool takes_turn(DconfdbBackend *self)
+bool takes_turn(DconfdbBackend *self)
 {
     DconfdbRound known = know_all(self);
     Turn turn = {NULL, 0};
@@ -197,7 +205,6 @@ static void *work(void *data)
 }
 
 /* ---- `lock` is held */
-
 
 static void see_to(DconfdbBackend *self, uint32_t task, DconfdbWriter *known)
 {
@@ -259,214 +266,4 @@ void worker_tells(DconfdbBackend *self, Notice *notice, bool is_news)
     g_mutex_unlock(&self->lock);
     if (!tells)
         notice_tell(self, notice);
-}
-
-/* ---- the end of the program, or of the backend: as the proved call says. What waits then is written, or it is told. */
-
-/* `lock` is held. */
-static void know_at_end(const DconfdbBackend *self, DconfdbWriter *known)
-{
-    known->has_thread = self->has_worker;
-    known->is_thread = worker_is_this(self);
-    known->is_let_go = g_atomic_int_get(&self->is_let_go);
-}
-
-/* `lock` is held. */
-static void count(const DconfdbBackend *self, DconfdbWriter *known)
-{
-    known->settled = self->waiting.tally.settled;
-    known->added = self->waiting.added;
-}
-
-/* Whatever takes warnings may be gone. */
-static void say_at_end(uint32_t task)
-{
-    static const char waits[] = "dconfdb: what was set last isn't on the disk yet\n";
-    static const char may_wait[] = "dconfdb: nobody knows whether what was set last is on the disk\n";
-    const char *words = task == DCONFDB_END_TELL ? waits : may_wait;
-    if (write(STDERR_FILENO, words, strlen(words)) < 0)
-        return;
-}
-
-/* The lock is had until then. */
-static bool counts_until(DconfdbBackend *self, DconfdbWriter *known, gint64 end)
-{
-    if (!mutex_lock_until(&self->lock, end))
-        return false;
-    count(self, known);
-    g_mutex_unlock(&self->lock);
-    return true;
-}
-
-/* ---- a moment of a wait, and what it shows */
-
-typedef void Passes(DconfdbBackend *self, DconfdbProgress *progress);
-
-/* Whether the thread has ended, or does so in a moment. */
-static void joins(DconfdbBackend *self, DconfdbProgress *progress)
-{
-    struct timespec end;
-    if (clock_gettime(CLOCK_REALTIME, &end) != 0)
-        return;
-    end.tv_nsec += TICK * NANOSECONDS;
-    end.tv_sec += end.tv_nsec / SECOND;
-    end.tv_nsec %= SECOND;
-    progress->settled = pthread_timedjoin_np(self->worker, NULL, &end) == 0;
-}
-
-/* The thread is another one's to wait for. */
-static void watches(DconfdbBackend *self, DconfdbProgress *progress)
-{
-    DconfdbWriter known = {.added = progress->added};
-    g_usleep(TICK);
-    counts_until(self, &known, g_get_monotonic_time() + TICK);
-    progress->added = known.added;
-    progress->settled = known.settled;
-    progress->failed = (uint64_t)g_atomic_int_get(&self->has_given_up);
-}
-
-/* exit() was called in the worker itself, by a handler of the program's that a warning came to: nobody else writes what waits. */
-static void does_rounds(DconfdbBackend *self, DconfdbProgress *progress)
-{
-    progress->settled = !takes_turn(self);
-    if (progress->settled == 0)
-        await(self, TICK / MILLISECOND);
-}
-
-/* Without `lock` nothing more is known of the thread than that it moves. */
-static void wait_by(DconfdbBackend *self, Passes *passes, DconfdbPatience *patience)
-{
-    gint64 now = g_get_monotonic_time();
-    DconfdbProgress progress = {.added = 1, .moved = (uint64_t)now};
-    DconfdbFileTime changed = patience->changed;
-    while (dconfdb_patience_goes_on(patience, &progress, &changed, (uint64_t)now)) {
-        passes(self, &progress);
-        changed = folder_written(self->place.folder);
-        now = g_get_monotonic_time();
-        if (g_atomic_int_get(&self->is_writing))
-            progress.moved = (uint64_t)now;
-    }
-}
-
-/* ---- the program's */
-
-static bool mark_exit(DconfdbBackend *self, DconfdbWriter *known)
-{
-    if (!mutex_lock_until(&self->lock, g_get_monotonic_time() + LONGEST_REST))
-        return false;
-    know_at_end(self, known);
-    self->has_ended = self->is_asked = true;
-    self->last_try = self->tries;
-    worker_wake(self);
-    g_mutex_unlock(&self->lock);
-    return true;
-}
-
-static bool carry_out_exit(DconfdbBackend *self, uint32_t task, DconfdbWriter *known, DconfdbPatience *patience)
-{
-    switch (task) {
-    case DCONFDB_END_MARK:
-        *patience = patience_of(self, LONGEST_END);
-        return mark_exit(self, known);
-    case DCONFDB_END_ROUNDS:
-        wait_by(self, does_rounds, patience);
-        return true;
-    case DCONFDB_END_JOIN:
-        wait_by(self, joins, patience);
-        return true;
-    case DCONFDB_END_WATCH:
-        wait_by(self, watches, patience);
-        return true;
-    case DCONFDB_END_COUNT:
-        return counts_until(self, known, g_get_monotonic_time() + TICK);
-    default:
-        say_at_end(task);
-        return true;
-    }
-}
-
-/* exit() may be called by a handler of a signal, amid anything that its thread does: in malloc(), say, or in
- * a lock that the worker then waits for. So nothing here waits without a bound, or takes memory. */
-void worker_end(DconfdbBackend *self)
-{
-    DconfdbWriter known = {.begun_in = (uint32_t)self->process, .process = (uint32_t)getpid(), .exits = true};
-    DconfdbPatience patience = {.each = 0};
-    uint32_t task = DCONFDB_WRITER_BEGINS;
-    bool yes = true;
-    while ((task = dconfdb_writer_after(DCONFDB_WRITER_END, task, yes, &known)) < DCONFDB_END_DONE)
-        yes = carry_out_exit(self, task, &known, &patience);
-}
-
-void worker_end_unseen(void)
-{
-    const DconfdbWriter known = {.exits = true};
-    uint32_t task = DCONFDB_END_COUNT;
-    while ((task = dconfdb_writer_after(DCONFDB_WRITER_END, task, false, &known)) < DCONFDB_END_DONE)
-        say_at_end(task);
-}
-
-/* ---- the backend's; `lock` is held, and let go of meanwhile */
-
-/* Until the thread is over, or a later write than these has failed. */
-static bool await_over(DconfdbBackend *self, guint64 tries)
-{
-    DconfdbPatience patience = patience_of(self, LONGEST_END);
-    while (patience_goes_on(&patience, self->is_over, 1, self->failed, tries))
-        g_cond_wait_until(&self->settles, &self->lock, (gint64)patience.end);
-    return self->is_over;
-}
-
-static void mark_let_go(DconfdbBackend *self, DconfdbWriter *known)
-{
-    know_at_end(self, known);
-    self->has_ended = self->is_asked = true;
-    g_atomic_int_set(&self->is_let_go, TRUE);
-    worker_wake(self);
-}
-
-/* It is over, and needs no lock any more. */
-static void take_away(DconfdbBackend *self)
-{
-    g_mutex_unlock(&self->lock);
-    bool is_gone = pthread_join(self->worker, NULL) == 0;
-    g_mutex_lock(&self->lock);
-    self->has_worker = !is_gone;
-}
-
-static bool carry_out_let_go(DconfdbBackend *self, uint32_t task, DconfdbWriter *known)
-{
-    switch (task) {
-    case DCONFDB_END_MARK:
-        mark_let_go(self, known);
-        return true;
-    case DCONFDB_END_AWAIT:
-        return await_over(self, self->tries);
-    case DCONFDB_END_LEAVE:
-        self->is_left = true;
-        g_object_ref(self);
-        return true;
-    case DCONFDB_END_REAP:
-        take_away(self);
-        return true;
-    case DCONFDB_END_COUNT:
-        count(self, known);
-        return true;
-    default:
-        g_mutex_unlock(&self->lock);
-        say_at_end(task);
-        g_mutex_lock(&self->lock);
-        return true;
-    }
-}
-
-bool worker_let_go(DconfdbBackend *self)
-{
-    DconfdbWriter known = {.begun_in = (uint32_t)self->process, .process = (uint32_t)getpid()};
-    uint32_t task = DCONFDB_WRITER_BEGINS;
-    bool yes = true;
-    g_mutex_lock(&self->lock);
-    while ((task = dconfdb_writer_after(DCONFDB_WRITER_END, task, yes, &known)) < DCONFDB_END_DONE)
-        yes = carry_out_let_go(self, task, &known);
-    g_mutex_unlock(&self->lock);
-    return task == DCONFDB_END_DONE;
 }

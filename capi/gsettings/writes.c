@@ -7,7 +7,7 @@
 
 /* In microseconds: how long g_settings_sync() waits; and how often who waits looks for turns of others. */
 enum { LONGEST_SYNC = 10000000 };
-enum { BETWEEN_TURNS = 500000, MILLISECOND = 1000 };
+enum { BETWEEN_TURNS = 500000 };
 
 static void warn_of_waiting(Notice *notice, const DconfdbError *fault)
 {
@@ -61,15 +61,9 @@ static gint64 write_in(DconfdbBackend *self, const Turn *turn, Notice *notice, b
 
 void store_settle(DconfdbBackend *self)
 {
-    Notice notice = {.faults = NULL};
+    Notice notice = {.is_to_settle = true};
     g_mutex_lock(&self->turn);
-    bool done = look(self, &notice);
-    g_mutex_lock(&self->lock);
-    bool is_any = done && waiting_settle(&self->waiting, self->now);
-    self->is_to_settle = self->is_to_settle || is_any;
-    if (is_any)
-        g_cond_broadcast(&self->settles);
-    g_mutex_unlock(&self->lock);
+    look(self, &notice);
     g_mutex_unlock(&self->turn);
     notice_tell(self, &notice);
 }
@@ -86,7 +80,7 @@ gint64 store_write(DconfdbBackend *self, const Turn *turn)
 {
     Notice notice = {.faults = NULL};
     gint64 again = write_in(self, turn, &notice, true);
-    turn_give(self);
+    turn_give(&self->wait);
     notice_tell(self, &notice);
     return again;
 }
@@ -95,26 +89,15 @@ gint64 store_write(DconfdbBackend *self, const Turn *turn)
 
 typedef struct {
     bool is_worker;
-    FolderLock lock;
-    Turn turn; /* EWOULDBLOCK: it isn't had */
+    Wait **at, *other; /* the worker's, which may be in line; or the other, of this call alone */
+    Turn turn;         /* EWOULDBLOCK: it isn't had */
 } OwnTurn;
 
-/* It waits for others until then. Only the worker is in line from then on. */
-static void take_own(DconfdbBackend *self, OwnTurn *own, gint64 end)
+/* Who has waited in vain stays in line, if it is. */
+static void give_own(OwnTurn *own)
 {
-    gint64 left = MAX(end - g_get_monotonic_time(), 0);
-    if (own->is_worker)
-        own->turn = turn_take(self, end);
-    else
-        own->turn = (Turn){&own->lock, folder_lock(self->place.folder, (int)(left / MILLISECOND), &own->lock)};
-}
-
-static void give_own(DconfdbBackend *self, OwnTurn *own)
-{
-    if (own->is_worker && own->turn.fault != EWOULDBLOCK)
-        turn_leave(self);
-    else if (own->turn.fault == 0)
-        folder_unlock(&own->lock);
+    if (own->turn.fault != EWOULDBLOCK)
+        turn_give(own->at);
     own->turn.fault = EWOULDBLOCK;
 }
 
@@ -122,7 +105,7 @@ static void write_alone(DconfdbBackend *self, OwnTurn *own)
 {
     Notice notice = {.faults = NULL};
     write_in(self, &own->turn, &notice, false);
-    give_own(self, own);
+    give_own(own);
     notice_tell(self, &notice);
 }
 
@@ -133,7 +116,7 @@ static void carry_out_alone(DconfdbBackend *self, uint32_t task, DconfdbRound *k
         store_settle(self);
         break;
     case DCONFDB_ROUND_TAKE:
-        take_own(self, own, end);
+        own->turn = turn_take(self, own->at, own->is_worker, end);
         known->has_asked = true;
         known->is_others = own->turn.fault == EWOULDBLOCK;
         break;
@@ -153,14 +136,18 @@ void store_write_alone(DconfdbBackend *self, gint64 end)
 {
     DconfdbRound known = {.again = 0};
     OwnTurn own = {.turn = {NULL, EWOULDBLOCK}};
+    own.at = &own.other;
     uint32_t task = DCONFDB_ROUND_BEGINS;
     g_mutex_lock(&self->lock);
     own.is_worker = worker_is_this(self);
     know_before_write(self, &known);
     g_mutex_unlock(&self->lock);
+    if (own.is_worker)
+        own.at = &self->wait;
     while ((task = dconfdb_round_after(task, &known)) < DCONFDB_ROUND_RESTS)
         carry_out_alone(self, task, &known, &own, end);
-    give_own(self, &own);
+    give_own(&own);
+    turn_give(&own.other);
 }
 
 /* Where one that failed is to be made again later. */
@@ -259,6 +246,8 @@ bool store_sync(DconfdbBackend *self)
     Sync sync = {.begun = (guint)g_atomic_int_get(&self->looks_begun), .patience = patience_of(self, LONGEST_SYNC)};
     uint32_t task = DCONFDB_WRITER_BEGINS;
     bool yes = true, has_turn = false;
+    sync.known.begun_in = (uint32_t)self->process;
+    sync.known.process = (uint32_t)getpid();
     g_mutex_lock(&self->lock);
     sync.tries = self->tries;
     sync.known.sync = (DconfdbSync){.has_writer = self->has_worker && !worker_is_this(self),

@@ -86,11 +86,12 @@ static void finds_writer(void)
 {
     enum { A_STORE = 32, ENDED = 64, THREAD = 128, WAKE = 256, LINE = 512, WANTED = 1024, NEWS = 2048, OWED = 4096, EXITS = 8192, ITSELF = 16384,
            GONE = 32768 };
-    const AskedOf need = {0, 0, true}, line = {1, 0, true}, end = {2, 0, true}, marked = {2, 1, true}, counted = {2, 8, true}, waited = {3, 3, true};
+    const AskedOf need = {0, 0, true}, line = {1, 0, true}, sync = {3, 0, true}, end = {2, 0, true}, marked = {2, 1, true}, counted = {2, 8, true}, waited = {3, 3, true};
     is_so(written_by(need, 0, 0, 0, 0) == 5 && written_by(need, 0, 0, 0, WANTED | A_STORE) == 1, "DconfdbWriter");
     is_so(written_by(need, 0, 0, 0, WANTED | A_STORE | WAKE) == 2 && written_by(need, 0, 0, 1, WANTED | A_STORE | WAKE) == 5, "DconfdbWriter");
     is_so(written_by(need, 0, 0, 0, WANTED | A_STORE | WAKE | ENDED) == 5 && written_by(need, 0, 0, 0, THREAD | NEWS) == 3, "DconfdbWriter");
-    is_so(written_by(need, 0, 0, 0, OWED) == 4 && written_by(line, 0, 0, 0, LINE) == 3 && written_by(line, 0, 0, 0, 0) == 1, "DconfdbWriter");
+    is_so(written_by(need, 0, 0, 0, OWED) == 4 && written_by(line, 0, 0, 0, LINE) == 4 && written_by(line, 0, 0, 0, ITSELF) == 1, "DconfdbWriter");
+    is_so(written_by(line, 0, 0, 0, LINE | ITSELF) == 3 && written_by(sync, 0, 0, 0, 0) == 2 && written_by(sync, 0, 0, 1, 0) == 7, "DconfdbWriter");
     is_so(written_by(end, 0, 0, 0, EXITS) == 1 && written_by(end, 0, 0, 1, EXITS) == 11 && written_by(end, 0, 0, 1, 0) == 1, "DconfdbWriter");
     is_so(written_by(marked, 0, 0, 0, EXITS | THREAD) == 3 && written_by(marked, 0, 0, 0, EXITS | THREAD | ITSELF) == 2, "DconfdbWriter");
     is_so(written_by(marked, 0, 0, 0, EXITS | THREAD | GONE) == 4 && written_by(marked, 0, 0, 0, THREAD) == 5, "DconfdbWriter");
@@ -128,27 +129,29 @@ static void finds_sync(void)
 }
 
 enum { GLANCE_FIRST = 0, GLANCE_SECOND = 4, GLANCE_FLAGS = 8, GLANCE_IS_OPEN = 8, GLANCE_IS_DONE = 9, GLANCE_IS_SHOWN = 10,
-       GLANCE_IS_OTHER = 11, GLANCE_WAITS = 12, GLANCE_HAS_SAME_FILES = 13, GLANCE_IS_BARRED = 14, GLANCE_IS_AMID = 15, GLANCE = 16 };
+       GLANCE_IS_OTHER = 11, GLANCE_WAITS = 12, GLANCE_HAS_SAME_FILES = 13, GLANCE_IS_BARRED = 14, GLANCE_IS_AMID = 15,
+       GLANCE_IS_LATE = 16, GLANCE_IS_TO_SETTLE = 17, GLANCE = 20 };
 
 static bool is_next(uint32_t task, uint32_t first, uint32_t second, unsigned fields, uint32_t next)
 {
     _Alignas(16) uint8_t known[GLANCE] = {0};
     memcpy(known + GLANCE_FIRST, &first, NUMBER);
     memcpy(known + GLANCE_SECOND, &second, NUMBER);
-    for (int i = 0; i < GLANCE_IS_AMID + 1 - GLANCE_FLAGS; i++)
+    for (int i = 0; i < GLANCE_IS_TO_SETTLE + 1 - GLANCE_FLAGS; i++)
         known[GLANCE_FLAGS + i] = fields >> i & 1;
     return dconfdb_glance_after(task, known) == next;
 }
 
 static void finds_glance(void)
 {
-    enum { IS_OPEN = 1, IS_DONE = 2, IS_SHOWN = 4, IS_OTHER = 8, SETS_WAIT = 16, SAME_FILES = 32, BARRED = 64, AMID = 128 };
+    enum { IS_OPEN = 1, IS_DONE = 2, IS_SHOWN = 4, IS_OTHER = 8, SETS_WAIT = 16, SAME_FILES = 32, BARRED = 64, AMID = 128, LATE = 256, SETTLES = 512 };
     is_so(is_next(0, 0, 0, 0, 2) && is_next(0, 0, 0, IS_OPEN, 1) && is_next(0, 2, 0, IS_OPEN, 3), "DconfdbGlance");
     is_so(is_next(0, 2, 1, IS_OPEN, 2) && is_next(1, 0, 0, IS_OPEN | IS_DONE, 4), "DconfdbGlance");
-    is_so(is_next(1, 0, 0, IS_OPEN | IS_DONE | IS_SHOWN, 7) && is_next(1, 0, 0, IS_OPEN | IS_SHOWN, 4), "DconfdbGlance");
-    is_so(is_next(4, 0, 0, IS_OTHER, 8) && is_next(4, 0, 0, SETS_WAIT, 8) && is_next(4, 0, 0, IS_OTHER | SETS_WAIT, 5), "DconfdbGlance");
-    is_so(is_next(5, 2, 0, IS_OPEN | IS_DONE, 6) && is_next(5, 2, 0, IS_OPEN | IS_DONE | SAME_FILES, 7), "DconfdbGlance");
-    is_so(is_next(0, 0, 0, BARRED, 8) && is_next(0, 0, 0, BARRED | AMID, 4) && is_next(0, 0, 0, AMID, 2), "DconfdbGlance");
+    is_so(is_next(1, 0, 0, IS_OPEN | IS_DONE | IS_SHOWN, 9) && is_next(1, 0, 0, IS_OPEN | IS_SHOWN, 4), "DconfdbGlance");
+    is_so(is_next(4, 0, 0, IS_OTHER, 10) && is_next(4, 0, 0, SETS_WAIT, 10) && is_next(4, 0, 0, IS_OTHER | SETS_WAIT, 5), "DconfdbGlance");
+    is_so(is_next(5, 2, 0, IS_OPEN | IS_DONE, 6) && is_next(5, 2, 0, IS_OPEN | IS_DONE | SAME_FILES, 9), "DconfdbGlance");
+    is_so(is_next(6, 0, 0, IS_DONE | SETTLES, 7) && is_next(6, 0, 0, SETTLES, 10), "DconfdbGlance");
+    is_so(is_next(0, 0, 0, BARRED, 8) && is_next(0, 0, 0, BARRED | LATE, 10) && is_next(0, 0, 0, BARRED | AMID, 4) && is_next(0, 0, 0, AMID, 2), "DconfdbGlance");
     lies("DconfdbGlance", "first", GLANCE_FIRST, NUMBER);
     lies("DconfdbGlance", "second", GLANCE_SECOND, NUMBER);
     lies("DconfdbGlance", "is_open", GLANCE_IS_OPEN, FLAG);
@@ -159,6 +162,8 @@ static void finds_glance(void)
     lies("DconfdbGlance", "has_same_files", GLANCE_HAS_SAME_FILES, FLAG);
     lies("DconfdbGlance", "is_barred", GLANCE_IS_BARRED, FLAG);
     lies("DconfdbGlance", "is_amid", GLANCE_IS_AMID, FLAG);
+    lies("DconfdbGlance", "is_late", GLANCE_IS_LATE, FLAG);
+    lies("DconfdbGlance", "is_to_settle", GLANCE_IS_TO_SETTLE, FLAG);
     printf("TAKES(DconfdbGlance, %d);\n", GLANCE);
 }
 

@@ -344,6 +344,17 @@ static DConfChangeset *unless_empty(DConfChangeset *self)
     return NULL;
 }
 
+/* Puts, of each path that this one has, what the other database has, if that makes a difference to the first. */
+static void put_differences(DConfChangeset *from, DConfChangeset *to, DConfChangeset *of, DConfChangeset *found)
+{
+    GTreeNode *at = NULL;
+    Row row;
+    while (next_row(of, &at, &row)) {
+        row.value = g_tree_lookup(to->rows, row.path);
+        put_if_differs(from, found, &row);
+    }
+}
+
 DConfChangeset *dconf_changeset_filter_changes(DConfChangeset *base, DConfChangeset *changes)
 {
     GTreeNode *at = NULL;
@@ -356,24 +367,13 @@ DConfChangeset *dconf_changeset_filter_changes(DConfChangeset *base, DConfChange
     return unless_empty(found);
 }
 
-/* The change that makes all that is in the first one what is in the other. */
-static DConfChangeset *change_between(DConfChangeset *from, DConfChangeset *to)
-{
-    GTreeNode *at = NULL;
-    Row row;
-    DConfChangeset *all = new_of(FALSE);
-    while (next_row(from, &at, &row))
-        dconf_changeset_set(all, row.path, NULL);
-    for (at = NULL; next_row(to, &at, &row);)
-        dconf_changeset_set(all, row.path, row.value);
-    return all;
-}
-
 DConfChangeset *dconf_changeset_diff(DConfChangeset *from, DConfChangeset *to)
 {
     g_return_val_if_fail (from != NULL && to != NULL, NULL);
     g_return_val_if_fail (from->is_database, NULL);
     g_return_val_if_fail (to->is_database, NULL);
-    g_autoptr(DConfChangeset) all = change_between(from, to);
-    return dconf_changeset_filter_changes(from, all);
+    DConfChangeset *found = new_of(FALSE);
+    put_differences(from, to, from, found);
+    put_differences(from, to, to, found);
+    return unless_empty(found);
 }

@@ -76,7 +76,7 @@ gchar **dconf_client_list(DConfClient *client, const gchar *dir, gint *length)
     g_return_val_if_fail (DCONF_IS_CLIENT (client), NULL);
     g_return_val_if_fail (dir != NULL, NULL);
     DconfdbSnapshot *now = engine_current(client->engine);
-    char *names = now ? dconfdb_snapshot_list(now, dir, NULL, NULL) : NULL;
+    char *names = dconfdb_snapshot_list(or_nothing(now), dir, NULL, NULL);
     dconfdb_snapshot_unref(now);
     return array_of(names, length);
 }
@@ -91,8 +91,8 @@ gchar **dconf_client_list_locks(DConfClient *client, const gchar *dir, gint *len
 {
     g_return_val_if_fail (DCONF_IS_CLIENT (client), NULL);
     g_return_val_if_fail (dconf_is_dir (dir, NULL), NULL);
-    DconfdbSnapshot *current = engine_current(client->engine), *now = current ? current : snapshot_new(0, false);
-    char *locks = now ? snapshot_listed(lists_closed, now, dir, dir, NULL, NULL) : NULL;
+    DconfdbSnapshot *now = engine_current(client->engine);
+    char *locks = snapshot_listed(lists_closed, or_nothing(now), dir, dir, NULL, NULL);
     dconfdb_snapshot_unref(now);
     return array_of(locks, length);
 }

@@ -1,6 +1,8 @@
 /* The edits of a set of changes, and what is known of each. */
 #include "writes.h"
 
+#include "seen.h"
+
 #include <string.h>
 
 static DconfdbEdit edit_of(const gchar *path, GVariant *value)
@@ -39,7 +41,7 @@ void edits_clear(Edits *self)
 
 DconfdbNewEdit known_by_rights(const DconfdbEdit *edit, bool has_user, const DconfdbSnapshot *now)
 {
-    bool sets = edit->type != NULL, may = now && dconfdb_snapshot_is_writable(now, edit->path);
+    bool sets = edit->type != NULL, may = dconfdb_snapshot_is_writable(or_nothing(now), edit->path);
     may = dconfdb_may_be_made((const uint8_t *)edit->path, strlen(edit->path), sets, has_user, may);
     return (DconfdbNewEdit){.sets = sets, .may = may};
 }
@@ -50,7 +52,7 @@ DconfdbNewEdit *known_of(const Edits *self, bool has_user, const DconfdbSnapshot
     for (guint at = 0; at < self->edits->len; at++) {
         const DconfdbEdit *edit = edit_at(self, at);
         known[at] = known_by_rights(edit, has_user, now);
-        known[at].is_same = now && dconfdb_snapshot_has_edit(now, edit);
+        known[at].is_same = dconfdb_snapshot_has_edit(or_nothing(now), edit);
     }
     return known;
 }

@@ -2,6 +2,8 @@
 #define _GNU_SOURCE
 #include "writes.h"
 
+#include "lent_value.h"
+#include "seen.h"
 #include "threads.h"
 
 #include <string.h>
@@ -123,7 +125,7 @@ static DconfdbSaid said_of(DConfChangeset *set, const gchar *path, GVariant *val
     if (!set)
         return (DconfdbSaid){.says = false};
     bool says = dconf_changeset_get(set, path, &found);
-    return (DconfdbSaid){says, found && value ? g_variant_equal(found, value) : found == value, has_value_below(set, path)};
+    return (DconfdbSaid){says, are_alike(found, value), has_value_below(set, path)};
 }
 
 /* `lock` is held. Whether the user has that already, or will have once what waits is written. */
@@ -145,7 +147,7 @@ static uint32_t entry_of(Engine *self, bool has_user, const DconfdbSnapshot *now
         g_autoptr(GVariant) value = NULL;
         dconf_changeset_get(changes, edit->path, &value);
         known[at] = known_by_rights(edit, has_user, now);
-        known[at].is_same = now && is_redundant(self, now, edit, value);
+        known[at].is_same = is_redundant(self, or_nothing(now), edit, value);
     }
     bool is_there;
     return dconfdb_entry(known, edits->edits->len, &is_there);

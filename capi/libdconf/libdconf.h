@@ -35,7 +35,7 @@ typedef struct {
     DConfChangeset *waiting; /* fast changes that nobody writes yet; NULL: none */
     DConfChangeset *flying;  /* fast changes that a thread writes */
     GHashTable *moments;     /* of each path in the two when it was asked for last */
-    GQueue line;             /* the same, what was asked for first is the first */
+    uint64_t asked;          /* how often one was */
     DConfChangeset *writing; /* what a thread writes, fast or not */
     gboolean is_busy;        /* its file is being replaced: nobody looks at the files, which would wait for the disk */
     gboolean is_to_look;     /* somebody wanted to, meanwhile */

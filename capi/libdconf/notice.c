@@ -26,28 +26,27 @@ static void catch_up(void)
         its->all();
 }
 
-/* What is told next, as the proved call has it. */
-static uint32_t next_list(DconfdbTelling *telling)
+static void carry_out(uint32_t list, DConfClient *client, const Notice *notice)
 {
-    telling->is_between = true;
-    telling->list = dconfdb_tell_next(telling);
-    telling->is_between = false;
-    return telling->list;
+    switch (list) {
+    case DCONFDB_TELL_CATCH_UP:
+        catch_up();
+        break;
+    case DCONFDB_TELL_RIGHTS:
+        g_signal_emit_by_name(client, "writability-changed", notice->path);
+        break;
+    default: /* DCONFDB_TELL_VALUES */
+        g_signal_emit_by_name(client, "changed", notice->path, notice->changes, notice->tag);
+    }
 }
 
 static gboolean emit(gpointer data)
 {
     const Notice *notice = data;
-    DconfdbTelling telling = {.is_other = true, .has_rights = notice->is_of_rights};
+    DconfdbTelling telling = {.is_other = true, .has_rights = notice->is_of_rights, .is_of_files = !notice->is_new};
     DConfClient *client = g_weak_ref_get(&notice->engine->client);
-    if (!notice->is_new)
-        catch_up();
-    while (client && next_list(&telling) != DCONFDB_TELL_OVER) {
-        if (telling.list == DCONFDB_TELL_RIGHTS)
-            g_signal_emit_by_name(client, "writability-changed", notice->path);
-        else
-            g_signal_emit_by_name(client, "changed", notice->path, notice->changes, notice->tag);
-    }
+    while (client && tell_next_list(&telling) != DCONFDB_TELL_OVER)
+        carry_out(telling.list, client, notice);
     g_clear_object(&client);
     return G_SOURCE_REMOVE;
 }
@@ -145,18 +144,26 @@ static void add_own(const Own *own, DConfChangeset *changes, const DconfdbSnapsh
     }
 }
 
+/* What others changed, and what is told of that. */
+typedef struct {
+    Engine *engine;
+    DconfdbSnapshot *before, *now;
+    DConfChangeset *own;
+} Others;
+
 /* The keys that are seen otherwise beside what this client changes. False: no memory is left. */
-static bool changed_by_others(Told *told, const DconfdbSnapshot *before, const DconfdbSnapshot *now, DConfChangeset *changes)
+static bool finds_changed(const void *it, Told *told)
 {
+    const Others *others = it;
     Own own = {g_array_new(FALSE, FALSE, sizeof(DconfdbEdit)), g_ptr_array_new_with_free_func(free)};
-    if (changes)
-        add_own(&own, changes, before, now);
+    if (others->own)
+        add_own(&own, others->own, others->before, others->now);
     SeenKey *keys = g_new(SeenKey, own.edits->len);
     for (guint i = 0; i < own.edits->len; i++) {
         const DconfdbEdit *edit = &g_array_index(own.edits, DconfdbEdit, i);
         keys[i] = (SeenKey){edit->path, NULL, edit, edit};
     }
-    bool is = seen_otherwise(told, before, now, keys, own.edits->len, NULL);
+    bool is = seen_otherwise(told, others->before, others->now, keys, own.edits->len, NULL);
     g_free(keys);
     g_array_unref(own.edits);
     g_ptr_array_unref(own.paths);
@@ -174,8 +181,9 @@ static void send_writable_of(Engine *self, const char *path)
 }
 
 /* All in one notice, if somebody listens to what they begin with. */
-static void send_changed(Engine *self, DconfdbTelling *telling, const char *paths)
+static void send_changed(const void *it, DconfdbTelling *telling, const char *paths)
 {
+    Engine *self = ((const Others *)it)->engine;
     const gchar *prefix = "";
     DConfChangeset *changed = dconf_changeset_new();
     for (const char *at = paths; *at; at += strlen(at) + 1)
@@ -192,8 +200,9 @@ static void send_changed(Engine *self, DconfdbTelling *telling, const char *path
 }
 
 /* Keys, and directories as a whole, of which it changed whether they may be written: their values may be others, too. */
-static void send_writable(Engine *self, DconfdbTelling *telling, const char *paths)
+static void send_writable(const void *it, DconfdbTelling *telling, const char *paths)
 {
+    Engine *self = ((const Others *)it)->engine;
     telling->has_path = true;
     for (const char *at = paths; telling->has_path; at += strlen(at) + 1) {
         telling->has_path = *at != 0;
@@ -206,43 +215,18 @@ static void send_writable(Engine *self, DconfdbTelling *telling, const char *pat
     }
 }
 
-/* What others changed, and what is told of that. */
-typedef struct {
-    DconfdbSnapshot *before, *now;
-    DConfChangeset *own;
-} Others;
-
-static bool is_found(Told *told, uint32_t list, const Others *others)
-{
-    if (list == DCONFDB_TELL_RIGHTS)
-        return seen_relocked(told, others->before, others->now, NULL);
-    return changed_by_others(told, others->before, others->now, others->own);
-}
-
 /* Without a snapshot before, all that is there is told, and that it may be written. Without memory all is. */
-static void send_list(Engine *self, DconfdbTelling *telling, const Others *others)
-{
-    Told told;
-    telling->is_found = is_found(&told, telling->list, others);
-    const char *paths = telling->is_found ? told.paths : "";
-    if (telling->list == DCONFDB_TELL_RIGHTS)
-        send_writable(self, telling, paths);
-    else
-        send_changed(self, telling, paths);
-    if (telling->is_found)
-        seen_free(&told);
-}
-
 void notice_others(Engine *self)
 {
+    static const Teller teller = {finds_changed, send_writable, send_changed};
     g_mutex_lock(&self->lock);
-    Others others = {self->told, self->source && self->store ? dconfdb_store_snapshot(self->store) : NULL,
+    Others others = {self, self->told, self->source && self->store ? dconfdb_store_snapshot(self->store) : NULL,
                      self->writing ? dconf_changeset_ref(self->writing) : NULL};
     self->told = others.now ? dconfdb_snapshot_ref(others.now) : NULL;
     g_mutex_unlock(&self->lock);
     DconfdbTelling telling = {.is_other = others.now && others.before != others.now, .has_rights = true};
-    while (next_list(&telling) != DCONFDB_TELL_OVER)
-        send_list(self, &telling, &others);
+    while (tell_next_list(&telling) != DCONFDB_TELL_OVER)
+        tell_list(&teller, &others, others.before, others.now, &telling);
     g_clear_pointer(&others.own, dconf_changeset_unref);
     dconfdb_snapshot_unref(others.before);
     dconfdb_snapshot_unref(others.now);

@@ -9,23 +9,30 @@
 
 /* ---- when it was asked for */
 
-/* A path of what waits, and when it was asked for last, by order_clock(). */
+/* A path of what waits, and when it was asked for last. */
 typedef struct {
-    GList link; /* in the line; its data is this */
-    uint64_t when;
+    uint64_t when;   /* by order_clock() */
+    uint64_t number; /* of all that was asked for: greater than that of what was asked for before */
+    uint64_t change; /* the same of all paths of a change, and of no others */
     gchar path[];
 } Moment;
 
+static void ask(Engine *self, Moment *moment, uint64_t when, uint64_t change)
+{
+    moment->when = when;
+    moment->change = change;
+    moment->number = ++self->asked;
+}
+
+/* `lock` is held, as of what follows. A path for which nobody has asked is asked for now. */
 static Moment *moment_of(Engine *self, const gchar *path)
 {
     Moment *moment = g_hash_table_lookup(self->moments, path);
-    if (moment) {
-        g_queue_unlink(&self->line, &moment->link);
+    if (moment)
         return moment;
-    }
     size_t size = strlen(path) + 1;
-    moment = g_malloc0(sizeof *moment + size);
-    moment->link.data = moment;
+    moment = g_malloc(sizeof *moment + size);
+    ask(self, moment, order_clock(), self->asked + 1);
     memcpy(moment->path, path, size);
     g_hash_table_insert(self->moments, moment->path, moment);
     return moment;
@@ -33,77 +40,77 @@ static Moment *moment_of(Engine *self, const gchar *path)
 
 void ask_now(Engine *self, const Edits *edits)
 {
-    uint64_t now = order_clock();
-    for (guint at = 0; at < edits->edits->len; at++) {
-        Moment *moment = moment_of(self, edit_at(edits, at)->path);
-        moment->when = now;
-        g_queue_push_tail_link(&self->line, &moment->link);
-    }
+    uint64_t now = order_clock(), change = self->asked + 1;
+    for (guint at = 0; at < edits->edits->len; at++)
+        ask(self, moment_of(self, edit_at(edits, at)->path), now, change);
 }
 
-/* `lock` is held. */
 static void forget_moments(Engine *self)
 {
-    g_queue_init(&self->line);
     g_hash_table_remove_all(self->moments);
 }
 
 /* ---- the order in which it is made */
 
-/* The edits, what was asked for first is the first, and in byte order what was in one moment; each has its number. */
+/* The edits in the order in which they were asked for, and in byte order those of a change; each has its number. */
 typedef struct {
     GArray *times, *resets; /* of DconfdbTime; `resets` are those of directories */
+    GArray *changes;        /* of each time which change it is of */
 } Timed;
 
-static void add_time(const Timed *timed, const Edits *edits, guint number, uint64_t when)
+static void add_time(const Timed *timed, const Edits *edits, guint number, const Moment *moment)
 {
     const gchar *path = edit_at(edits, number)->path;
-    DconfdbTime time = {{(const uint8_t *)path, strlen(path)}, when, number};
+    DconfdbTime time = {{(const uint8_t *)path, strlen(path)}, moment->when, number};
     g_array_append_val(timed->times, time);
+    g_array_append_val(timed->changes, moment->change);
     if (dconf_is_dir(path, NULL))
         g_array_append_val(timed->resets, time);
 }
 
-/* The number of each path's edit, and one more. */
-static GHashTable *numbers_of(const Edits *edits)
+/* Their numbers, in the order that the proved call puts changes in: of each path it is as if its edit were one. */
+static DconfdbWaiter *line_of(Engine *self, const Edits *edits)
 {
-    GHashTable *numbers = g_hash_table_new(g_str_hash, g_str_equal);
-    for (guint at = 0; at < edits->edits->len; at++)
-        g_hash_table_insert(numbers, (gpointer)edit_at(edits, at)->path, GUINT_TO_POINTER(at + 1));
-    return numbers;
+    guint count = edits->edits->len;
+    DconfdbWaiter *line = g_new(DconfdbWaiter, count + 1);
+    DconfdbTally tally = {0, 0};
+    for (guint at = 0; at < count; at++)
+        line[at] = (DconfdbWaiter){.change = at, .set = moment_of(self, edit_at(edits, at)->path)->number};
+    dconfdb_waiting_line(line, count, false, &tally);
+    return line;
 }
 
-/* What is in no line, of which there is nothing, would count as set now. */
 static Timed timed_of(Engine *self, const Edits *edits)
 {
     guint count = edits->edits->len;
-    g_autoptr(GHashTable) numbers = numbers_of(edits);
-    Timed timed = {g_array_sized_new(FALSE, FALSE, sizeof(DconfdbTime), count + 1), g_array_sized_new(FALSE, FALSE, sizeof(DconfdbTime), 1)};
+    Timed timed = {g_array_sized_new(FALSE, FALSE, sizeof(DconfdbTime), count + 1), g_array_sized_new(FALSE, FALSE, sizeof(DconfdbTime), 1),
+                   g_array_sized_new(FALSE, FALSE, sizeof(uint64_t), count + 1)};
     g_mutex_lock(&self->lock);
-    for (const GList *at = self->line.head; at; at = at->next) {
-        const Moment *moment = at->data;
-        guint number = GPOINTER_TO_UINT(g_hash_table_lookup(numbers, moment->path));
-        if (number > 0)
-            add_time(&timed, edits, number - 1, moment->when);
-    }
-    for (guint number = 0; number < count; number++) {
-        if (!g_hash_table_contains(self->moments, edit_at(edits, number)->path))
-            add_time(&timed, edits, number, UINT64_MAX);
-    }
+    g_autofree DconfdbWaiter *line = line_of(self, edits);
+    for (guint at = 0; at < count; at++)
+        add_time(&timed, edits, (guint)line[at].change, moment_of(self, edit_at(edits, (guint)line[at].change)->path));
     g_mutex_unlock(&self->lock);
     return timed;
 }
 
-/* The first time behind those of the same moment. */
-static guint end_of(const DconfdbTime *times, guint first, guint count)
+static void timed_end(const Timed *timed)
 {
+    g_array_unref(timed->times);
+    g_array_unref(timed->resets);
+    g_array_unref(timed->changes);
+}
+
+/* The first time behind those of the same change. */
+static guint end_of(const Timed *timed, guint first)
+{
+    const uint64_t *changes = (const uint64_t *)(gpointer)timed->changes->data;
     guint end = first;
-    while (end < count && times[end].when == times[first].when)
+    while (end < timed->changes->len && changes[end] == changes[first])
         end++;
     return end;
 }
 
-/* Those of a change were asked for in one moment: all of them are made, or none. */
+/* Those of a change are made, or none. */
 static Batch batch_of(Engine *self, const Edits *edits)
 {
     Timed timed = timed_of(self, edits);
@@ -111,13 +118,12 @@ static Batch batch_of(Engine *self, const Edits *edits)
     guint count = timed.times->len;
     Batch batch = batch_new(count);
     for (guint first = 0, end; first < count; first = end) {
-        end = end_of(times, first, count);
+        end = end_of(&timed, first);
         uint64_t moment = dconfdb_moment_beside(times + first, end - first, resets, timed.resets->len, times[first].when);
         for (guint at = first; at < end; at++)
             batch_add(&batch, edit_at(edits, (guint)times[at].value), moment, first, false);
     }
-    g_array_unref(timed.times);
-    g_array_unref(timed.resets);
+    timed_end(&timed);
     return batch;
 }
 

@@ -62,12 +62,11 @@ static uint32_t lists_relocked(const DconfdbSnapshot *after, const void *of, uin
                             have_others_in_common(before, after), room, room_len, len);
 }
 
-/* Before there is a snapshot nothing is seen, and nothing may be written. */
-static const DconfdbSnapshot *or_nothing(const DconfdbSnapshot *snapshot)
+const DconfdbSnapshot *seen_nothing(void)
 {
     static DconfdbLayer no_layer = DCONFDB_EMPTY_LAYER;
     static const DconfdbSnapshot nothing = {.references = 1, .layers = &no_layer};
-    return snapshot ? snapshot : &nothing;
+    return &nothing;
 }
 
 /* What is told mostly is little: then the proved calls have their memory on the stack, too. */
@@ -112,6 +111,28 @@ void seen_free(Told *told)
 {
     if (told->paths != told->few)
         free(told->paths);
+}
+
+uint32_t tell_next_list(DconfdbTelling *telling)
+{
+    telling->is_between = true;
+    telling->list = dconfdb_tell_next(telling);
+    telling->is_between = false;
+    return telling->list;
+}
+
+void tell_list(const Teller *teller, const void *it, const DconfdbSnapshot *before, const DconfdbSnapshot *after, DconfdbTelling *telling)
+{
+    Told told;
+    bool is_of_rights = telling->list == DCONFDB_TELL_RIGHTS;
+    telling->is_found = is_of_rights ? seen_relocked(&told, before, after, NULL) : teller->finds(it, &told);
+    const char *paths = telling->is_found ? told.paths : "";
+    if (is_of_rights)
+        teller->sends_rights(it, telling, paths);
+    else
+        teller->sends_values(it, telling, paths);
+    if (telling->is_found)
+        seen_free(&told);
 }
 
 bool paths_meet(const char *one, const char *other)

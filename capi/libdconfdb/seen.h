@@ -3,6 +3,7 @@
 #define SEEN_H
 
 #include "dconfdb.h"
+#include "dconfdb_calls.h"
 
 #include <stdbool.h>
 #include <stddef.h>
@@ -29,6 +30,27 @@ bool seen_otherwise(Told *told, const DconfdbSnapshot *before, const DconfdbSnap
 bool seen_relocked(Told *told, const DconfdbSnapshot *before, const DconfdbSnapshot *after, DconfdbError *error);
 
 void seen_free(Told *told);
+
+/* Who tells what is seen otherwise: how the values are found, and how the paths of a list are sent, as dconfdb_tell_next has it. */
+typedef struct {
+    bool (*finds)(const void *it, Told *told);
+    void (*sends_rights)(const void *it, DconfdbTelling *telling, const char *paths);
+    void (*sends_values)(const void *it, DconfdbTelling *telling, const char *paths);
+} Teller;
+
+/* The list that comes next, as the proved call has it. */
+uint32_t tell_next_list(DconfdbTelling *telling);
+
+/* Finds that list, of rights or of values, and sends it. */
+void tell_list(const Teller *teller, const void *it, const DconfdbSnapshot *before, const DconfdbSnapshot *after, DconfdbTelling *telling);
+
+/* What is seen where there is no snapshot: nothing is, and nothing may be written. */
+const DconfdbSnapshot *seen_nothing(void);
+
+static inline const DconfdbSnapshot *or_nothing(const DconfdbSnapshot *snapshot)
+{
+    return snapshot ? snapshot : seen_nothing();
+}
 
 /* Whether a path may be written, a key's or all that is below a directory: somebody may write (`is_open`), there is a user's database, and no lock
  * covers it. `snapshot` may be NULL: then nothing may. Without memory it may not, but a key that may takes none. */

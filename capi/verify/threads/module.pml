@@ -97,13 +97,18 @@ inline look() {
 }
 inline store_look() { TAKE(TURN); look(); GIVE(TURN); notice_tell() }
 inline look_quietly() { look(); GIVE(TURN); if :: worker_tells() :: notice_tell() fi }
-inline store_peek() {
-    TAKE(LOCK); GIVE(LOCK);
+/* Where the worker writes, what it has seen in its turn is handed out. */
+inline go_on_barred() {
+    TAKE(LOCK); if :: is_shown(); hand_newest() :: skip fi; GIVE(LOCK);
+    if :: worker_tells() :: notice_tell() fi
+}
+inline look_until() {
     if
     :: atomic { owner[TURN] == FREE -> owner[TURN] = _pid; mine = mine | (1 << TURN) }; look_quietly()
-    :: owner[TURN] != FREE
+    :: owner[TURN] != FREE -> go_on_barred()
     fi
 }
+inline store_peek() { TAKE(LOCK); GIVE(LOCK); look_until() }
 
 /* ---- a write, by the worker */
 
@@ -117,7 +122,8 @@ inline waiting_settle() {
         fi
     }
 }
-inline store_settle() { TAKE(TURN); look(); TAKE(LOCK); waiting_settle(); GIVE(LOCK); GIVE(TURN); notice_tell() }
+inline settle_what_is_there() { TAKE(LOCK); waiting_settle(); GIVE(LOCK) }
+inline store_settle() { TAKE(TURN); look(); settle_what_is_there(); GIVE(TURN); notice_tell() }
 
 /* The turn is had at once, or waited for in line by a thread of its own, or, if none can be had, asked for again. */
 inline folder_lock() { TAKE(FOLDER); TAKE(LISTING); GIVE(LISTING) }

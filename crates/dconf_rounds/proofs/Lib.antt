@@ -2,3 +2,4 @@ pub mod RoundLaws
 pub mod SyncLaws
 pub mod GlanceLaws
 pub mod WriterLaws
+pub mod TellLaws

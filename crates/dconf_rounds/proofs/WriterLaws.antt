@@ -3,9 +3,13 @@ use Rattle.std.proofs.Common.{◌≡◌, Bool, true, false, not, refl}
 use Rattle.std.specs.Prelude.{◌&&◌, if◌then◌else◌, ◌==◌, nat_lt, nat_le}
 use Rattle.dconf_rounds.specs.declared.writers.NeedTask.{NeedTask}
 use Rattle.dconf_rounds.specs.declared.writers.NeedTask.TheVariants as need
+use Rattle.dconf_rounds.specs.declared.writers.LineTask.{LineTask}
 use Rattle.dconf_rounds.specs.declared.writers.LineTask.TheVariants as line
+use Rattle.dconf_rounds.specs.declared.syncs.SyncTask.{SyncTask}
+use Rattle.dconf_rounds.specs.declared.syncs.SyncTask.TheVariants as sync
+use Rattle.dconf_rounds.specs.Syncs.{sync_after}
 use Rattle.dconf_rounds.specs.declared.writers.EndTask.TheVariants as end
-use Rattle.dconf_rounds.specs.Writers.{EndAnswers, Facts, begins, does, end_after, goes_on, is_left, says, WhatWaitsIsWrittenOrTold}
+use Rattle.dconf_rounds.specs.Writers.{EndAnswers, Facts, answered, begins, does, end_after, goes_on, is_left, says, WhatWaitsIsWrittenOrTold}
 
 -- ---- what is new
 
@@ -42,9 +46,23 @@ here_by true n o p q = absurd (let bad : true ≡ false = p in cc)
 
 -- ---- the turn
 
-is_kept : (has_line : Bool) → has_line ≡ true → (if has_line then line.Await else line.Try) ≡ line.Await
-is_kept true e = refl
-is_kept false e = absurd (let bad : false ≡ true = e in cc)
+abbrev asked_by : Bool → Bool → LineTask
+asked_by thread has_line = if not thread then line.Wait else if has_line then line.Await else line.Try
+
+is_kept : (thread has_line : Bool) → thread ≡ true → has_line ≡ true → asked_by thread has_line ≡ line.Await
+is_kept true true t e = refl
+is_kept true false t e = absurd (let bad : false ≡ true = e in cc)
+is_kept false has_line t e = absurd (let bad : false ≡ true = t in cc)
+
+waits_itself : (thread has_line : Bool) → thread ≡ false → asked_by thread has_line ≡ line.Wait
+waits_itself false has_line t = refl
+waits_itself true has_line t = absurd (let bad : true ≡ false = t in cc)
+
+-- ---- a sync in a child
+
+none_waits : (own : Bool) (next : SyncTask) → own ≡ false → (if own then next else sync.Yes) ≡ sync.Yes
+none_waits false next e = refl
+none_waits true next e = absurd (let bad : true ≡ false = e in cc)
 
 -- ---- the end
 
@@ -131,10 +149,18 @@ what_waits_is_written_or_told a k =
             woken = λ d n. woken_by (does k) k.is_news k.is_owed d n;
             here = λ d o. here_by (does k) k.is_news k.is_owed d o;
           };
-      line = record { place = λ e. is_kept k.has_line e; waits = refl; line = refl };
+      line =
+          record {
+            place = λ t e. is_kept k.is_thread k.has_line t e;
+            waits = refl;
+            line = refl;
+            other = λ t. waits_itself k.is_thread k.has_line t;
+            alone = refl;
+          };
       end =
           record {
             ends = ends_by k.exits (k.begun_in == k.process) a.marked k.has_thread k.is_thread k.is_let_go a.over a.counted (nat_le k.added k.settled);
             told = told_by k.exits (k.begun_in == k.process) a.marked k.has_thread k.is_thread k.is_let_go a.over a.counted (nat_le k.added k.settled);
           };
+      child = λ done is_so e. none_waits (k.begun_in == k.process) (sync_after done (answered done is_so k) k.sync) e;
     }

@@ -1,8 +1,8 @@
 -- What whoever looks at the files of a store does next.
-use Rattle.std.specs.Prelude.{ℕ, ◌≡◌, Bool, true, false, not, ◌&&◌, ◌||◌, if◌then◌else◌, ◌==◌, nat_lt}
+use Rattle.std.specs.Prelude.{ℕ, ◌≡◌, ◌⊎◌, Bool, true, false, not, ◌&&◌, ◌||◌, if◌then◌else◌, ◌==◌, nat_lt}
 use Rattle.dconf_rounds.specs.declared.glances.GlanceKnown.{GlanceKnown}
 use Rattle.dconf_rounds.specs.declared.glances.Glance.{Glance}
-use Rattle.dconf_rounds.specs.declared.glances.Glance.TheVariants.{Refresh, Open, OpenAgain, Hand, Heed, Watch, Seen, Failed}
+use Rattle.dconf_rounds.specs.declared.glances.Glance.TheVariants.{Refresh, Open, OpenAgain, Hand, Heed, Watch, Settle, Again, Seen, Failed}
 
 -- ---- what is due
 
@@ -31,16 +31,20 @@ heeds k = k.is_other && k.waits
 abbrev pub watches_anew : GlanceKnown → Bool
 watches_anew k = k.is_done && (opens k || (not (refreshes k) && not k.has_same_files))
 
+-- what waits counts as there only by files that were read
+abbrev pub settles : GlanceKnown → Bool
+settles k = k.is_done && k.is_to_settle
+
 -- ---- what comes next, once the first tasks were done, or were not due
 
--- while another thread has the turn nobody looks: what that one has seen is the newest, if it changes the files
+-- while another thread has the turn nobody looks: what that one has seen is the newest, if it changes the files; and else it is over soon
 abbrev pub after_barred : ℕ → GlanceKnown → Glance
-after_barred done k = if not k.is_amid then Failed else if nat_lt done 4 && not k.is_shown then Hand else Seen
+after_barred done k = if k.is_amid then (if (done == 4) || k.is_shown then Seen else Hand) else if k.is_late then Failed else Again
 
 abbrev pub glance_after : ℕ → GlanceKnown → Glance
 glance_after done k =
     if k.is_barred then after_barred done k else if nat_lt done 1 then begins_with k else if nat_lt done 4 && hands k then Hand else if nat_lt done 5 && heeds k then Heed else
-    if nat_lt done 6 && watches_anew k then Watch else if k.is_done then Seen else Failed
+    if nat_lt done 6 && watches_anew k then Watch else if nat_lt done 7 && settles k then Settle else if k.is_done then Seen else Failed
 
 abbrev pub glance_number : Glance → ℕ
 glance_number Refresh = 1
@@ -49,8 +53,10 @@ glance_number OpenAgain = 3
 glance_number Hand = 4
 glance_number Heed = 5
 glance_number Watch = 6
-glance_number Seen = 7
-glance_number Failed = 8
+glance_number Settle = 7
+glance_number Again = 8
+glance_number Seen = 9
+glance_number Failed = 10
 
 -- ---- the law
 
@@ -61,7 +67,8 @@ is_told _ = false
 
 -- a task that is due, and was not come to
 abbrev pub is_wanted : ℕ → GlanceKnown → Bool
-is_wanted done k = nat_lt done 1 || ((nat_lt done 4 && hands k) || ((nat_lt done 5 && heeds k) || (nat_lt done 6 && watches_anew k)))
+is_wanted done k =
+    nat_lt done 1 || ((nat_lt done 4 && hands k) || ((nat_lt done 5 && heeds k) || ((nat_lt done 6 && watches_anew k) || (nat_lt done 7 && settles k))))
 
 pub record IsGoodGlance (done : ℕ) (k : GlanceKnown) : Type 0 where
   -- it is over exactly if nothing is due: what others changed while changes waited is heeded
@@ -71,10 +78,13 @@ pub record IsGoodGlance (done : ℕ) (k : GlanceKnown) : Type 0 where
   pub failed : k.is_barred ≡ false → glance_after done k ≡ Failed → k.is_done ≡ false
   -- the store is kept only while both profiles are the ones that were read, for sure
   pub kept : k.is_barred ≡ false → glance_after done k ≡ Refresh → refreshes k ≡ true
-  -- who has no turn to look hands out what another thread has seen in its own, and nothing else: it succeeds exactly if there is that
-  pub handed : k.is_barred ≡ true → is_told (glance_after done k) ≡ false → (glance_after done k ≡ Hand) × (k.is_amid ≡ true) × (k.is_shown ≡ false)
+  -- and so has what settles what waits
+  pub settled : k.is_barred ≡ false → glance_after done k ≡ Settle → k.is_done ≡ true
+  -- who has no turn to look hands out what another thread has seen in its own, or asks for the turn again, and does nothing else
+  pub handed : k.is_barred ≡ true → is_told (glance_after done k) ≡ false → ((glance_after done k ≡ Hand) × (k.is_shown ≡ false)) ⊎ (glance_after done k ≡ Again)
+  -- it succeeds exactly if there is something that was seen so, and fails only once its time is over
   pub shown : k.is_barred ≡ true → glance_after done k ≡ Seen → k.is_amid ≡ true
-  pub later : k.is_barred ≡ true → glance_after done k ≡ Failed → k.is_amid ≡ false
+  pub later : k.is_barred ≡ true → k.is_amid ≡ false → glance_after done k ≡ (if k.is_late then Failed else Again)
 
 abbrev pub NothingNewIsMissed : Type 0
 NothingNewIsMissed = (done : ℕ) (k : GlanceKnown) → IsGoodGlance done k

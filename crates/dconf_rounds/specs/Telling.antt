@@ -4,15 +4,17 @@ use Rattle.dconf_seen.specs.declared.seen.Word.{Word}
 use Rattle.dconf_seen.specs.Reading.{found_by, found_number}
 use Rattle.dconf_rounds.specs.declared.telling.TellKnown.{TellKnown}
 use Rattle.dconf_rounds.specs.declared.telling.Telling.{Telling}
-use Rattle.dconf_rounds.specs.declared.telling.Telling.TheVariants.{Nothing, Take, TellAndTake, Tell, All, Rights, Values, Over}
+use Rattle.dconf_rounds.specs.declared.telling.Telling.TheVariants.{Nothing, Take, TellAndTake, Tell, All, CatchUp, Rights, Values, Warn, Print, Over}
 
 -- nobody has seen anything before, or the program ends, or nothing can be seen otherwise
 abbrev pub is_silent : TellKnown → Bool
 is_silent k = k.is_first || (k.ends || not (k.is_other || k.has_edits))
 
--- what may be written is told before what is seen
+-- whoever else tells of the files looks at them first; what may be written is told before what is seen; and faults are told whoever is told of that
 abbrev pub list_after : TellKnown → Telling
-list_after k = if is_silent k then Over else if nat_lt k.list 5 && k.has_rights then Rights else if nat_lt k.list 6 then Values else Over
+list_after k =
+    if nat_lt k.list 5 && (k.is_of_files && not (is_silent k)) then CatchUp else if nat_lt k.list 6 && (k.has_rights && not (is_silent k)) then Rights else
+    if nat_lt k.list 7 && not (is_silent k) then Values else if nat_lt k.list 8 && k.has_faults then (if k.ends then Print else Warn) else Over
 
 -- at most 255 paths are in one notice, and only those that somebody listens to; and without memory all are told
 abbrev pub tell_next : TellKnown → Telling
@@ -26,9 +28,12 @@ telling_number Take = 1
 telling_number TellAndTake = 2
 telling_number Tell = 3
 telling_number All = 4
-telling_number Rights = 5
-telling_number Values = 6
-telling_number Over = 7
+telling_number CatchUp = 5
+telling_number Rights = 6
+telling_number Values = 7
+telling_number Warn = 8
+telling_number Print = 9
+telling_number Over = 10
 
 -- ---- which keys are asked for by their type
 
@@ -69,13 +74,20 @@ abbrev pub next_list : TellKnown → ℕ → Telling
 next_list k last = list_after (record k { list = last })
 
 pub record IsGoodOrder (k : TellKnown) : Type 0 where
+  -- what stands in files is told after whoever else tells of them has looked
+  pub first : is_silent k ≡ false → k.is_of_files ≡ true → next_list k 0 ≡ CatchUp
+  pub own : k.is_of_files ≡ false → next_list k 0 ≡ next_list k (telling_number CatchUp)
   -- both lists are told, what may be written first, and each once
-  pub rights : is_silent k ≡ false → k.has_rights ≡ true → next_list k 0 ≡ Rights
-  pub values : is_silent k ≡ false → k.has_rights ≡ false → next_list k 0 ≡ Values
+  pub rights : is_silent k ≡ false → k.has_rights ≡ true → next_list k (telling_number CatchUp) ≡ Rights
+  pub values : is_silent k ≡ false → k.has_rights ≡ false → next_list k (telling_number CatchUp) ≡ Values
   pub after : is_silent k ≡ false → next_list k (telling_number Rights) ≡ Values
-  pub over : next_list k (telling_number Values) ≡ Over
   -- and none if nobody is told of anything
-  pub silent : is_silent k ≡ true → list_after k ≡ Over
+  pub silent : is_silent k ≡ true → next_list k 0 ≡ next_list k (telling_number Values)
+  -- but faults always are, at last, and once; at the program's end where nobody takes warnings any more
+  pub faults : k.has_faults ≡ true → next_list k (telling_number Values) ≡ (if k.ends then Print else Warn)
+  pub none : k.has_faults ≡ false → next_list k (telling_number Values) ≡ Over
+  pub warned : next_list k (telling_number Warn) ≡ Over
+  pub printed : next_list k (telling_number Print) ≡ Over
 
 abbrev pub WhatIsHeardIsTold : Type 0
 WhatIsHeardIsTold = (k : TellKnown) → IsGoodTelling k × IsGoodOrder k

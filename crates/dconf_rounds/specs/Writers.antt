@@ -2,6 +2,8 @@
 use Rattle.std.specs.Prelude.{ℕ, zero, suc, ◌≡◌, Bool, true, false, not, ◌&&◌, ◌||◌, if◌then◌else◌, ◌==◌, nat_lt, nat_le}
 use Rattle.dconf_rounds.specs.Rounds.{is_at_work}
 use Rattle.dconf_rounds.specs.Syncs.{sync_after, sync_number}
+use Rattle.dconf_rounds.specs.declared.syncs.SyncTask.{SyncTask}
+use Rattle.dconf_rounds.specs.declared.syncs.SyncTask.TheVariants as sync
 use Rattle.dconf_rounds.specs.declared.writers.WriterKnown.{WriterKnown}
 use Rattle.dconf_rounds.specs.declared.writers.NeedTask.{NeedTask}
 use Rattle.dconf_rounds.specs.declared.writers.NeedTask.TheVariants as need
@@ -44,20 +46,25 @@ pub record IsGoodNeed (k : WriterKnown) : Type 0 where
 
 abbrev pub line_after : ℕ → Bool → WriterKnown → LineTask
 line_after done is_so k =
-    if nat_lt done 1 then (if k.has_line then line.Await else line.Try) else if done == 2 then (if is_so then line.Await else line.Again) else
-    if is_so then line.Had else if done == 1 then line.Begin else line.InLine
+    if nat_lt done 1 then (if not k.is_thread then line.Wait else if k.has_line then line.Await else line.Try) else
+    if done == 2 then (if is_so then line.Await else line.Again) else
+    if is_so then line.Had else if done == 1 then line.Begin else if done == 4 then line.Again else line.InLine
 
 abbrev pub line_number : LineTask → ℕ
 line_number line.Try = 1
 line_number line.Begin = 2
 line_number line.Await = 3
-line_number line.Had = 4
-line_number line.InLine = 5
-line_number line.Again = 6
+line_number line.Wait = 4
+line_number line.Had = 5
+line_number line.InLine = 6
+line_number line.Again = 7
 
 pub record IsGoodLine (k : WriterKnown) : Type 0 where
   -- who is in line already asks nobody else, so that it keeps its place
-  pub place : k.has_line ≡ true → line_after 0 true k ≡ line.Await
+  pub place : k.is_thread ≡ true → k.has_line ≡ true → line_after 0 true k ≡ line.Await
+  -- nobody else has a place in line: it waits itself, and leaves nothing behind
+  pub other : k.is_thread ≡ false → line_after 0 true k ≡ line.Wait
+  pub alone : line_after 4 false k ≡ line.Again
   -- and who can't have its turn at once waits in line, if a thread can be had for that
   pub waits : line_after 1 false k ≡ line.Begin
   pub line : line_after 2 true k ≡ line.Await
@@ -149,16 +156,22 @@ pub record IsGoodEnd (a : EndAnswers) (f : Facts) : Type 0 where
   -- what waits is written, which was counted, or told; but for what is left to the thread, and what is the parent's
   pub told : says 6 a f (end_after 0 true f) ≡ (f.own && (not (is_left a f) && not (a.counted && f.settled)))
 
--- ---- the same as numbers
+-- ---- a sync
 
--- a sync that waited is told by the count whether all is settled
+-- one that waited is told by the count whether all is settled
 abbrev pub answered : ℕ → Bool → WriterKnown → Bool
 answered done is_so k = if done == 3 then is_settled k else is_so
+
+-- in a child nothing of its own waits
+abbrev pub own_sync : ℕ → Bool → WriterKnown → SyncTask
+own_sync done is_so k = if is_own k then sync_after done (answered done is_so k) k.sync else sync.Yes
+
+-- ---- the same as numbers
 
 abbrev pub writer_number : ℕ → ℕ → Bool → WriterKnown → ℕ
 writer_number what done is_so k =
     if what == 0 then need_number (need_after done k) else if what == 1 then line_number (line_after done is_so k) else
-    if what == 2 then end_number (end_after done is_so (facts k)) else sync_number (sync_after done (answered done is_so k) k.sync)
+    if what == 2 then end_number (end_after done is_so (facts k)) else sync_number (own_sync done is_so k)
 
 -- ---- the law
 
@@ -166,6 +179,8 @@ pub record IsGoodWriter (a : EndAnswers) (k : WriterKnown) : Type 0 where
   pub need : IsGoodNeed k
   pub line : IsGoodLine k
   pub end : IsGoodEnd a (facts k)
+  -- a sync in a child does nothing, and says nothing of what its parent writes
+  pub child : (done : ℕ) (is_so : Bool) → is_own k ≡ false → own_sync done is_so k ≡ sync.Yes
 
 abbrev pub WhatWaitsIsWrittenOrTold : Type 0
 WhatWaitsIsWrittenOrTold = (a : EndAnswers) (k : WriterKnown) → IsGoodWriter a k

@@ -1,6 +1,6 @@
 //! What whoever looks at the files of a store does next.
 ghost use Rattle.std.specs.Prelude.{◌≡◌};
-ghost use Rattle.dconf_rounds.specs.Glances.{after_barred, begins_with, glance_after, glance_number, hands, heeds, is_another, opens, refreshes, watches_anew};
+ghost use Rattle.dconf_rounds.specs.Glances.{after_barred, begins_with, glance_after, glance_number, hands, heeds, is_another, opens, refreshes, settles, watches_anew};
 
 /// What comes next, in this order; of the first three, one does.
 #[derive(Clone, Copy)]
@@ -17,6 +17,10 @@ pub enum Glance {
     Heed,
     /// Has the files watched that are the store's now.
     Watch,
+    /// Settles what waits and is there already, by the files that were read.
+    Settle,
+    /// Rests a moment, and asks for the turn to look again.
+    Again,
     /// It is over, and succeeded.
     Seen,
     /// It is over, and failed.
@@ -45,6 +49,10 @@ pub struct GlanceKnown {
     pub is_barred: bool,
     /// That one changes the files: it has read them in its turn, and nobody else changes them until it has written.
     pub is_amid: bool,
+    /// It is waited no longer for that turn.
+    pub is_late: bool,
+    /// Who looks wants to know what of that which waits is there already.
+    pub is_to_settle: bool,
 }
 
 /// What comes next, once the first `done` tasks were done, or were not due.
@@ -66,13 +74,16 @@ pub fn glance_after(done: u32, known: &GlanceKnown) -> Glance
     if done < 6 && watches_anew(known) {
         return Glance::Watch;
     }
+    if done < 7 && settles(known) {
+        return Glance::Settle;
+    }
     if known.is_done {
         return Glance::Seen;
     }
     Glance::Failed
 }
 
-/// The same as a number: 1 refresh, 2 open, 3 open again, 4 hand, 5 heed, 6 watch, 7 seen, 8 failed.
+/// The same as a number: 1 refresh, 2 open, 3 open again, 4 hand, 5 heed, 6 watch, 7 settle, 8 again, 9 seen, 10 failed.
 pub fn glance_number(done: u32, known: &GlanceKnown) -> u32
     ensures { result ≡ glance_number (glance_after done known.now) }
 {
@@ -83,22 +94,28 @@ pub fn glance_number(done: u32, known: &GlanceKnown) -> u32
         Glance::Hand => 4,
         Glance::Heed => 5,
         Glance::Watch => 6,
-        Glance::Seen => 7,
-        Glance::Failed => 8,
+        Glance::Settle => 7,
+        Glance::Again => 8,
+        Glance::Seen => 9,
+        Glance::Failed => 10,
     }
 }
 
-/// The same of who can't look: what another thread has seen is as new, if that changes the files.
+/// The same of who can't look: what another thread has seen is as new, if that changes the files; and else that one is over soon.
 fn after_barred(done: u32, known: &GlanceKnown) -> Glance
     ensures { result ≡ after_barred done known.now }
 {
-    if !known.is_amid {
+    if known.is_amid {
+        return if done == 4 || known.is_shown {
+            Glance::Seen
+        } else {
+            Glance::Hand
+        };
+    }
+    if known.is_late {
         return Glance::Failed;
     }
-    if done < 4 && !known.is_shown {
-        return Glance::Hand;
-    }
-    Glance::Seen
+    Glance::Again
 }
 
 fn begins_with(known: &GlanceKnown) -> Glance
@@ -144,6 +161,13 @@ fn heeds(known: &GlanceKnown) -> bool
     ensures { result ≡ heeds known.now }
 {
     known.is_other && known.waits
+}
+
+/// What waits counts as there only by files that were read.
+fn settles(known: &GlanceKnown) -> bool
+    ensures { result ≡ settles known.now }
+{
+    known.is_done && known.is_to_settle
 }
 
 /// Whether a store was opened whose files may be others than those that are watched.

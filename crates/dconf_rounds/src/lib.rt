@@ -37,21 +37,23 @@ pub fn yes_means_all_is_there()
 {}
 
 /// A look at the files keeps a store open only while both profiles are the ones that were read, for sure. It does all that is due before it
-/// is over: what is new is handed out, what others changed while changes waited is heeded, and the files of a store that was opened
-/// are watched. Who can't look while another thread changes the files hands out what that one has seen.
+/// is over: what is new is handed out, what others changed while changes waited is heeded, the files of a store that was opened
+/// are watched, and what waits is settled only by files that were read. Who can't look while another thread changes the files hands out what that
+/// one has seen; and who can't look for another reason asks again until its time is over.
 pub fn nothing_new_is_missed()
     ensures { NothingNewIsMissed }
 {}
 
 /// Each path that is seen otherwise, and that somebody listens to, is told, in notices of 255 at most; all is, where nobody knows what is
-/// seen otherwise. What may be written or no longer is told before that. Nobody is told of what is seen first, or when the program ends.
+/// seen otherwise. What may be written or no longer is told before that, and whoever else tells of the files has looked at them by then. Nobody is
+/// told of what is seen first, or when the program ends. But faults always are, at last.
 pub fn what_is_heard_is_told()
     ensures { WhatIsHeardIsTold }
 {}
 
 /// What is new is done by the thread that writes, which is woken for it, or else where it came up. That thread waits in line for its turn where
-/// others have theirs. At the end all that waits is written, or it is told; but for what is left to the thread, which goes on, and for what
-/// waits in a child of fork(), which is its parent's.
+/// others have theirs, and who isn't that thread waits itself. At the end all that waits is written, or it is told; but for what is left to the
+/// thread, which goes on, and for what waits in a child of fork(), which is its parent's: there a sync does nothing.
 pub fn what_waits_is_written_or_told()
     ensures { WhatWaitsIsWrittenOrTold }
 {}

@@ -21,10 +21,16 @@ pub enum Telling {
     Tell,
     /// All is told, since nobody knows what is seen otherwise.
     All,
+    /// Whoever else tells of the files, and watches them by itself, looks at them.
+    CatchUp,
     /// The list comes next of what may be written or no longer.
     Rights,
     /// The list comes next of what is seen otherwise.
     Values,
+    /// The faults come next, each as a warning.
+    Warn,
+    /// The same, but whatever takes warnings may be gone: they are printed.
+    Print,
     /// It is over.
     Over,
 }
@@ -55,6 +61,10 @@ pub struct TellKnown {
     pub is_between: bool,
     /// It may be otherwise what may be written.
     pub has_rights: bool,
+    /// What is told stands in files, of which somebody else tells, too.
+    pub is_of_files: bool,
+    /// There are faults to be told.
+    pub has_faults: bool,
 }
 
 /// What comes next.
@@ -86,23 +96,31 @@ pub fn tell_next(known: &TellKnown) -> Telling
     Telling::TellAndTake
 }
 
-/// Which list comes next. Who hears that a value is another one may want to write, and asks first whether it may.
+/// Which list comes next. Who hears that a value is another one reads it by whatever else tells of the files, and may want to write, and asks
+/// first whether it may.
 fn list_after(known: &TellKnown) -> Telling
     ensures { result ≡ list_after known.now }
 {
-    if is_silent(known) {
-        return Telling::Over;
+    if known.list < 5 && (known.is_of_files && !is_silent(known)) {
+        return Telling::CatchUp;
     }
-    if known.list < 5 && known.has_rights {
+    if known.list < 6 && (known.has_rights && !is_silent(known)) {
         return Telling::Rights;
     }
-    if known.list < 6 {
+    if known.list < 7 && !is_silent(known) {
         return Telling::Values;
+    }
+    if known.list < 8 && known.has_faults {
+        return if known.ends {
+            Telling::Print
+        } else {
+            Telling::Warn
+        };
     }
     Telling::Over
 }
 
-/// The same as a number: 0 nothing, 1 take, 2 tell and take, 3 tell, 4 all, 5 rights, 6 values, 7 over.
+/// The same as a number: 0 nothing, 1 take, 2 tell and take, 3 tell, 4 all, 5 catch up, 6 rights, 7 values, 8 warn, 9 print, 10 over.
 pub fn telling_number(known: &TellKnown) -> u32
     ensures { result ≡ telling_number (tell_next known.now) }
 {
@@ -112,9 +130,12 @@ pub fn telling_number(known: &TellKnown) -> u32
         Telling::TellAndTake => 2,
         Telling::Tell => 3,
         Telling::All => 4,
-        Telling::Rights => 5,
-        Telling::Values => 6,
-        Telling::Over => 7,
+        Telling::CatchUp => 5,
+        Telling::Rights => 6,
+        Telling::Values => 7,
+        Telling::Warn => 8,
+        Telling::Print => 9,
+        Telling::Over => 10,
     }
 }
 

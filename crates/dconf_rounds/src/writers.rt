@@ -1,7 +1,7 @@
 //! Who writes what waits: whether a thread is begun for that, or woken; how it comes to its turn; and what becomes of both at the end.
-ghost use Rattle.std.specs.Prelude.{◌≡◌};
+ghost use Rattle.std.specs.Prelude.{◌≡◌, true};
 ghost use Rattle.dconf_rounds.specs.Syncs.{sync_after, sync_number};
-ghost use Rattle.dconf_rounds.specs.Writers.{answered, begins, does, end_after, end_number, facts, first_wait, is_own, is_settled, line_after, line_number, need_after, need_number, writer_number};
+ghost use Rattle.dconf_rounds.specs.Writers.{answered, begins, does, end_after, end_number, facts, first_wait, is_own, is_settled, line_after, line_number, need_after, need_number, own_sync, writer_number};
 
 use crate::rounds::is_at_work;
 use crate::syncs::{SyncKnown, sync_number};
@@ -30,6 +30,8 @@ pub enum LineTask {
     Begin,
     /// Asks that one. It answers whether its wait is over.
     Await,
+    /// Asks for the turn, and waits for it, as this isn't the thread that writes, and has no place in line. It answers as `Try`.
+    Wait,
     /// It is over: it has its turn, or knows why not.
     Had,
     /// It is over for now: the other thread wakes it.
@@ -126,11 +128,7 @@ pub fn line_after(done: u32, is_so: bool, known: &WriterKnown) -> LineTask
     ensures { result ≡ line_after done is_so known.now }
 {
     if done < 1 {
-        return if known.has_line {
-            LineTask::Await
-        } else {
-            LineTask::Try
-        };
+        return first_ask(known);
     }
     if done == 2 {
         return if is_so {
@@ -142,10 +140,24 @@ pub fn line_after(done: u32, is_so: bool, known: &WriterKnown) -> LineTask
     if is_so {
         return LineTask::Had;
     }
-    if done == 1 {
-        LineTask::Begin
+    match done {
+        1 => LineTask::Begin,
+        4 => LineTask::Again,
+        _ => LineTask::InLine,
+    }
+}
+
+/// How it is asked for the turn first.
+fn first_ask(known: &WriterKnown) -> LineTask
+    ensures { result ≡ line_after 0 true known.now }
+{
+    if !known.is_thread {
+        return LineTask::Wait;
+    }
+    if known.has_line {
+        LineTask::Await
     } else {
-        LineTask::InLine
+        LineTask::Try
     }
 }
 
@@ -206,7 +218,7 @@ fn first_wait(is_so: bool, known: &WriterKnown) -> EndTask
 }
 
 /// The same as numbers. What is asked, by `what`: 0 what is done about something new: 1 make wake, 2 begin, 3 wake, 4 here, 5 over; 1 how
-/// the thread comes to its turn: 1 try, 2 begin, 3 await, 4 had, 5 in line, 6 again; 2 what is done at the end: 1 mark, 2 rounds, 3 join,
+/// the thread comes to its turn: 1 try, 2 begin, 3 await, 4 wait, 5 had, 6 in line, 7 again; 2 what is done at the end: 1 mark, 2 rounds, 3 join,
 /// 4 watch, 5 over, 6 leave, 7 reap, 8 count, 9 tell, 10 doubt, 11 done, 12 left; and else a sync's next task, whose answer to its wait is that
 /// all is settled.
 pub fn writer_number(what: u32, done: u32, is_so: bool, known: &WriterKnown) -> u32
@@ -216,7 +228,7 @@ pub fn writer_number(what: u32, done: u32, is_so: bool, known: &WriterKnown) -> 
         0 => need_number(done, known),
         1 => line_number(done, is_so, known),
         2 => end_number(done, is_so, known),
-        _ => sync_number(done, answered(done, is_so, known), &known.sync),
+        _ => own_sync(done, is_so, known),
     }
 }
 
@@ -239,9 +251,10 @@ fn line_number(done: u32, is_so: bool, known: &WriterKnown) -> u32
         LineTask::Try => 1,
         LineTask::Begin => 2,
         LineTask::Await => 3,
-        LineTask::Had => 4,
-        LineTask::InLine => 5,
-        LineTask::Again => 6,
+        LineTask::Wait => 4,
+        LineTask::Had => 5,
+        LineTask::InLine => 6,
+        LineTask::Again => 7,
     }
 }
 
@@ -291,6 +304,17 @@ fn is_settled(known: &WriterKnown) -> bool
     ensures { result ≡ is_settled known.now }
 {
     known.added <= known.settled
+}
+
+/// What a sync does next, as a number. In a child nothing of its own waits.
+fn own_sync(done: u32, is_so: bool, known: &WriterKnown) -> u32
+    ensures { result ≡ sync_number (own_sync done is_so known.now) }
+{
+    if is_own(known) {
+        sync_number(done, answered(done, is_so, known), &known.sync)
+    } else {
+        7
+    }
 }
 
 /// The answer to a sync's task.

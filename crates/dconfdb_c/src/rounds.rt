@@ -30,10 +30,11 @@ pub extern "C" fn dconfdb_round_after(done: u32, known: &Known) -> u32
 
 /// What is done next about what waits, in the same way, by the answer to the last task. Of something new (`what` 0): 1 that is made by which a thread
 /// is woken, 2 the thread is begun, 3 woken, 4 it is done here, 5 over. Of who comes to its turn (1): 1 it is asked for, 2 a thread begun that waits
-/// for it, 3 that one asked; 4 it is had, 5 waited for in line, 6 to be asked for again. At the end (2): 1 it is said, 2 rounds are made, 3 the
-/// thread is waited for, 4 all that waits, 5 the thread as long as the program goes on, 6 it is left alone, 7 taken away, 8 it is counted, 9 told
-/// what waits, 10 that nobody knows; 11 all is done, 12 the thread has it. Of who wants to know that all is on the disk (else): 1 asks for a
-/// try, 2 writes, 3 waits, 4 takes its turn, 5 looks, 6 settles; 7 it is told yes, 8 no.
+/// for it, 3 that one asked, 4 it is waited for by who has no thread; 5 it is had, 6 waited for in line, 7 to be asked for again. At the end (2): 1
+/// it is said, 2 rounds are made, 3 the thread is waited for, 4 all that waits, 5 the thread as long as the program goes on, 6 it is left alone, 7
+/// taken away, 8 it is counted, 9 told what waits, 10 that nobody knows; 11 all is done, 12 the thread has it. Of who wants to know that all is on
+/// the disk (else): 1 asks for a try, 2 writes, 3 waits, 4 takes its turn, 5 looks, 6 settles; 7 it is told yes, 8 no. A child of fork() has nothing
+/// that waits.
 #[unsafe(no_mangle)]
 pub extern "C" fn dconfdb_writer_after(
     what: u32,
@@ -47,8 +48,8 @@ pub extern "C" fn dconfdb_writer_after(
 }
 
 /// What whoever looks at the files does next, in the same way: 1 refreshes what is open, 2 opens it anew, 3 the same, but the profiles look
-/// like those that were read; 4 hands out what is the newest, 5 heeds what others changed, 6 has the files watched; 7 has seen them, 8
-/// failed.
+/// like those that were read; 4 hands out what is the newest, 5 heeds what others changed, 6 has the files watched, 7 settles what waits and is
+/// there, 8 asks for the turn again; 9 has seen them, 10 failed.
 #[unsafe(no_mangle)]
 pub extern "C" fn dconfdb_glance_after(done: u32, known: &GlanceKnown) -> u32
     ensures { result ≡ glance_number (glance_after done known.now) }
@@ -57,8 +58,8 @@ pub extern "C" fn dconfdb_glance_after(done: u32, known: &GlanceKnown) -> u32
 }
 
 /// What whoever tells does with the next path that is seen otherwise: 0 nothing, 1 takes it for the next notice, 2 tells what was taken, and
-/// then takes it, 3 tells what was taken, 4 tells all. Between two lists it is said which comes next: 5 of what may be written, 6 of what is
-/// seen, 7 none.
+/// then takes it, 3 tells what was taken, 4 tells all. Between two lists it is said which comes next: 5 whoever else tells of the files looks at
+/// them, 6 of what may be written, 7 of what is seen, 8 of faults, each a warning, 9 the same, but printed, 10 none.
 #[unsafe(no_mangle)]
 pub extern "C" fn dconfdb_tell_next(known: &TellKnown) -> u32
     ensures { result ≡ telling_number (tell_next known.now) }

@@ -152,6 +152,8 @@ fn looks_end() -> bool {
         has_same_files: true,
         is_barred: false,
         is_amid: false,
+        is_late: false,
+        is_to_settle: false,
     };
     let barred = GlanceKnown {
         is_barred: true,
@@ -162,6 +164,14 @@ fn looks_end() -> bool {
         is_amid: true,
         ..barred
     };
+    let late = GlanceKnown {
+        is_late: true,
+        ..barred
+    };
+    let settling = GlanceKnown {
+        is_to_settle: true,
+        ..same
+    };
     let unsure = GlanceKnown { second: 2, ..same };
     let other = GlanceKnown { first: 1, ..unsure };
     let shut = GlanceKnown {
@@ -170,6 +180,7 @@ fn looks_end() -> bool {
     };
     let failed = GlanceKnown {
         is_done: false,
+        is_to_settle: true,
         ..other
     };
     let changed = GlanceKnown {
@@ -181,18 +192,21 @@ fn looks_end() -> bool {
         && glance_number(0, &unsure) == 3
         && glance_number(0, &other) == 2
         && glance_number(0, &shut) == 2
-        && glance_number(1, &same) == 7
+        && glance_number(1, &same) == 9
         && glance_number(1, &changed) == 4
         && glance_number(4, &changed) == 5
-        && glance_number(5, &changed) == 7
+        && glance_number(5, &changed) == 9
         && glance_number(3, &unsure) == 4
-        && glance_number(4, &unsure) == 7
+        && glance_number(4, &unsure) == 9
         && glance_number(4, &other) == 6
         && glance_number(2, &failed) == 4
-        && glance_number(4, &failed) == 8
+        && glance_number(4, &failed) == 10
+        && glance_number(6, &settling) == 7
+        && glance_number(7, &settling) == 9
         && glance_number(0, &barred) == 8
-        && glance_number(0, &amid) == 4
-        && glance_number(4, &amid) == 7
+        && glance_number(8, &late) == 10
+        && glance_number(8, &amid) == 4
+        && glance_number(4, &amid) == 9
 }
 
 fn notices_are_told() -> bool {
@@ -208,6 +222,8 @@ fn notices_are_told() -> bool {
         is_listened: true,
         is_between: false,
         has_rights: true,
+        is_of_files: false,
+        has_faults: true,
     };
     let full = TellKnown {
         taken: 255,
@@ -268,9 +284,11 @@ fn rights_are_told_before_values() -> bool {
         is_listened: false,
         is_between: true,
         has_rights: true,
+        is_of_files: false,
+        has_faults: false,
     };
-    let next = TellKnown { list: 5, ..first };
-    let last = TellKnown { list: 6, ..first };
+    let next = TellKnown { list: 6, ..first };
+    let last = TellKnown { list: 7, ..first };
     let without = TellKnown {
         has_rights: false,
         ..first
@@ -279,11 +297,55 @@ fn rights_are_told_before_values() -> bool {
         is_other: false,
         ..first
     };
-    telling_number(&first) == 5
-        && telling_number(&next) == 6
-        && telling_number(&last) == 7
-        && telling_number(&without) == 6
-        && telling_number(&silent) == 7
+    let of_files = TellKnown {
+        is_of_files: true,
+        ..first
+    };
+    let seen = TellKnown {
+        list: 5,
+        ..of_files
+    };
+    telling_number(&first) == 6
+        && telling_number(&next) == 7
+        && telling_number(&last) == 10
+        && telling_number(&without) == 7
+        && telling_number(&silent) == 10
+        && telling_number(&of_files) == 5
+        && telling_number(&seen) == 6
+}
+
+fn faults_are_told_at_last() -> bool {
+    let silent = TellKnown {
+        taken: 0,
+        list: 0,
+        is_first: true,
+        ends: false,
+        is_other: true,
+        has_edits: false,
+        is_found: false,
+        has_path: false,
+        is_listened: false,
+        is_between: true,
+        has_rights: true,
+        is_of_files: true,
+        has_faults: true,
+    };
+    let ending = TellKnown {
+        ends: true,
+        ..silent
+    };
+    let told = TellKnown {
+        list: 7,
+        is_first: false,
+        ..silent
+    };
+    let warned = TellKnown { list: 8, ..told };
+    let printed = TellKnown { list: 9, ..ending };
+    telling_number(&silent) == 8
+        && telling_number(&ending) == 9
+        && telling_number(&told) == 8
+        && telling_number(&warned) == 10
+        && telling_number(&printed) == 10
 }
 
 /// A process that has begun nothing yet.
@@ -345,18 +407,25 @@ fn threads_are_begun_and_woken() -> bool {
 }
 
 fn turns_are_come_to() -> bool {
-    let in_line = WriterKnown {
-        has_line: true,
+    let thread = WriterKnown {
+        is_thread: true,
         ..NOBODY
     };
-    writer_number(1, 0, true, &NOBODY) == 1
-        && writer_number(1, 1, true, &NOBODY) == 4
-        && writer_number(1, 1, false, &NOBODY) == 2
-        && writer_number(1, 2, false, &NOBODY) == 6
-        && writer_number(1, 2, true, &NOBODY) == 3
+    let in_line = WriterKnown {
+        has_line: true,
+        ..thread
+    };
+    writer_number(1, 0, true, &thread) == 1
+        && writer_number(1, 1, true, &thread) == 5
+        && writer_number(1, 1, false, &thread) == 2
+        && writer_number(1, 2, false, &thread) == 7
+        && writer_number(1, 2, true, &thread) == 3
         && writer_number(1, 0, true, &in_line) == 3
-        && writer_number(1, 3, true, &in_line) == 4
-        && writer_number(1, 3, false, &in_line) == 5
+        && writer_number(1, 3, true, &in_line) == 5
+        && writer_number(1, 3, false, &in_line) == 6
+        && writer_number(1, 0, true, &NOBODY) == 4
+        && writer_number(1, 4, true, &NOBODY) == 5
+        && writer_number(1, 4, false, &NOBODY) == 7
 }
 
 fn ends_are_waited_for() -> bool {
@@ -396,6 +465,10 @@ fn what_waits_is_told_at_the_end() -> bool {
         ..held
     };
     let waits = WriterKnown { added: 4, ..NOBODY };
+    let child = WriterKnown {
+        process: 8,
+        ..waits
+    };
     writer_number(2, 1, true, &held) == 5
         && writer_number(2, 5, false, &held) == 6
         && writer_number(2, 6, true, &held) == 12
@@ -409,6 +482,7 @@ fn what_waits_is_told_at_the_end() -> bool {
         && writer_number(2, 9, true, &waits) == 11
         && writer_number(3, 3, false, &NOBODY) == 4
         && writer_number(3, 3, true, &waits) == 8
+        && writer_number(3, 0, true, &child) == 7
 }
 
 /// What is stored is of another type, or an edit that waits and may be made is.
@@ -458,8 +532,10 @@ fn tasks_come_in_their_order(rt: HostRuntime) -> Result<(), Fail> {
 #[test]
 fn what_waits_is_written_or_told(rt: HostRuntime) -> Result<(), Fail> {
     assert!(rt;
-        rights_are_told_before_values() && threads_are_begun_and_woken() && turns_are_come_to()
+        rights_are_told_before_values() && faults_are_told_at_last() && turns_are_come_to()
     );
-    assert!(rt; ends_are_waited_for() && what_waits_is_told_at_the_end());
+    assert!(rt;
+        threads_are_begun_and_woken() && ends_are_waited_for() && what_waits_is_told_at_the_end()
+    );
     Ok(())
 }
