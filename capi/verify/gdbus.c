@@ -1,5 +1,5 @@
 /* GVariant and GDBus as the service meets them: each value is had by somebody and given back once, and each call is answered once. The bytes of a change
- * have up to two entries, each a path of up to three bytes, with a value or none. */
+ * have up to two entries, each a path of up to two bytes, with a value or none. */
 #include "glib_world.h"
 #include "world.h"
 
@@ -13,7 +13,7 @@ enum { MOST_ENTRIES = 2 };
 
 struct GBytes {
     int references;
-    char paths[MOST_ENTRIES][4];
+    char paths[MOST_ENTRIES][3];
     char data[1];
 };
 
@@ -32,7 +32,7 @@ static GBytes *some_bytes(void)
     GBytes *bytes = g_malloc(sizeof *bytes);
     bytes->references = 1;
     for (int i = 0; i < MOST_ENTRIES; i++)
-        any_text(bytes->paths[i], 3);
+        any_text(bytes->paths[i], 2);
     return bytes;
 }
 

@@ -14,7 +14,7 @@ static void main_ends(const void *mutex)
     is_amid = false;
 }
 
-/* harness service_try_beside: unwind 4, with glib.c */
+/* harness service_try_beside: unwind 5, with glib.c */
 int service_try_beside(void)
 {
     at_mutex = main_ends;

@@ -172,5 +172,6 @@ static void tries_once(void)
     other_writer.store = (DconfdbStore *)(void *)&other_writer;
     try(&service);
     all_are_answered_or_wait();
-    CHECK(!has_turn && !has_batch, "descriptor: all is given back");
+    CHECK(!has_turn, "descriptor: the turn is given back");
+    CHECK(!has_batch, "memory: the batch is given back");
 }
