@@ -1,6 +1,7 @@
 /* Calls that keep nothing, or a few numbers: their answers are written as tables, or compared with those that are given in the model of the system. */
 #include "explore.h"
 #include "given.h"
+#include "served.h"
 
 #include <stdbool.h>
 #include <stdio.h>
@@ -153,10 +154,48 @@ static void compare_settling(void)
     }
 }
 
+static void compare_served_of(DconfdbServed known)
+{
+    for (uint32_t done = DCONFDB_SERVED_CAME; done <= DCONFDB_SERVED_NAMELESS; done++) {
+        if (dconfdb_served_after(done, &known) != served_given(done, &known))
+            fail("served_after", "another fate than is given");
+    }
+}
+
+/* By each bit that is known; and at each bound, and beyond it. */
+static void compare_served(void)
+{
+    static const uint64_t sizes[] = {0, 32768, 32769, 16777216, 16777217, 67108864, 67108865};
+    for (uint32_t bits = 0; bits < 4U * 4096; bits++) {
+        DconfdbServed known = {.said = bits / 4096, .is_used = bits & 1, .is_normal = bits & 2, .has_edits = bits & 4, .is_written = bits & 8,
+                               .is_closed = bits & 16, .ends = bits & 32, .is_amid = bits & 64, .is_same = bits & 128, .is_open = bits & 256,
+                               .is_profile_open = bits & 512, .has_same_file = bits & 1024, .had_name = bits & 2048, .is_bus_closed = bits & 1};
+        for (uint32_t i = 0; i < 7 * 8; i++) {
+            known.size = sizes[i / 8];
+            known.waiting = i & 1 ? 9999 : i & 2 ? 10000 : 0;
+            known.waiting_size = i & 2 ? 268435455 : i & 4 ? 268435456 : 0;
+            known.names = i & 4 ? 63 : 64;
+            compare_served_of(known);
+        }
+    }
+}
+
+/* Of a thread that watches nothing, and is in no line. */
+static void compare_rounds(void)
+{
+    for (uint32_t i = 0; i < 9U * 8 * (DCONFDB_ROUND_LEAVE + 1); i++) {
+        const DconfdbRound known = {.again = i % 3, .moment = i / 3 % 3, .ends = i / 9 & 1, .waits = i / 9 & 2, .has_asked = i / 9 & 4, .is_watched = true};
+        if (dconfdb_round_after(i / 72, &known) != round_given(i / 72, &known))
+            fail("round_after", "another task than is given");
+    }
+}
+
 void compare_answers(void)
 {
     compare_handing();
     compare_taking();
     compare_standings();
     compare_settling();
+    compare_served();
+    compare_rounds();
 }

@@ -1,0 +1,177 @@
+/* A try of the service's thread to write what waits, as the harnesses have it. */
+#include "service_writes.h"
+
+static bool has_turn, is_tried, is_written, is_flagged, has_batch;
+static bool is_told[CHANGES];
+static unsigned asked;            /* how many edits were to be written */
+static const Writer *written_for; /* whose */
+static char a_batch[1];           /* stands for a batch's memory */
+
+void change_free(Change *change)
+{
+    for (int i = 0; i < CHANGES; i++) {
+        if (change != changes[i])
+            continue;
+        CHECK(!is_gone[i], "memory: a change goes once");
+        CHECK(!change->call && calls_of[i]->answers == 1, "answer: no call goes that isn't answered");
+        is_gone[i] = true;
+    }
+    CHECK(!change->link.next && none_is_held(), "order: what goes is in no queue, and nobody's any more");
+}
+
+/* ---- the turn */
+
+int folder_lock(const char *folder, int milliseconds, FolderLock *lock)
+{
+    CHECK(folder == service.place.folder && milliseconds == WITHOUT_END && !has_turn, "order: the turn is taken once, and waited for");
+    CHECK(none_is_held(), "order: nobody is kept from anything while a turn is waited for");
+    int fault = any_fault();
+    has_turn = fault == 0;
+    *lock = (FolderLock){has_turn ? 7 : -1, has_turn ? 8 : -1, NULL};
+    return fault;
+}
+
+void folder_unlock(FolderLock *lock)
+{
+    CHECK(has_turn && lock->folder == 7, "descriptor: what is given back is had");
+    has_turn = false;
+}
+
+/* ---- a batch */
+
+Batch batch_new(size_t most)
+{
+    CHECK(!has_batch && most <= CHANGES, "memory: one batch");
+    has_batch = true;
+    asked = 0;
+    return (Batch){.queued = (DconfdbQueued *)(void *)a_batch};
+}
+
+void batch_add(Batch *batch, const DconfdbEdit *edit, uint64_t moment, size_t change, bool is_left_out)
+{
+    (void)moment;
+    CHECK(has_batch && edit == &an_edit && change == batch->count && !is_left_out, "step: each edit is one by itself");
+    batch->count++;
+    asked++;
+}
+
+bool batch_write(Batch *batch, DconfdbStore *store, const Turn *turn, DconfdbError *refusal, DconfdbError *fault)
+{
+    const Change *oldest = service.taken.head->data;
+    CHECK(has_batch && !is_tried, "step: a try writes once");
+    CHECK(store == oldest->writer->store && is_held(&oldest->writer->turn), "order: who writes keeps others from the store");
+    CHECK((turn->fault == 0) == has_turn, "order: nothing is written without the turn");
+    CHECK(batch->count == asked && refusal->code == DCONFDB_ERROR_NONE && fault->code == DCONFDB_ERROR_NONE, "step: all that is asked for");
+    written_for = oldest->writer;
+    is_tried = true;
+    is_written = turn->fault == 0 && any_bool();
+    batch->is_closed = any_bool();
+    return is_written;
+}
+
+bool batch_is_refused(const Batch *batch, size_t number)
+{
+    CHECK(has_batch && number < batch->count, "memory: an edit of the batch");
+    return any_bool();
+}
+
+bool batch_is_left_out(const Batch *batch, size_t number)
+{
+    CHECK(has_batch && number < batch->count, "memory: an edit of the batch");
+    return any_bool();
+}
+
+void batch_end(Batch *batch)
+{
+    CHECK(has_batch && batch->queued == (DconfdbQueued *)(void *)a_batch, "memory: what is freed is had");
+    has_batch = false;
+}
+
+/* ---- proved calls */
+
+uint32_t dconfdb_failing_met(DconfdbFailing *failing, bool is_there, bool is_momentary, bool tries_again, uint64_t now)
+{
+    (void)is_momentary, (void)now;
+    CHECK(failing == &service.failing && is_there == !is_written && tries_again, "answer: whether it is written");
+    failing->pause = any_u32();
+    uint32_t said = any_u32();
+    GIVEN(said <= DCONFDB_FAULT_OVER);
+    return said;
+}
+
+uint32_t dconfdb_verdict(uint32_t code, uint32_t fault)
+{
+    (void)code, (void)fault;
+    return any_bool() ? DCONFDB_QUEUE_SOON : DCONFDB_QUEUE_YES;
+}
+
+bool dconfdb_is_unmade(const DconfdbTried *edit) { return edit->is_refused || edit->is_left_out; }
+
+uint64_t dconfdb_moment_beside(const DconfdbTime *change, size_t n, const DconfdbTime *others, size_t others_n, uint64_t moment)
+{
+    CHECK(n <= 1 && __CPROVER_r_ok(change, n * sizeof *change), "memory: edits that are there");
+    CHECK(others_n > 0 && __CPROVER_r_ok(others, others_n * sizeof *others), "memory: edits that are there");
+    return moment;
+}
+
+/* ---- who is answered and told */
+
+static void is_answered(const GDBusMethodInvocation *call, bool is_acknowledged)
+{
+    if (is_late)
+        return;
+    for (int i = 0; i < CHANGES; i++) {
+        if (call != calls_of[i])
+            continue;
+        CHECK(has_come[i] && is_held(&changes[i]->writer->turn) && !is_held(&service.lock), "order: nobody looks at the files before it is answered");
+        CHECK(is_tried && changes[i]->writer == written_for, "order: nothing is answered before it was tried");
+        CHECK(!is_acknowledged || is_written || changes[i]->edits->len == 0, "answer: what is acknowledged is on the disk");
+        CHECK(!has_turn, "order: others may have their turn meanwhile");
+        CHECK(!is_written || asked == 0 || is_flagged, "order: dconf's readers see it before anybody is answered");
+        CHECK(i == 0 || !has_come[i - 1] || calls_of[i - 1]->answers == 1 || changes[i - 1]->writer != written_for, "order: who came first is answered first");
+    }
+}
+
+void flag_readers(const char *name)
+{
+    CHECK(is_written && name == written_for->name, "order: readers look again once it is written");
+    is_flagged = true;
+}
+
+void newest_begin(Newest *newest) { newest->edits = NULL; }
+void newest_end(Newest *newest) { (void)newest; }
+
+/* Of the first one that is answered, and wasn't told. */
+void tell_change(Writer *writer, Newest *newest, const GPtrArray *made, const char *tag)
+{
+    (void)newest;
+    bool is = false;
+    CHECK(writer == written_for && is_held(&writer->turn) && __CPROVER_r_ok(tag, 1), "order: who is told is told before others look");
+    for (guint i = 0; i < made->len; i++)
+        CHECK(is_written && made->pdata[i] == &an_edit, "answer: what is told is made");
+    for (int i = 0; !is && i < CHANGES; i++) {
+        is = has_come[i] && !is_told[i] && calls_of[i]->answers == 1 && !is_gone[i];
+        is_told[i] = is_told[i] || is;
+    }
+    CHECK(is, "order: who made it is answered before others are told");
+}
+
+void tell_others(Writer *writer, const Newest *newest, const GPtrArray *left_out)
+{
+    CHECK(writer == written_for && newest && is_held(&writer->turn), "order: what others changed is told after it");
+    for (guint i = 0; i < left_out->len; i++)
+        CHECK(__CPROVER_r_ok(left_out->pdata[i], 1), "memory: a path that is there");
+}
+
+void writer_has_written(Writer *writer) { CHECK(!is_held(&writer->turn), "order: who looks may"); }
+
+static void tries_once(void)
+{
+    set_up();
+    one_writer.store = (DconfdbStore *)(void *)&one_writer;
+    other_writer.store = (DconfdbStore *)(void *)&other_writer;
+    try(&service);
+    all_are_answered_or_wait();
+    CHECK(!has_turn, "descriptor: the turn is given back");
+    CHECK(!has_batch, "memory: the batch is given back");
+}

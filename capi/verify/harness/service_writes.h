@@ -1,0 +1,168 @@
+/* The service's changes, up to three and of up to two databases, as the harnesses of service/writes.c have them. What reads, writes and tells answers in
+ * any way. */
+#include "service/writes.c"
+#include "glib_world.h"
+#include "machines/served.h"
+#include "world.h"
+
+enum { CHANGES = 3 };
+
+static Service service;
+static Writer one_writer = {.service = &service, .name = "a"}, other_writer = {.service = &service, .name = "b"};
+static DconfdbEdit an_edit = {.path = "/a"};
+static bool has_come[CHANGES], is_gone[CHANGES];
+
+/* Each is an object by itself, for CBMC's sake. */
+static Change first, second, third;
+static GDBusMethodInvocation first_call, second_call, third_call;
+static GArray first_edits, second_edits, third_edits;
+static GPtrArray first_unfit, second_unfit, third_unfit;
+static Change *const changes[CHANGES] = {&first, &second, &third};
+static GDBusMethodInvocation *const calls_of[CHANGES] = {&first_call, &second_call, &third_call};
+static GArray *const edits_of[CHANGES] = {&first_edits, &second_edits, &third_edits};
+static GPtrArray *const unfit_of[CHANGES] = {&first_unfit, &second_unfit, &third_unfit};
+static bool is_late; /* it is the main thread that answers, at the end */
+
+/* ---- changes */
+
+/* The next change, of some database. */
+static void comes(int at)
+{
+    static gpointer a_path = "/long";
+    *changes[at] = (Change){.link = {.data = changes[at]}, .call = calls_of[at], .number = (guint64)at, .size = any_u32(), .edits = edits_of[at],
+                            .unfit = unfit_of[at]};
+    changes[at]->writer = any_bool() ? &other_writer : &one_writer;
+    calls_of[at]->references = 1;
+    *edits_of[at] = (GArray){(char *)&an_edit, 0};
+    *unfit_of[at] = (GPtrArray){&a_path, 0};
+    has_come[at] = true;
+}
+
+void change_read(Change *change)
+{
+    CHECK(!change->is_read || change->call, "memory: a change that is there");
+    CHECK(none_is_held(), "order: what takes a while is done while nobody is kept from anything");
+    if (change->is_read)
+        return;
+    change->is_read = true;
+    change->is_normal = any_bool();
+    change->edits->len = any_bool() ? 1 : 0;
+    change->unfit->len = any_bool() ? 1 : 0;
+}
+
+static void waits_in(GQueue *queue, int at)
+{
+    comes(at);
+    service.added++;
+    service.waiting_size += changes[at]->size;
+    g_queue_push_tail_link(queue, &changes[at]->link);
+}
+
+/* Two changes: the first may be taken. */
+static void set_up(void)
+{
+    service.place.folder = "/f";
+    service.has_thread = true;
+    if (any_bool()) {
+        waits_in(&service.taken, 0);
+        change_read(changes[0]);
+    } else {
+        waits_in(&service.waiting, 0);
+    }
+    waits_in(&service.waiting, 1);
+}
+
+uint64_t order_clock(void) { return any_u64(); }
+
+static bool is_in(const GQueue *queue, const Change *change)
+{
+    for (const GList *at = queue->head; at; at = at->next) {
+        if (at == &change->link)
+            return true;
+    }
+    return false;
+}
+
+/* Each change is answered and gone, or answered at the end, or waits, once; and it is counted. */
+static void all_are_answered_or_wait(void)
+{
+    guint64 left = 0, left_size = 0;
+    for (int i = 0; i < CHANGES; i++) {
+        if (!has_come[i])
+            continue;
+        unsigned waits = is_in(&service.taken, changes[i]) + is_in(&service.waiting, changes[i]);
+        CHECK(calls_of[i]->references + (int)calls_of[i]->answers == 1, "answer: each call is answered once");
+        CHECK(is_gone[i] ? calls_of[i]->answers == 1 && waits == 0 : waits + calls_of[i]->answers == 1, "answer: each is answered, or waits");
+        CHECK(!service.ends || calls_of[i]->answers == 1, "answer: at the end nobody is left who waits");
+        left += is_gone[i] ? 0 : 1;
+        left_size += is_gone[i] ? 0 : changes[i]->size;
+    }
+    CHECK(service.added - service.settled == left && service.waiting_size == left_size, "answer: what waits is counted");
+    CHECK(none_is_held(), "order: all is given back");
+}
+
+/* ---- proved calls */
+
+uint32_t dconfdb_served_after(uint32_t done, const DconfdbServed *known) { return served_given(done, known); }
+
+uint32_t dconfdb_round_after(uint32_t task, const DconfdbRound *known)
+{
+    CHECK(known->is_watched && is_held(&service.lock), "order: what is known of the changes stays so meanwhile");
+    return round_given(task, known);
+}
+
+/* ---- answers */
+
+static void is_answered(const GDBusMethodInvocation *call, bool is_acknowledged);
+
+static void answers(GDBusMethodInvocation *call, bool is_acknowledged)
+{
+    is_answered(call, is_acknowledged);
+    CHECK(call->references > 0 && call->answers == 0, "answer: a call is answered once");
+    call->answers++;
+    call->references--;
+}
+
+void call_refuse(GDBusMethodInvocation *call, uint32_t served, const char *why)
+{
+    CHECK(served > DCONFDB_SERVED_ACKNOWLEDGED && served <= DCONFDB_SERVED_LATE, "answer: there are words for it");
+    CHECK(is_late == (served == DCONFDB_SERVED_LATE) && (is_late || why), "answer: the end is told by who ends");
+    answers(call, false);
+}
+
+GVariant *g_variant_new(const char *format, ...)
+{
+    (void)format;
+    return NULL;
+}
+
+void g_dbus_method_invocation_return_value(GDBusMethodInvocation *call, GVariant *value)
+{
+    (void)value;
+    answers(call, true);
+}
+
+const char *g_dbus_connection_get_unique_name(GDBusConnection *bus)
+{
+    (void)bus;
+    return ":1";
+}
+
+/* ---- the main thread */
+
+int pthread_join(pthread_t thread, void **result)
+{
+    (void)thread, (void)result;
+    CHECK(service.ends && none_is_held(), "order: who waits for the thread has told it, and keeps it from nothing");
+    CHECK(!service.is_writing && service.taken.length == 0 && service.waiting.length == 0, "step: it is waited for where it has nothing to do");
+    return any_bool() ? 0 : 3;
+}
+
+/* Whether the thread isn't left. */
+static bool ends(void)
+{
+    is_late = true;
+    bool is = service_stop_writing(&service);
+    is_late = false;
+    return is;
+}
