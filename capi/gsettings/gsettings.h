@@ -99,18 +99,26 @@ bool waiting_settle(Waiting *waiting, const DconfdbSnapshot *now);
 /* A key at the moment when changes are forgotten: what its newest edit said before, and what that of
  * then says, if there is one. */
 typedef struct {
-    char *path;
+    const char *path;
     GVariant *before, *after; /* NULL: a reset, or no edit */
     bool is_edited;           /* an edit still waits */
 } Edited;
+
+/* Such keys, by their paths, in one block with these. */
+typedef struct {
+    size_t count;
+    Edited all[];
+} EditedKeys;
+
+void edited_free(EditedKeys *keys);
 
 /* All changes, to be written. They stay in the line, and are still found. */
 GQueue waiting_take(Waiting *waiting);
 
 /* When it was tried to write those that were taken; `taken` is empty then. Those that are not written wait on, before all that
  * came since, or are overtaken: so no more of them wait than there are keys, however long that takes. It says what each key's newest edit was,
- * and is now: an array of Edited, by their paths, to be freed; or NULL. `gone` has those that no longer wait. */
-GArray *waiting_end_try(Waiting *waiting, GQueue *taken, bool is_written, GQueue *gone);
+ * and is now, to be freed; or NULL. `gone` has those that no longer wait. */
+EditedKeys *waiting_end_try(Waiting *waiting, GQueue *taken, bool is_written, GQueue *gone);
 
 /* Makes the changes, and marks those that are refused, each for a fault of its own. What is to be told of that is in `refusal`, if it has a
  * number; it is told too where resets were left out since nobody may write there. False: the others are not written, by no fault of theirs,
@@ -312,7 +320,7 @@ typedef struct {
     bool waits_again; /* what was taken could not be written */
     GQueue taken;     /* changes of ours that are being written */
     GQueue gone;      /* and those that no longer wait */
-    GArray *edited;          /* keys that an edit of ours was for; NULL: none */
+    EditedKeys *edited;      /* keys that an edit of ours was for; NULL: none */
     char **odd;              /* keys that were read past a value of another type, and that type, each pair in turn; NULL: none */
     GPtrArray *faults;       /* to warn of; NULL: none */
 } Notice;

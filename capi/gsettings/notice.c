@@ -35,8 +35,8 @@ static int by_path(const void *path, const void *edited)
 /* What our edits of the key said before, and say now; NULL: there was none. */
 static const Edited *edited_of(const Notice *notice, const char *path)
 {
-    const GArray *all = notice->edited;
-    return all ? bsearch(path, all->data, all->len, sizeof(Edited), by_path) : NULL;
+    const EditedKeys *keys = notice->edited;
+    return keys ? bsearch(path, keys->all, keys->count, sizeof keys->all[0], by_path) : NULL;
 }
 
 static DconfdbEdit edit_of(const char *path, GVariant *value)
@@ -67,13 +67,13 @@ static void add_asked(Asked *asked, const char *path, const char *type, const Ed
  * over: their default is seen. */
 static void ask(Asked *asked, const Notice *notice)
 {
-    guint edited = notice->edited ? notice->edited->len : 0, odd = notice->odd ? g_strv_length(notice->odd) / 2 : 0;
+    guint edited = notice->edited ? (guint)notice->edited->count : 0, odd = notice->odd ? g_strv_length(notice->odd) / 2 : 0;
     bool are_few = edited + odd <= FEW_KEYS;
     asked->keys = are_few ? asked->few_keys : g_new(SeenKey, edited + odd);
     asked->edits = are_few ? asked->few_edits : g_new(DconfdbEdit, 2 * (edited + odd));
     asked->count = 0;
     for (guint i = 0; i < edited; i++) {
-        const Edited *one = &g_array_index(notice->edited, Edited, i);
+        const Edited *one = &notice->edited->all[i];
         add_asked(asked, one->path, NULL, one);
     }
     for (guint i = 0; i < odd; i++)
@@ -210,7 +210,7 @@ void notice_tell(DconfdbBackend *self, Notice *notice)
     for (guint i = 0; notice->faults && i < notice->faults->len; i++)
         say(self, notice->faults->pdata[i]);
     g_clear_pointer(&notice->faults, g_ptr_array_unref);
-    g_clear_pointer(&notice->edited, g_array_unref);
+    g_clear_pointer(&notice->edited, edited_free);
     g_strfreev(notice->odd);
     changes_free(&notice->gone);
     dconfdb_snapshot_unref(notice->before);

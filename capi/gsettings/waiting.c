@@ -1,6 +1,8 @@
 /* Changes that wait to be written: what becomes of one beside the others, which is the newest of a key, and how they are written. */
+#define _POSIX_C_SOURCE 200809L
 #include "gsettings.h"
 
+#include <stdlib.h>
 #include <string.h>
 
 /* Normal forms of one type are alike where their bytes are. */
@@ -219,12 +221,13 @@ static GVariant *value_of(const Edit *edit)
     return edit && edit->value ? g_variant_ref(edit->value) : NULL;
 }
 
-static void free_edited(gpointer data)
+void edited_free(EditedKeys *keys)
 {
-    Edited *edited = data;
-    g_free(edited->path);
-    g_clear_pointer(&edited->before, g_variant_unref);
-    g_clear_pointer(&edited->after, g_variant_unref);
+    for (size_t key = 0; key < keys->count; key++) {
+        g_clear_pointer(&keys->all[key].before, g_variant_unref);
+        g_clear_pointer(&keys->all[key].after, g_variant_unref);
+    }
+    g_free(keys);
 }
 
 static int by_path(const void *one, const void *other)
@@ -232,20 +235,30 @@ static int by_path(const void *one, const void *other)
     return strcmp(((const Edited *)one)->path, ((const Edited *)other)->path);
 }
 
+static EditedKeys *edited_new(const Waiting *waiting)
+{
+    size_t count = waiting->newest->len, paths = 0;
+    for (size_t key = 0; key < count; key++)
+        paths += strlen(newest_of(waiting, key)->path) + 1;
+    EditedKeys *keys = g_malloc(sizeof *keys + count * sizeof keys->all[0] + paths);
+    keys->count = count;
+    return keys;
+}
+
 /* The newest edit of each key, of which none is known to be gone, by their paths; NULL if there is none. */
-static GArray *edited_of(const Waiting *waiting)
+static EditedKeys *edited_of(const Waiting *waiting)
 {
     if (waiting->edits->len == 0)
         return NULL;
-    GArray *all = g_array_new(FALSE, FALSE, sizeof(Edited));
-    g_array_set_clear_func(all, free_edited);
-    for (size_t key = 0; key < waiting->newest->len; key++) {
+    EditedKeys *keys = edited_new(waiting);
+    char *room = (char *)&keys->all[keys->count];
+    for (size_t key = 0; key < keys->count; key++) {
         const Edit *newest = newest_of(waiting, key);
-        Edited one = {g_strdup(newest->path), value_of(newest), NULL, false};
-        g_array_append_val(all, one);
+        keys->all[key] = (Edited){room, value_of(newest), NULL, false};
+        room = stpcpy(room, newest->path) + 1;
     }
-    g_array_sort(all, by_path);
-    return all;
+    qsort(keys->all, keys->count, sizeof keys->all[0], by_path);
+    return keys;
 }
 
 /* Asked once more, by the newest snapshot. Who does is at work. */
@@ -314,9 +327,9 @@ static void let_go_of_taken(Waiting *waiting, GQueue *taken)
     waiting->taken = 0;
 }
 
-GArray *waiting_end_try(Waiting *waiting, GQueue *taken, bool is_written, GQueue *gone)
+EditedKeys *waiting_end_try(Waiting *waiting, GQueue *taken, bool is_written, GQueue *gone)
 {
-    GArray *all = edited_of(waiting);
+    EditedKeys *keys = edited_of(waiting);
     if (taken->length > 0) {
         for (guint at = 0; at < waiting->line->len; at++)
             line_of(waiting)[at] = known_after_try(waiting, change_at(waiting, at));
@@ -324,13 +337,13 @@ GArray *waiting_end_try(Waiting *waiting, GQueue *taken, bool is_written, GQueue
         *gone = settle_line(waiting, is_written);
         put_again(waiting);
     }
-    for (guint i = 0; all && i < all->len; i++) {
-        Edited *one = &g_array_index(all, Edited, i);
+    for (size_t key = 0; keys && key < keys->count; key++) {
+        Edited *one = &keys->all[key];
         const Edit *edit = waiting_find(waiting, one->path);
         one->is_edited = edit != NULL;
         one->after = value_of(edit);
     }
-    return all;
+    return keys;
 }
 
 /* ---- how they are written */
