@@ -61,16 +61,24 @@ static DconfdbNewEdit known_of(const Edit *edit, const Edit *waits, const Dconfd
                             .is_taken = waits && waits->change->is_taken};
 }
 
+/* What becomes of a change of one edit is what becomes of that. */
+static void leave_out(Change *change, uint32_t entry)
+{
+    for (size_t i = 0; i < change->count; i++)
+        change->edits[i].is_left_out = change->count == 1 ? entry == DCONFDB_ENTRY_EMPTY : edit_is_left_out(&change->known[i]);
+}
+
 uint32_t change_entry(Change *change, const Waiting *waiting, const DconfdbSnapshot *now, bool is_at_work)
 {
     for (size_t i = 0; i < change->count; i++) {
         Edit *edit = &change->edits[i];
         edit->key = key_of(waiting, edit);
         change->known[i] = known_of(edit, newest_of(waiting, edit->key), now, is_at_work);
-        edit->is_left_out = edit_is_left_out(&change->known[i]);
     }
     bool is_there;
-    return dconfdb_entry(change->known, change->count, &is_there);
+    uint32_t entry = dconfdb_entry(change->known, change->count, &is_there);
+    leave_out(change, entry);
+    return entry;
 }
 
 /* ---- what waits */
