@@ -1,4 +1,4 @@
-/* A change that is to be written, and its edits. */
+/* A change that is to be written, its edits, and how it is written. */
 #define _POSIX_C_SOURCE 200809L
 #include "gsettings.h"
 
@@ -40,6 +40,7 @@ void change_add(Change *change, const char *path, GVariant *value)
     edit->value = value ? g_variant_get_normal_form(value) : NULL;
     edit->asked = edit_of(edit);
     edit->is_left_out = false;
+    edit->may_be_of = edit->stored_of = 0;
 }
 
 static int by_name(const void *one, const void *other, void *data)
@@ -78,4 +79,48 @@ void changes_free(GQueue *changes)
 {
     for (GList *at; (at = g_queue_pop_head_link(changes));)
         change_free(at->data);
+}
+
+/* ---- how they are written */
+
+static size_t edits_in(const GQueue *changes)
+{
+    size_t count = 0;
+    for (const GList *at = changes->head; at; at = at->next)
+        count += ((const Change *)at->data)->count;
+    return count;
+}
+
+static Batch batch_of(const GQueue *changes)
+{
+    Batch batch = batch_new(edits_in(changes));
+    for (const GList *at = changes->head; at; at = at->next) {
+        const Change *change = at->data;
+        size_t first = batch.count;
+        for (size_t i = 0; i < change->count; i++)
+            batch_add(&batch, &change->edits[i].asked, change->moment, first, change->edits[i].is_left_out);
+    }
+    return batch;
+}
+
+/* Tells each edit that it is left out, and each change that it is refused. */
+static void mark_unmade(const Batch *batch, const GQueue *changes)
+{
+    size_t first = 0;
+    for (const GList *at = changes->head; at; at = at->next) {
+        Change *change = at->data;
+        for (size_t i = 0; i < change->count; i++)
+            change->edits[i].is_left_out = batch_is_left_out(batch, first + i);
+        change->is_refused = batch_is_refused(batch, first);
+        first += change->count;
+    }
+}
+
+bool changes_write(DconfdbStore *store, const Turn *turn, const GQueue *changes, DconfdbError *refusal, DconfdbError *fault)
+{
+    Batch batch = batch_of(changes);
+    bool done = batch_write(&batch, store, turn, refusal, fault);
+    mark_unmade(&batch, changes);
+    batch_end(&batch);
+    return done;
 }

@@ -37,6 +37,8 @@ typedef struct Edit {
     GVariant *value;
     DconfdbEdit asked; /* the same for the library: it lends the path and the value's bytes */
     bool is_left_out;
+    bool may_be_written, is_stored; /* as the newest snapshot has it, if these are the number of that: it is asked once */
+    guint64 may_be_of, stored_of;
 } Edit;
 
 /* Edits of which all are made, or none. */
@@ -63,6 +65,7 @@ typedef struct {
     GHashTable *keys; /* a set of edits, one of each key, which has the number of that, by their paths */
     GPtrArray *edits; /* all but those that are left out, by their numbers less one */
     GArray *newest;   /* of each key the number of its newest edit, as the proved calls have it */
+    guint64 shown;    /* the number of the newest snapshot: how often one was handed out, and one more */
 } Waiting;
 
 /* With room for so many edits, and so many bytes of their paths, each with a zero byte. */
@@ -115,7 +118,7 @@ void edited_free(EditedKeys *keys);
 /* All changes, to be written. They stay in the line, and are still found. */
 GQueue waiting_take(Waiting *waiting);
 
-/* When it was tried to write those that were taken; `taken` is empty then. Those that are not written wait on, before all that
+/* When a snapshot is handed out, and it was tried to write those that were taken; `taken` is empty then. Those that are not written wait on, before all that
  * came since, or are overtaken: so no more of them wait than there are keys, however long that takes. It says what each key's newest edit was,
  * and is now, to be freed; or NULL. `gone` has those that no longer wait. */
 EditedKeys *waiting_end_try(Waiting *waiting, GQueue *taken, bool is_written, GQueue *gone);

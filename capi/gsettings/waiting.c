@@ -39,23 +39,28 @@ static bool is_alone(const Edit *edit)
     return edit->change->most == 1;
 }
 
-static bool may_be_made(const Edit *edit, const DconfdbSnapshot *now, bool is_at_work)
+static bool may_be_made(Edit *edit, guint64 shown, const DconfdbSnapshot *now, bool is_at_work)
 {
-    bool may = now && dconfdb_snapshot_is_writable(now, edit->path);
-    return dconfdb_may_be_made((const uint8_t *)edit->path, strlen(edit->path), edit->value != NULL, is_at_work, may);
+    if (edit->may_be_of != shown)
+        edit->may_be_written = now && dconfdb_snapshot_is_writable(now, edit->path);
+    edit->may_be_of = shown;
+    return dconfdb_may_be_made((const uint8_t *)edit->path, strlen(edit->path), edit->value != NULL, is_at_work, edit->may_be_written);
 }
 
-static bool is_stored(const Edit *edit, const DconfdbSnapshot *now)
+static bool is_stored(Edit *edit, guint64 shown, const DconfdbSnapshot *now)
 {
-    return now && dconfdb_snapshot_has_edit(now, &edit->asked);
+    if (edit->stored_of != shown)
+        edit->is_stored = now && dconfdb_snapshot_has_edit(now, &edit->asked);
+    edit->stored_of = shown;
+    return edit->is_stored;
 }
 
-/* What is known of an edit beside the newest one of its key that waits, or else beside the newest snapshot. */
-static DconfdbNewEdit known_of(const Edit *edit, const Edit *waits, const DconfdbSnapshot *now, bool is_at_work)
+/* What is known of an edit beside the newest one of its key that waits, or else beside the newest snapshot, which is the one of that number. */
+static DconfdbNewEdit known_of(Edit *edit, const Edit *waits, guint64 shown, const DconfdbSnapshot *now, bool is_at_work)
 {
     return (DconfdbNewEdit){.sets = edit->value != NULL,
-                            .may = may_be_made(edit, now, is_at_work),
-                            .is_same = waits ? are_alike(&waits->asked, &edit->asked) : is_stored(edit, now),
+                            .may = may_be_made(edit, shown, now, is_at_work),
+                            .is_same = waits ? are_alike(&waits->asked, &edit->asked) : is_stored(edit, shown, now),
                             .waits = waits != NULL,
                             .is_alone = waits && is_alone(waits),
                             .is_taken = waits && waits->change->is_taken};
@@ -73,7 +78,7 @@ uint32_t change_entry(Change *change, const Waiting *waiting, const DconfdbSnaps
     for (size_t i = 0; i < change->count; i++) {
         Edit *edit = &change->edits[i];
         edit->key = key_of(waiting, edit);
-        change->known[i] = known_of(edit, newest_of(waiting, edit->key), now, is_at_work);
+        change->known[i] = known_of(edit, newest_of(waiting, edit->key), waiting->shown, now, is_at_work);
     }
     bool is_there;
     uint32_t entry = dconfdb_entry(change->known, change->count, &is_there);
@@ -109,6 +114,7 @@ void waiting_begin(Waiting *waiting)
     waiting->keys = g_hash_table_new(hash_of, are_of_one_key);
     waiting->edits = g_ptr_array_new();
     waiting->newest = g_array_sized_new(FALSE, FALSE, sizeof(size_t), 1);
+    waiting->shown = 1;
 }
 
 void waiting_end(Waiting *waiting)
@@ -273,8 +279,8 @@ static EditedKeys *edited_of(const Waiting *waiting)
 static bool is_there_already(const Waiting *waiting, Change *change, const DconfdbSnapshot *now)
 {
     for (size_t i = 0; i < change->count; i++) {
-        const Edit *edit = &change->edits[i];
-        change->known[i] = known_of(edit, NULL, now, true);
+        Edit *edit = &change->edits[i];
+        change->known[i] = known_of(edit, NULL, waiting->shown, now, true);
         change->known[i].waits = edit->before > 0 || newest_of(waiting, edit->key) != edit;
     }
     return edits_are_there(change->known, change->count);
@@ -338,6 +344,7 @@ static void let_go_of_taken(Waiting *waiting, GQueue *taken)
 EditedKeys *waiting_end_try(Waiting *waiting, GQueue *taken, bool is_written, GQueue *gone)
 {
     EditedKeys *keys = edited_of(waiting);
+    waiting->shown++;
     if (taken->length > 0) {
         for (guint at = 0; at < waiting->line->len; at++)
             line_of(waiting)[at] = known_after_try(waiting, change_at(waiting, at));
@@ -352,48 +359,4 @@ EditedKeys *waiting_end_try(Waiting *waiting, GQueue *taken, bool is_written, GQ
         one->after = value_of(edit);
     }
     return keys;
-}
-
-/* ---- how they are written */
-
-static size_t edits_in(const GQueue *changes)
-{
-    size_t count = 0;
-    for (const GList *at = changes->head; at; at = at->next)
-        count += ((const Change *)at->data)->count;
-    return count;
-}
-
-static Batch batch_of(const GQueue *changes)
-{
-    Batch batch = batch_new(edits_in(changes));
-    for (const GList *at = changes->head; at; at = at->next) {
-        const Change *change = at->data;
-        size_t first = batch.count;
-        for (size_t i = 0; i < change->count; i++)
-            batch_add(&batch, &change->edits[i].asked, change->moment, first, change->edits[i].is_left_out);
-    }
-    return batch;
-}
-
-/* Tells each edit that it is left out, and each change that it is refused. */
-static void mark_unmade(const Batch *batch, const GQueue *changes)
-{
-    size_t first = 0;
-    for (const GList *at = changes->head; at; at = at->next) {
-        Change *change = at->data;
-        for (size_t i = 0; i < change->count; i++)
-            change->edits[i].is_left_out = batch_is_left_out(batch, first + i);
-        change->is_refused = batch_is_refused(batch, first);
-        first += change->count;
-    }
-}
-
-bool changes_write(DconfdbStore *store, const Turn *turn, const GQueue *changes, DconfdbError *refusal, DconfdbError *fault)
-{
-    Batch batch = batch_of(changes);
-    bool done = batch_write(&batch, store, turn, refusal, fault);
-    mark_unmade(&batch, changes);
-    batch_end(&batch);
-    return done;
 }
