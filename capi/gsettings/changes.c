@@ -4,6 +4,23 @@
 
 #include <string.h>
 
+static uint64_t mixed(uint64_t hash, const char *bytes, size_t len)
+{
+    uint64_t word = 0;
+    memcpy(&word, bytes, len);
+    hash = (hash ^ word) * 0x9e3779b97f4a7c15;
+    return hash ^ hash >> 32;
+}
+
+guint path_hash(const char *path, size_t len)
+{
+    uint64_t hash = len;
+    size_t at = 0;
+    for (; len - at >= sizeof hash; at += sizeof hash)
+        hash = mixed(hash, path + at, sizeof hash);
+    return (guint)mixed(hash, path + at, len - at);
+}
+
 Change *change_new(size_t most, size_t paths)
 {
     Change *change = g_malloc(sizeof *change + most * (sizeof change->edits[0] + sizeof change->known[0]) + paths);
@@ -31,7 +48,7 @@ void change_add(Change *change, const char *path, GVariant *value)
     Edit *edit = &change->edits[change->count++];
     edit->path = change->room;
     change->room = stpcpy(change->room, path) + 1;
-    edit->hash = g_str_hash(path);
+    edit->hash = path_hash(edit->path, (size_t)(change->room - edit->path) - 1);
     edit->key = NO_KEY;
     edit->number = edit->before = 0;
     edit->change = change;

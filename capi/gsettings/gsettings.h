@@ -68,6 +68,9 @@ typedef struct {
     guint64 shown;    /* the number of the newest snapshot: how often one was handed out, and one more */
 } Waiting;
 
+/* Of a path of so many bytes, eight at a time: a path is hashed at each set, and at each read while something waits. */
+guint path_hash(const char *path, size_t len);
+
 /* With room for so many edits, and so many bytes of their paths, each with a zero byte. */
 Change *change_new(size_t most, size_t paths);
 void change_add(Change *change, const char *path, GVariant *value);
@@ -104,6 +107,7 @@ bool waiting_settle(Waiting *waiting, const DconfdbSnapshot *now);
 typedef struct {
     const char *path;
     GVariant *before, *after; /* NULL: a reset, or no edit */
+    DconfdbEdit was, is;      /* the edits, which these and the path are lent to */
     bool is_edited;           /* an edit still waits */
 } Edited;
 

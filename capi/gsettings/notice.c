@@ -39,28 +39,15 @@ static const Edited *edited_of(const Notice *notice, const char *path)
     return keys ? bsearch(path, keys->all, keys->count, sizeof keys->all[0], by_path) : NULL;
 }
 
-static DconfdbEdit edit_of(const char *path, GVariant *value)
-{
-    if (!value)
-        return (DconfdbEdit){path, NULL, NULL, 0};
-    return (DconfdbEdit){path, g_variant_get_type_string(value), g_variant_get_data(value), g_variant_get_size(value)};
-}
-
-/* Keys that are asked for by themselves, and what they lend of our edits: mostly few. */
+/* Keys that are asked for by themselves, mostly few. They lend our edits of them. */
 typedef struct {
     SeenKey *keys, few_keys[FEW_KEYS];
-    DconfdbEdit *edits, few_edits[2 * FEW_KEYS];
     guint count;
 } Asked;
 
 static void add_asked(Asked *asked, const char *path, const char *type, const Edited *edited)
 {
-    DconfdbEdit *was = &asked->edits[2 * asked->count], *is = was + 1;
-    if (edited) {
-        *was = edit_of(path, edited->before);
-        *is = edit_of(path, edited->after);
-    }
-    asked->keys[asked->count++] = (SeenKey){path, type, edited ? was : NULL, edited && edited->is_edited ? is : NULL};
+    asked->keys[asked->count++] = (SeenKey){path, type, edited ? &edited->was : NULL, edited && edited->is_edited ? &edited->is : NULL};
 }
 
 /* What a program set was told when it set it; so only what is seen otherwise since. And keys of which a value of another type was passed
@@ -70,7 +57,6 @@ static void ask(Asked *asked, const Notice *notice)
     guint edited = notice->edited ? (guint)notice->edited->count : 0, odd = notice->odd ? g_strv_length(notice->odd) / 2 : 0;
     bool are_few = edited + odd <= FEW_KEYS;
     asked->keys = are_few ? asked->few_keys : g_new(SeenKey, edited + odd);
-    asked->edits = are_few ? asked->few_edits : g_new(DconfdbEdit, 2 * (edited + odd));
     asked->count = 0;
     for (guint i = 0; i < edited; i++) {
         const Edited *one = &notice->edited->all[i];
@@ -86,10 +72,8 @@ static bool is_told(Told *told, const Notice *notice)
     Asked asked;
     ask(&asked, notice);
     bool is = seen_otherwise(told, notice->before, notice->after, asked.keys, asked.count, NULL);
-    if (asked.keys != asked.few_keys) {
+    if (asked.keys != asked.few_keys)
         g_free(asked.keys);
-        g_free(asked.edits);
-    }
     return is;
 }
 

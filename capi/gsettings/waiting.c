@@ -39,10 +39,18 @@ static bool is_alone(const Edit *edit)
     return edit->change->most == 1;
 }
 
-static bool may_be_made(Edit *edit, guint64 shown, const DconfdbSnapshot *now, bool is_at_work)
+/* What it has of another edit of the key, it has of this one. */
+static bool is_writable(const Edit *edit, const Edit *waits, guint64 shown, const DconfdbSnapshot *now)
+{
+    if (waits && waits->may_be_of == shown)
+        return waits->may_be_written;
+    return now && dconfdb_snapshot_is_writable(now, edit->path);
+}
+
+static bool may_be_made(Edit *edit, const Edit *waits, guint64 shown, const DconfdbSnapshot *now, bool is_at_work)
 {
     if (edit->may_be_of != shown)
-        edit->may_be_written = now && dconfdb_snapshot_is_writable(now, edit->path);
+        edit->may_be_written = is_writable(edit, waits, shown, now);
     edit->may_be_of = shown;
     return dconfdb_may_be_made((const uint8_t *)edit->path, strlen(edit->path), edit->value != NULL, is_at_work, edit->may_be_written);
 }
@@ -59,7 +67,7 @@ static bool is_stored(Edit *edit, guint64 shown, const DconfdbSnapshot *now)
 static DconfdbNewEdit known_of(Edit *edit, const Edit *waits, guint64 shown, const DconfdbSnapshot *now, bool is_at_work)
 {
     return (DconfdbNewEdit){.sets = edit->value != NULL,
-                            .may = may_be_made(edit, shown, now, is_at_work),
+                            .may = may_be_made(edit, waits, shown, now, is_at_work),
                             .is_same = waits ? are_alike(&waits->asked, &edit->asked) : is_stored(edit, shown, now),
                             .waits = waits != NULL,
                             .is_alone = waits && is_alone(waits),
@@ -201,7 +209,7 @@ const Edit *waiting_find(const Waiting *waiting, const char *path)
 {
     if (waiting->edits->len == 0)
         return NULL;
-    Edit sought = {.path = (char *)path, .hash = g_str_hash(path)};
+    Edit sought = {.path = (char *)path, .hash = path_hash(path, strlen(path))};
     return newest_of(waiting, key_of(waiting, &sought));
 }
 
@@ -249,6 +257,14 @@ static int by_path(const void *one, const void *other)
     return strcmp(((const Edited *)one)->path, ((const Edited *)other)->path);
 }
 
+/* What an edit asks for, at a path that stays. */
+static DconfdbEdit asked_at(const Edit *edit, const char *path)
+{
+    DconfdbEdit asked = edit->asked;
+    asked.path = path;
+    return asked;
+}
+
 static EditedKeys *edited_new(const Waiting *waiting)
 {
     size_t count = waiting->newest->len, paths = 0;
@@ -268,7 +284,7 @@ static EditedKeys *edited_of(const Waiting *waiting)
     char *room = (char *)&keys->all[keys->count];
     for (size_t key = 0; key < keys->count; key++) {
         const Edit *newest = newest_of(waiting, key);
-        keys->all[key] = (Edited){room, value_of(newest), NULL, false};
+        keys->all[key] = (Edited){.path = room, .before = value_of(newest), .was = asked_at(newest, room)};
         room = stpcpy(room, newest->path) + 1;
     }
     qsort(keys->all, keys->count, sizeof keys->all[0], by_path);
@@ -357,6 +373,8 @@ EditedKeys *waiting_end_try(Waiting *waiting, GQueue *taken, bool is_written, GQ
         const Edit *edit = waiting_find(waiting, one->path);
         one->is_edited = edit != NULL;
         one->after = value_of(edit);
+        if (edit)
+            one->is = asked_at(edit, one->path);
     }
     return keys;
 }
