@@ -57,7 +57,7 @@ void change_add(Change *change, const char *path, GVariant *value)
     edit->value = value ? g_variant_get_normal_form(value) : NULL;
     edit->asked = edit_of(edit);
     edit->is_left_out = false;
-    edit->may_be_of = edit->stored_of = 0;
+    edit->may_be_of = 0;
 }
 
 static int by_name(const void *one, const void *other, void *data)

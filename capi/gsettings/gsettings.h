@@ -37,8 +37,8 @@ typedef struct Edit {
     GVariant *value;
     DconfdbEdit asked; /* the same for the library: it lends the path and the value's bytes */
     bool is_left_out;
-    bool may_be_written, is_stored; /* as the newest snapshot has it, if these are the number of that: it is asked once */
-    guint64 may_be_of, stored_of;
+    bool may_be_written; /* as the newest snapshot has it, if that has this number: it is asked once */
+    guint64 may_be_of;
 } Edit;
 
 /* Edits of which all are made, or none. */

@@ -55,12 +55,9 @@ static bool may_be_made(Edit *edit, const Edit *waits, guint64 shown, const Dcon
     return dconfdb_may_be_made((const uint8_t *)edit->path, strlen(edit->path), edit->value != NULL, is_at_work, edit->may_be_written);
 }
 
-static bool is_stored(Edit *edit, guint64 shown, const DconfdbSnapshot *now)
+static bool is_stored(const Edit *edit, const DconfdbSnapshot *now)
 {
-    if (edit->stored_of != shown)
-        edit->is_stored = now && dconfdb_snapshot_has_edit(now, &edit->asked);
-    edit->stored_of = shown;
-    return edit->is_stored;
+    return now && dconfdb_snapshot_has_edit(now, &edit->asked);
 }
 
 /* What is known of an edit beside the newest one of its key that waits, or else beside the newest snapshot, which is the one of that number. */
@@ -68,7 +65,7 @@ static DconfdbNewEdit known_of(Edit *edit, const Edit *waits, guint64 shown, con
 {
     return (DconfdbNewEdit){.sets = edit->value != NULL,
                             .may = may_be_made(edit, waits, shown, now, is_at_work),
-                            .is_same = waits ? are_alike(&waits->asked, &edit->asked) : is_stored(edit, shown, now),
+                            .is_same = waits ? are_alike(&waits->asked, &edit->asked) : is_stored(edit, now),
                             .waits = waits != NULL,
                             .is_alone = waits && is_alone(waits),
                             .is_taken = waits && waits->change->is_taken};
@@ -291,7 +288,7 @@ static EditedKeys *edited_of(const Waiting *waiting)
     return keys;
 }
 
-/* Asked once more, by the newest snapshot. Who does is at work. */
+/* Asked once more, by the newest snapshot, of a change that asks: of others it doesn't count. Who does is at work. */
 static bool is_there_already(const Waiting *waiting, Change *change, const DconfdbSnapshot *now)
 {
     for (size_t i = 0; i < change->count; i++) {
@@ -338,7 +335,7 @@ bool waiting_settle(Waiting *waiting, const DconfdbSnapshot *now)
         Change *change = change_at(waiting, at);
         *waiter = waiter_of(change);
         waiter->asks = change->asks;
-        waiter->is_there = is_there_already(waiting, change, now);
+        waiter->is_there = change->asks && is_there_already(waiting, change, now);
     }
     GQueue settled = settle_line(waiting, false);
     bool is_any = settled.length > 0;
