@@ -9,7 +9,7 @@ static _Thread_local LentRoom *lent __attribute__((tls_model("initial-exec")));
 
 void lend_room(LentRoom *room, void *bytes, size_t size)
 {
-    *room = (LentRoom){lent, bytes, bytes, (char *)bytes + size, 0};
+    *room = (LentRoom){lent, bytes, bytes, (char *)bytes + (size & ~(size_t)(ALIGNED - 1)), 0};
     lent = room;
 }
 
@@ -34,14 +34,16 @@ static int is_lent(const LentRoom *room, const void *at)
     return room && (uintptr_t)at - (uintptr_t)room->start < (uintptr_t)(room->end - room->start);
 }
 
-/* The next bytes of the room, if they are enough. */
+/* Whether it has so many bytes from there on: all that a room has is aligned, and so has room for the aligned size, too. */
+static int has_room(const LentRoom *room, const char *at, size_t size)
+{
+    return size <= (size_t)(room->end - at);
+}
+
 static void *taken_from(LentRoom *room, size_t size)
 {
-    size_t wanted = aligned(size), left = (size_t)(room->end - room->next);
-    if (size > left || wanted > left)
-        return NULL;
     void *at = room->next;
-    room->next += wanted;
+    room->next += aligned(size);
     room->count++;
     return at;
 }
@@ -56,15 +58,17 @@ static void given_back(LentRoom *room)
 Block rattle_alloc(size_t size, size_t align)
 {
     size_t wanted = size > 0 ? size : align;
-    void *at = lent ? taken_from(lent, wanted) : NULL;
-    return at ? (Block){1, at} : block(malloc(wanted));
+    LentRoom *room = lent;
+    if (room && has_room(room, room->next, wanted))
+        return (Block){1, taken_from(room, wanted)};
+    return block(malloc(wanted));
 }
 
 /* The newest block grows in its place, if there is room. */
 static void *grown(LentRoom *room, char *at, size_t old_size, size_t size)
 {
     int is_newest = at + aligned(old_size) == room->next;
-    if (!is_newest || size > (size_t)(room->end - at) || aligned(size) > (size_t)(room->end - at))
+    if (!is_newest || !has_room(room, at, size))
         return NULL;
     room->next = at + aligned(size);
     return at;

@@ -11,11 +11,18 @@ static inline DconfdbBackend *backend_of(GSettingsBackend *backend)
 
 /* ---- reads (reads.c) */
 
-/* Where nothing is watched, since no main loop has turned, each read may look at the files. */
-void look_if_unwatched(DconfdbBackend *self);
-
 /* Takes `lock`, as soon as the first opening is over. Where that failed it is tried again, by who watches or by who asks. */
 void lock_opened(DconfdbBackend *self);
+
+/* The same: mostly there is a snapshot, and nothing to be opened. */
+static inline void lock_or_open(DconfdbBackend *self)
+{
+    g_mutex_lock(&self->lock);
+    if (G_LIKELY(self->now != NULL))
+        return;
+    g_mutex_unlock(&self->lock);
+    lock_opened(self);
+}
 
 GVariant *dconfdb_backend_read(GSettingsBackend *backend, const char *key, const GVariantType *expected, gboolean default_value);
 GVariant *dconfdb_backend_read_user_value(GSettingsBackend *backend, const char *key, const GVariantType *expected);

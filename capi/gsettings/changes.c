@@ -1,8 +1,25 @@
-/* A change that is to be written, and its edits. */
+/* A change that is to be written, its edits, and how it is written. */
 #define _POSIX_C_SOURCE 200809L
 #include "gsettings.h"
 
 #include <string.h>
+
+static uint64_t mixed(uint64_t hash, const char *bytes, size_t len)
+{
+    uint64_t word = 0;
+    memcpy(&word, bytes, len);
+    hash = (hash ^ word) * 0x9e3779b97f4a7c15;
+    return hash ^ hash >> 32;
+}
+
+guint path_hash(const char *path, size_t len)
+{
+    uint64_t hash = len;
+    size_t at = 0;
+    for (; len - at >= sizeof hash; at += sizeof hash)
+        hash = mixed(hash, path + at, sizeof hash);
+    return (guint)mixed(hash, path + at, len - at);
+}
 
 Change *change_new(size_t most, size_t paths)
 {
@@ -31,7 +48,7 @@ void change_add(Change *change, const char *path, GVariant *value)
     Edit *edit = &change->edits[change->count++];
     edit->path = change->room;
     change->room = stpcpy(change->room, path) + 1;
-    edit->hash = g_str_hash(path);
+    edit->hash = path_hash(edit->path, (size_t)(change->room - edit->path) - 1);
     edit->key = NO_KEY;
     edit->number = edit->before = 0;
     edit->change = change;
@@ -40,6 +57,7 @@ void change_add(Change *change, const char *path, GVariant *value)
     edit->value = value ? g_variant_get_normal_form(value) : NULL;
     edit->asked = edit_of(edit);
     edit->is_left_out = false;
+    edit->may_be_of = 0;
 }
 
 static int by_name(const void *one, const void *other, void *data)
@@ -78,4 +96,48 @@ void changes_free(GQueue *changes)
 {
     for (GList *at; (at = g_queue_pop_head_link(changes));)
         change_free(at->data);
+}
+
+/* ---- how they are written */
+
+static size_t edits_in(const GQueue *changes)
+{
+    size_t count = 0;
+    for (const GList *at = changes->head; at; at = at->next)
+        count += ((const Change *)at->data)->count;
+    return count;
+}
+
+static Batch batch_of(const GQueue *changes)
+{
+    Batch batch = batch_new(edits_in(changes));
+    for (const GList *at = changes->head; at; at = at->next) {
+        const Change *change = at->data;
+        size_t first = batch.count;
+        for (size_t i = 0; i < change->count; i++)
+            batch_add(&batch, &change->edits[i].asked, change->moment, first, change->edits[i].is_left_out);
+    }
+    return batch;
+}
+
+/* Tells each edit that it is left out, and each change that it is refused. */
+static void mark_unmade(const Batch *batch, const GQueue *changes)
+{
+    size_t first = 0;
+    for (const GList *at = changes->head; at; at = at->next) {
+        Change *change = at->data;
+        for (size_t i = 0; i < change->count; i++)
+            change->edits[i].is_left_out = batch_is_left_out(batch, first + i);
+        change->is_refused = batch_is_refused(batch, first);
+        first += change->count;
+    }
+}
+
+bool changes_write(DconfdbStore *store, const Turn *turn, const GQueue *changes, DconfdbError *refusal, DconfdbError *fault)
+{
+    Batch batch = batch_of(changes);
+    bool done = batch_write(&batch, store, turn, refusal, fault);
+    mark_unmade(&batch, changes);
+    batch_end(&batch);
+    return done;
 }

@@ -37,6 +37,8 @@ typedef struct Edit {
     GVariant *value;
     DconfdbEdit asked; /* the same for the library: it lends the path and the value's bytes */
     bool is_left_out;
+    bool may_be_written; /* as the newest snapshot has it, if that has this number: it is asked once */
+    guint64 may_be_of;
 } Edit;
 
 /* Edits of which all are made, or none. */
@@ -63,7 +65,11 @@ typedef struct {
     GHashTable *keys; /* a set of edits, one of each key, which has the number of that, by their paths */
     GPtrArray *edits; /* all but those that are left out, by their numbers less one */
     GArray *newest;   /* of each key the number of its newest edit, as the proved calls have it */
+    guint64 shown;    /* the number of the newest snapshot: how often one was handed out, and one more */
 } Waiting;
+
+/* Of a path of so many bytes, eight at a time: a path is hashed at each set, and at each read while something waits. */
+guint path_hash(const char *path, size_t len);
 
 /* With room for so many edits, and so many bytes of their paths, each with a zero byte. */
 Change *change_new(size_t most, size_t paths);
@@ -99,18 +105,27 @@ bool waiting_settle(Waiting *waiting, const DconfdbSnapshot *now);
 /* A key at the moment when changes are forgotten: what its newest edit said before, and what that of
  * then says, if there is one. */
 typedef struct {
-    char *path;
+    const char *path;
     GVariant *before, *after; /* NULL: a reset, or no edit */
+    DconfdbEdit was, is;      /* the edits, which these and the path are lent to */
     bool is_edited;           /* an edit still waits */
 } Edited;
+
+/* Such keys, by their paths, in one block with these. */
+typedef struct {
+    size_t count;
+    Edited all[];
+} EditedKeys;
+
+void edited_free(EditedKeys *keys);
 
 /* All changes, to be written. They stay in the line, and are still found. */
 GQueue waiting_take(Waiting *waiting);
 
-/* When it was tried to write those that were taken; `taken` is empty then. Those that are not written wait on, before all that
+/* When a snapshot is handed out, and it was tried to write those that were taken; `taken` is empty then. Those that are not written wait on, before all that
  * came since, or are overtaken: so no more of them wait than there are keys, however long that takes. It says what each key's newest edit was,
- * and is now: an array of Edited, by their paths, to be freed; or NULL. `gone` has those that no longer wait. */
-GArray *waiting_end_try(Waiting *waiting, GQueue *taken, bool is_written, GQueue *gone);
+ * and is now, to be freed; or NULL. `gone` has those that no longer wait. */
+EditedKeys *waiting_end_try(Waiting *waiting, GQueue *taken, bool is_written, GQueue *gone);
 
 /* Makes the changes, and marks those that are refused, each for a fault of its own. What is to be told of that is in `refusal`, if it has a
  * number; it is told too where resets were left out since nobody may write there. False: the others are not written, by no fault of theirs,
@@ -312,7 +327,7 @@ typedef struct {
     bool is_to_settle; /* what waits is settled if it is there already by the files that are read */
     GQueue taken;     /* changes of ours that are being written */
     GQueue gone;      /* and those that no longer wait */
-    GArray *edited;          /* keys that an edit of ours was for; NULL: none */
+    EditedKeys *edited;      /* keys that an edit of ours was for; NULL: none */
     char **odd;              /* keys that were read past a value of another type, and that type, each pair in turn; NULL: none */
     GPtrArray *faults;       /* to warn of; NULL: none */
 } Notice;

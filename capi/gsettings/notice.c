@@ -35,45 +35,31 @@ static int by_path(const void *path, const void *edited)
 /* What our edits of the key said before, and say now; NULL: there was none. */
 static const Edited *edited_of(const Notice *notice, const char *path)
 {
-    const GArray *all = notice->edited;
-    return all ? bsearch(path, all->data, all->len, sizeof(Edited), by_path) : NULL;
+    const EditedKeys *keys = notice->edited;
+    return keys ? bsearch(path, keys->all, keys->count, sizeof keys->all[0], by_path) : NULL;
 }
 
-static DconfdbEdit edit_of(const char *path, GVariant *value)
-{
-    if (!value)
-        return (DconfdbEdit){path, NULL, NULL, 0};
-    return (DconfdbEdit){path, g_variant_get_type_string(value), g_variant_get_data(value), g_variant_get_size(value)};
-}
-
-/* Keys that are asked for by themselves, and what they lend of our edits: mostly few. */
+/* Keys that are asked for by themselves, mostly few. They lend our edits of them. */
 typedef struct {
     SeenKey *keys, few_keys[FEW_KEYS];
-    DconfdbEdit *edits, few_edits[2 * FEW_KEYS];
     guint count;
 } Asked;
 
 static void add_asked(Asked *asked, const char *path, const char *type, const Edited *edited)
 {
-    DconfdbEdit *was = &asked->edits[2 * asked->count], *is = was + 1;
-    if (edited) {
-        *was = edit_of(path, edited->before);
-        *is = edit_of(path, edited->after);
-    }
-    asked->keys[asked->count++] = (SeenKey){path, type, edited ? was : NULL, edited && edited->is_edited ? is : NULL};
+    asked->keys[asked->count++] = (SeenKey){path, type, edited ? &edited->was : NULL, edited && edited->is_edited ? &edited->is : NULL};
 }
 
 /* What a program set was told when it set it; so only what is seen otherwise since. And keys of which a value of another type was passed
  * over: their default is seen. */
 static void ask(Asked *asked, const Notice *notice)
 {
-    guint edited = notice->edited ? notice->edited->len : 0, odd = notice->odd ? g_strv_length(notice->odd) / 2 : 0;
+    guint edited = notice->edited ? (guint)notice->edited->count : 0, odd = notice->odd ? g_strv_length(notice->odd) / 2 : 0;
     bool are_few = edited + odd <= FEW_KEYS;
     asked->keys = are_few ? asked->few_keys : g_new(SeenKey, edited + odd);
-    asked->edits = are_few ? asked->few_edits : g_new(DconfdbEdit, 2 * (edited + odd));
     asked->count = 0;
     for (guint i = 0; i < edited; i++) {
-        const Edited *one = &g_array_index(notice->edited, Edited, i);
+        const Edited *one = &notice->edited->all[i];
         add_asked(asked, one->path, NULL, one);
     }
     for (guint i = 0; i < odd; i++)
@@ -93,10 +79,8 @@ static bool finds_changed(const void *it, Told *told)
     Asked asked;
     ask(&asked, notice);
     bool is = seen_otherwise(told, notice->before, notice->after, asked.keys, asked.count, NULL);
-    if (asked.keys != asked.few_keys) {
+    if (asked.keys != asked.few_keys)
         g_free(asked.keys);
-        g_free(asked.edits);
-    }
     return is;
 }
 
@@ -215,7 +199,7 @@ static void carry_out(const Telling *it, DconfdbTelling *telling)
 static void notice_end(Notice *notice)
 {
     g_clear_pointer(&notice->faults, g_ptr_array_unref);
-    g_clear_pointer(&notice->edited, g_array_unref);
+    g_clear_pointer(&notice->edited, edited_free);
     g_strfreev(notice->odd);
     changes_free(&notice->gone);
     dconfdb_snapshot_unref(notice->before);

@@ -1,16 +1,27 @@
 /* What is read of the backend, and what may be written: values are read in place, and changes that wait are read here. */
+#define _POSIX_C_SOURCE 200809L
 #include "backend.h"
 
 #include "dconfdb_calls.h"
 #include "lent_value.h"
-#include "seen.h"
+#include "may_write.h"
+
+#include <time.h>
 
 /* ---- reads */
 
-/* Where nothing is watched, since no main loop has turned, each read may look at the files; and else none does, as the proved call has it, too. */
-void look_if_unwatched(DconfdbBackend *self)
+/* Nearly all reads end here, without a call: store_peek() would look at nothing before that moment, either. */
+static inline bool is_before_a_look(const DconfdbBackend *self)
 {
-    if (!g_atomic_int_get(&self->is_watching))
+    struct timespec now;
+    gint64 due = atomic_load_explicit(&self->looks, memory_order_relaxed);
+    return clock_gettime(CLOCK_MONOTONIC_COARSE, &now) == 0 && (gint64)now.tv_sec * 1000000000 + now.tv_nsec < due * 1000;
+}
+
+/* Where nothing is watched, since no main loop has turned, each read may look at the files; and else none does, as the proved call has it, too. */
+static inline void look_if_unwatched(DconfdbBackend *self)
+{
+    if (!g_atomic_int_get(&self->is_watching) && G_UNLIKELY(!is_before_a_look(self)))
         store_peek(self);
 }
 
@@ -40,7 +51,7 @@ typedef struct {
 static Source source_of(DconfdbBackend *self, const char *key)
 {
     look_if_unwatched(self);
-    lock_opened(self);
+    lock_or_open(self);
     const Edit *edit = waiting_find(&self->waiting, key);
     Source source = {.is_edited = edit != NULL,
                      .value = edit && edit->value ? g_variant_ref(edit->value) : NULL,
@@ -129,8 +140,8 @@ gboolean dconfdb_backend_get_writable(GSettingsBackend *backend, const char *nam
 {
     DconfdbBackend *self = backend_of(backend);
     look_if_unwatched(self);
-    lock_opened(self);
-    bool is = seen_is_writable(self->now, is_at_work(self), name);
+    lock_or_open(self);
+    bool is = snapshot_may_write(self->now, is_at_work(self), name);
     g_mutex_unlock(&self->lock);
     return is;
 }

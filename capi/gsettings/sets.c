@@ -20,7 +20,7 @@ static bool add(DconfdbBackend *self, Change *change)
 static uint32_t make(DconfdbBackend *self, Change *change, GTree **told)
 {
     bool is_here = false;
-    lock_opened(self);
+    lock_or_open(self);
     uint32_t entry = change_entry(change, &self->waiting, self->now, is_at_work(self));
     switch (entry) {
     case DCONFDB_ENTRY_WAITS:

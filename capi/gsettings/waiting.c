@@ -1,8 +1,10 @@
 /* Changes that wait to be written: what becomes of one beside the others, which is the newest of a key, and how they are written. */
+#define _POSIX_C_SOURCE 200809L
 #include "gsettings.h"
 #include "lent_value.h"
 #include "seen.h"
 
+#include <stdlib.h>
 #include <string.h>
 
 /* The number of a key, as that edit of it has it which the set has; NO_KEY if no edit of it waits. */
@@ -29,10 +31,20 @@ static bool is_alone(const Edit *edit)
     return edit->change->most == 1;
 }
 
-static bool may_be_made(const Edit *edit, const DconfdbSnapshot *now, bool is_at_work)
+/* What it has of another edit of the key, it has of this one. */
+static bool is_writable(const Edit *edit, const Edit *waits, guint64 shown, const DconfdbSnapshot *now)
 {
-    bool may = dconfdb_snapshot_is_writable(or_nothing(now), edit->path);
-    return dconfdb_may_be_made((const uint8_t *)edit->path, strlen(edit->path), edit->value != NULL, is_at_work, may);
+    if (waits && waits->may_be_of == shown)
+        return waits->may_be_written;
+    return dconfdb_snapshot_is_writable(or_nothing(now), edit->path);
+}
+
+static bool may_be_made(Edit *edit, const Edit *waits, guint64 shown, const DconfdbSnapshot *now, bool is_at_work)
+{
+    if (edit->may_be_of != shown)
+        edit->may_be_written = is_writable(edit, waits, shown, now);
+    edit->may_be_of = shown;
+    return dconfdb_may_be_made((const uint8_t *)edit->path, strlen(edit->path), edit->value != NULL, is_at_work, edit->may_be_written);
 }
 
 static bool is_stored(const Edit *edit, const DconfdbSnapshot *now)
@@ -47,15 +59,22 @@ static bool is_said(const Edit *edit, const Edit *waits, const DconfdbSnapshot *
     return dconfdb_is_said(&said, 1, !waits && is_stored(edit, now));
 }
 
-/* What is known of an edit beside the newest one of its key that waits, or else beside the newest snapshot. */
-static DconfdbNewEdit known_of(const Edit *edit, const Edit *waits, const DconfdbSnapshot *now, bool is_at_work)
+/* What is known of an edit beside the newest one of its key that waits, or else beside the newest snapshot, which is the one of that number. */
+static DconfdbNewEdit known_of(Edit *edit, const Edit *waits, guint64 shown, const DconfdbSnapshot *now, bool is_at_work)
 {
     return (DconfdbNewEdit){.sets = edit->value != NULL,
-                            .may = may_be_made(edit, now, is_at_work),
+                            .may = may_be_made(edit, waits, shown, now, is_at_work),
                             .is_same = is_said(edit, waits, now),
                             .waits = waits != NULL,
                             .is_alone = waits && is_alone(waits),
                             .is_taken = waits && waits->change->is_taken};
+}
+
+/* What becomes of a change of one edit is what becomes of that. */
+static void leave_out(Change *change, uint32_t entry)
+{
+    for (size_t i = 0; i < change->count; i++)
+        change->edits[i].is_left_out = change->count == 1 ? entry == DCONFDB_ENTRY_EMPTY : edit_is_left_out(&change->known[i]);
 }
 
 uint32_t change_entry(Change *change, const Waiting *waiting, const DconfdbSnapshot *now, bool is_at_work)
@@ -63,11 +82,12 @@ uint32_t change_entry(Change *change, const Waiting *waiting, const DconfdbSnaps
     for (size_t i = 0; i < change->count; i++) {
         Edit *edit = &change->edits[i];
         edit->key = key_of(waiting, edit);
-        change->known[i] = known_of(edit, newest_of(waiting, edit->key), now, is_at_work);
-        edit->is_left_out = edit_is_left_out(&change->known[i]);
+        change->known[i] = known_of(edit, newest_of(waiting, edit->key), waiting->shown, now, is_at_work);
     }
     bool is_there;
-    return dconfdb_entry(change->known, change->count, &is_there);
+    uint32_t entry = dconfdb_entry(change->known, change->count, &is_there);
+    leave_out(change, entry);
+    return entry;
 }
 
 /* ---- what waits */
@@ -98,6 +118,7 @@ void waiting_begin(Waiting *waiting)
     waiting->keys = g_hash_table_new(hash_of, are_of_one_key);
     waiting->edits = g_ptr_array_new();
     waiting->newest = g_array_sized_new(FALSE, FALSE, sizeof(size_t), 1);
+    waiting->shown = 1;
 }
 
 void waiting_end(Waiting *waiting)
@@ -184,7 +205,7 @@ const Edit *waiting_find(const Waiting *waiting, const char *path)
 {
     if (waiting->edits->len == 0)
         return NULL;
-    Edit sought = {.path = (char *)path, .hash = g_str_hash(path)};
+    Edit sought = {.path = (char *)path, .hash = path_hash(path, strlen(path))};
     return newest_of(waiting, key_of(waiting, &sought));
 }
 
@@ -218,12 +239,13 @@ static GVariant *value_of(const Edit *edit)
     return edit && edit->value ? g_variant_ref(edit->value) : NULL;
 }
 
-static void free_edited(gpointer data)
+void edited_free(EditedKeys *keys)
 {
-    Edited *edited = data;
-    g_free(edited->path);
-    g_clear_pointer(&edited->before, g_variant_unref);
-    g_clear_pointer(&edited->after, g_variant_unref);
+    for (size_t key = 0; key < keys->count; key++) {
+        g_clear_pointer(&keys->all[key].before, g_variant_unref);
+        g_clear_pointer(&keys->all[key].after, g_variant_unref);
+    }
+    g_free(keys);
 }
 
 static int by_path(const void *one, const void *other)
@@ -231,28 +253,46 @@ static int by_path(const void *one, const void *other)
     return strcmp(((const Edited *)one)->path, ((const Edited *)other)->path);
 }
 
+/* What an edit asks for, at a path that stays. */
+static DconfdbEdit asked_at(const Edit *edit, const char *path)
+{
+    DconfdbEdit asked = edit->asked;
+    asked.path = path;
+    return asked;
+}
+
+static EditedKeys *edited_new(const Waiting *waiting)
+{
+    size_t count = waiting->newest->len, paths = 0;
+    for (size_t key = 0; key < count; key++)
+        paths += strlen(newest_of(waiting, key)->path) + 1;
+    EditedKeys *keys = g_malloc(sizeof *keys + count * sizeof keys->all[0] + paths);
+    keys->count = count;
+    return keys;
+}
+
 /* The newest edit of each key, of which none is known to be gone, by their paths; NULL if there is none. */
-static GArray *edited_of(const Waiting *waiting)
+static EditedKeys *edited_of(const Waiting *waiting)
 {
     if (waiting->edits->len == 0)
         return NULL;
-    GArray *all = g_array_new(FALSE, FALSE, sizeof(Edited));
-    g_array_set_clear_func(all, free_edited);
-    for (size_t key = 0; key < waiting->newest->len; key++) {
+    EditedKeys *keys = edited_new(waiting);
+    char *room = (char *)&keys->all[keys->count];
+    for (size_t key = 0; key < keys->count; key++) {
         const Edit *newest = newest_of(waiting, key);
-        Edited one = {g_strdup(newest->path), value_of(newest), NULL, false};
-        g_array_append_val(all, one);
+        keys->all[key] = (Edited){.path = room, .before = value_of(newest), .was = asked_at(newest, room)};
+        room = stpcpy(room, newest->path) + 1;
     }
-    g_array_sort(all, by_path);
-    return all;
+    qsort(keys->all, keys->count, sizeof keys->all[0], by_path);
+    return keys;
 }
 
-/* Asked once more, by the newest snapshot. Who does is at work. */
+/* Asked once more, by the newest snapshot, of a change that asks: of others it doesn't count. Who does is at work. */
 static bool is_there_already(const Waiting *waiting, Change *change, const DconfdbSnapshot *now)
 {
     for (size_t i = 0; i < change->count; i++) {
-        const Edit *edit = &change->edits[i];
-        change->known[i] = known_of(edit, NULL, now, true);
+        Edit *edit = &change->edits[i];
+        change->known[i] = known_of(edit, NULL, waiting->shown, now, true);
         change->known[i].waits = edit->before > 0 || newest_of(waiting, edit->key) != edit;
     }
     return edits_are_there(change->known, change->count);
@@ -294,7 +334,7 @@ bool waiting_settle(Waiting *waiting, const DconfdbSnapshot *now)
         Change *change = change_at(waiting, at);
         *waiter = waiter_of(change);
         waiter->asks = change->asks;
-        waiter->is_there = is_there_already(waiting, change, now);
+        waiter->is_there = change->asks && is_there_already(waiting, change, now);
     }
     GQueue settled = settle_line(waiting, false);
     bool is_any = settled.length > 0;
@@ -313,9 +353,10 @@ static void let_go_of_taken(Waiting *waiting, GQueue *taken)
     waiting->taken = 0;
 }
 
-GArray *waiting_end_try(Waiting *waiting, GQueue *taken, bool is_written, GQueue *gone)
+EditedKeys *waiting_end_try(Waiting *waiting, GQueue *taken, bool is_written, GQueue *gone)
 {
-    GArray *all = edited_of(waiting);
+    EditedKeys *keys = edited_of(waiting);
+    waiting->shown++;
     if (taken->length > 0) {
         for (guint at = 0; at < waiting->line->len; at++)
             line_of(waiting)[at] = known_after_try(waiting, change_at(waiting, at));
@@ -323,55 +364,13 @@ GArray *waiting_end_try(Waiting *waiting, GQueue *taken, bool is_written, GQueue
         *gone = settle_line(waiting, is_written);
         put_again(waiting);
     }
-    for (guint i = 0; all && i < all->len; i++) {
-        Edited *one = &g_array_index(all, Edited, i);
+    for (size_t key = 0; keys && key < keys->count; key++) {
+        Edited *one = &keys->all[key];
         const Edit *edit = waiting_find(waiting, one->path);
         one->is_edited = edit != NULL;
         one->after = value_of(edit);
+        if (edit)
+            one->is = asked_at(edit, one->path);
     }
-    return all;
-}
-
-/* ---- how they are written */
-
-static size_t edits_in(const GQueue *changes)
-{
-    size_t count = 0;
-    for (const GList *at = changes->head; at; at = at->next)
-        count += ((const Change *)at->data)->count;
-    return count;
-}
-
-static Batch batch_of(const GQueue *changes)
-{
-    Batch batch = batch_new(edits_in(changes));
-    for (const GList *at = changes->head; at; at = at->next) {
-        const Change *change = at->data;
-        size_t first = batch.count;
-        for (size_t i = 0; i < change->count; i++)
-            batch_add(&batch, &change->edits[i].asked, change->moment, first, change->edits[i].is_left_out);
-    }
-    return batch;
-}
-
-/* Tells each edit that it is left out, and each change that it is refused. */
-static void mark_unmade(const Batch *batch, const GQueue *changes)
-{
-    size_t first = 0;
-    for (const GList *at = changes->head; at; at = at->next) {
-        Change *change = at->data;
-        for (size_t i = 0; i < change->count; i++)
-            change->edits[i].is_left_out = batch_is_left_out(batch, first + i);
-        change->is_refused = batch_is_refused(batch, first);
-        first += change->count;
-    }
-}
-
-bool changes_write(DconfdbStore *store, const Turn *turn, const GQueue *changes, DconfdbError *refusal, DconfdbError *fault)
-{
-    Batch batch = batch_of(changes);
-    bool done = batch_write(&batch, store, turn, refusal, fault);
-    mark_unmade(&batch, changes);
-    batch_end(&batch);
-    return done;
+    return keys;
 }

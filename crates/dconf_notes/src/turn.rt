@@ -123,7 +123,8 @@ pub fn turn_written(
     notes_written(all.as_slice(), room)
 }
 
-/// The records of the files that are left by then.
+/// The records of the files that are left by then. They mostly are as long as those of before, which are copied: nothing is cleared that is written
+/// anyway.
 fn left_by(alloc: Global, turn: &TurnLeaves<'_>) -> Result<Vec<u8>, AllocError>
     ensures { IfOk result (λ left. left.items ≡ with_left turn.now.left.now turn.now.name.now turn.now.file turn.now.is_synced MOST_LEFT) }
 {
@@ -135,7 +136,8 @@ fn left_by(alloc: Global, turn: &TurnLeaves<'_>) -> Result<Vec<u8>, AllocError>
         ..
     } = *turn;
     let len = with_left(left, name, &file, is_synced, MOST_LEFT, &mut []);
-    let mut records = Vec::new(alloc);
+    let mut records = Vec::with_capacity(alloc, len.max(left.len()))?;
+    records.extend_from_slice(left)?;
     records.resize(len, 0)?;
     with_left(left, name, &file, is_synced, MOST_LEFT, &mut records);
     Ok(records)
