@@ -18,7 +18,7 @@ NAMES = ['dconfdb', 'libdconfdb0', 'libdconfdb-dev', 'dconfdb-gsettings-backend'
 DCONFS, DEV = ['libdconf1', 'dconf-service', 'dconf-gsettings-backend', 'dconf-cli'], 'libdconf-dev'
 FILE, OWN = HOME / '.config/dconf/user', HOME / '.config/dconfdb/user.user'
 DEFAULT, STORE = Path('/etc/dconfdb/default'), Path('/etc/dconfdb/store')
-INTERFACE, LOCKDOWN = 'org.gnome.desktop.interface', 'org.gnome.desktop.lockdown'
+INTERFACE, LOCKDOWN, MAGNIFIER = 'org.gnome.desktop.interface', 'org.gnome.desktop.lockdown', 'org.gnome.desktop.a11y.magnifier'
 
 
 def run(*words, status=0, **more):
@@ -71,14 +71,14 @@ def changed(package, into, edit):
         run('dpkg-deb', '-b', folder, into)
 
 
-def of_version(version):
+def of_version(version, of=None):
     """Our packages once more, as those of a later version. Their files are others, of the same bytes."""
     def edit(text):
         old = re.search(r'^Version: (.*)', text, re.M)[1]
         return text.replace(f'Version: {old}\n', f'Version: {version}\n').replace(f'(= {old})', f'(= {version})')
 
     folder = Path(tempfile.mkdtemp())
-    for package in packages():
+    for package in of or packages():
         changed(package, folder, edit)
     return packages(folder)
 
@@ -110,11 +110,17 @@ def get(**variables):
     return run('gsettings', 'get', INTERFACE, 'font-name', env=os.environ | variables).splitlines()[-1]
 
 
-KEYS = [(INTERFACE, 'font-name'), (INTERFACE, 'text-scaling-factor'), (INTERFACE, 'clock-format'), (LOCKDOWN, 'disable-command-line')]
+KEYS = [(INTERFACE, 'font-name'), (INTERFACE, 'text-scaling-factor'), (INTERFACE, 'clock-format'), (LOCKDOWN, 'disable-command-line'), (MAGNIFIER, 'mag-factor')]
 PATHS = [f'/{schema.replace(".", "/")}/{key}' for schema, key in KEYS]
+PROFILE = 'user-db:user\nsystem-db:site\nfile-db:/etc/dconf/db/doubles\n'
 SITE = "[org/gnome/desktop/lockdown]\ndisable-command-line=true\n[org/gnome/desktop/interface]\nclock-format='12h'\n"
 USERS = "[org/gnome/desktop/interface]\nfont-name='mine'\ntext-scaling-factor=1.25\n[org/gnome/desktop/lockdown]\ndisable-command-line=false\n"
-WANTED = [("'mine'", 'true'), ('1.25', 'true'), ("'12h'", 'true'), ('true', 'false')]
+DOUBLES = '[org/gnome/desktop/a11y/magnifier]\nmag-factor=3.5\n'
+WANTED = [("'mine'", 'true'), ('1.25', 'true'), ("'12h'", 'true'), ('true', 'false'), ('3.5', 'true')]
+
+
+# What a command of ours says of these is that they have no text.
+DOUBLE_OF = {PATHS[1]: '1.25', PATHS[4]: '3.5'}
 
 
 def seen(**variables):
@@ -131,19 +137,18 @@ def explained():
     """The same by our command, which prints no double."""
     def one(path):
         lines = dict(it.split('\t')[:2] for it in run('dconfdb', 'explain', '--user', path).splitlines())
-        return lines['seen'].replace('a double, not printed', '1.25'), {'yes': 'true', 'no': 'false'}[lines['writable']]
+        return lines['seen'], {'yes': 'true', 'no': 'false'}[lines['writable']]
 
-    return [one(it) for it in PATHS]
-
-
-def is_dconf():
-    """Whether the proved program is dconf's command, too."""
-    return 'dconf COMMAND' in run('dconf', 'help')
+    return [(DOUBLE_OF.get(path, seen) if seen == 'a double, not printed' else seen, can) for path, (seen, can) in ((it, one(it)) for it in PATHS)]
 
 
 def read():
-    """The values by dconf's command; ours prints no double."""
-    return [run('dconf', 'read', it) for it in PATHS]
+    """The same values by the command dconf; ours prints no double, and says so."""
+    def one(path):
+        ran = subprocess.run(['dconf', 'read', path], stdin=subprocess.DEVNULL, stdout=subprocess.PIPE, stderr=subprocess.STDOUT, text=True, check=False)
+        return DOUBLE_OF.get(path) if (ran.returncode, ran.stdout) == (1, 'error: DoubleText\n') else ran.stdout.strip()
+
+    return [one(it) for it in PATHS]
 
 
 def compiles(name):
@@ -152,20 +157,21 @@ def compiles(name):
 
 
 def of_dconf():
-    """Settings of dconf's: a profile, a site's database with a lock, and a user's file with a double. Where they are."""
+    """Settings of dconf's: a profile, a site's database with a lock, another with a double, and a user's file with a double. Where they are."""
     site = Path('/etc/dconf/db/site.d')
     (site / 'locks').mkdir(parents=True)
     (site / '00-site').write_text(SITE, encoding='utf-8')
     (site / 'locks/00-site').write_text(f'{PATHS[3]}\n', encoding='utf-8')
     profile = Path('/etc/dconf/profile/user')
     profile.parent.mkdir(exist_ok=True)
-    profile.write_text('user-db:user\nsystem-db:site\n', encoding='utf-8')
+    profile.write_text(PROFILE, encoding='utf-8')
     run('dconf', 'update')
     with tempfile.TemporaryDirectory() as folder:
-        Path(folder, 'user').write_text(USERS, encoding='utf-8')
         FILE.parent.mkdir(mode=0o700, parents=True)
-        run('dconf', 'compile', FILE, folder)
-    return [site, site.with_suffix(''), profile, FILE]
+        for made, text in [(site.with_name('doubles'), DOUBLES), (FILE, USERS)]:
+            Path(folder, 'keys').write_text(text, encoding='utf-8')
+            run('dconf', 'compile', made, folder)
+    return [site, site.with_suffix(''), site.with_name('doubles'), profile, FILE]
 
 
 # ---- what runs meanwhile
