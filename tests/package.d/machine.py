@@ -68,7 +68,7 @@ def changed(package, into, edit):
         run('dpkg-deb', '-R', package, folder)
         control = Path(folder, 'DEBIAN/control')
         control.write_text(edit(control.read_text(encoding='utf-8')), encoding='utf-8')
-        run('dpkg-deb', '-b', folder, into)
+        run('dpkg-deb', '-Znone', '-b', folder, into)
 
 
 def of_version(version, of=None):
