@@ -50,6 +50,27 @@ def program():
     return TOP / 'crates' / 'dconfdb' / 'out' / 'dconfdb'
 
 
+def spaces():
+    """The words by which a command has mounts of its own."""
+    words = ['unshare', '--mount'] if os.getuid() == 0 else ['unshare', '--user', '--map-root-user', '--mount']
+    if subprocess.run([*words, 'true'], stderr=subprocess.DEVNULL, check=False).returncode:
+        raise Missing('no namespaces can be had here')
+    return words
+
+
+def has_dconfs_store(folder):
+    """Of a process with mounts of its own: lays an overlay over /etc, in which /etc/dconfdb/store says `dconf`. Nothing of the machine is changed."""
+    room = folder / 'room'
+    room.mkdir()
+    subprocess.run(['mount', '-t', 'tmpfs', 'none', room], check=True)
+    for name in ('upper', 'work'):
+        (room / name).mkdir()
+    subprocess.run(['mount', '-t', 'overlay', '-o', f'lowerdir=/etc,upperdir={room}/upper,workdir={room}/work', 'none', '/etc'], check=True)
+    kind = Path('/etc/dconfdb/store')
+    kind.parent.mkdir(exist_ok=True)
+    kind.write_text('dconf\n', encoding='utf-8')
+
+
 # Of prctl(2).
 PDEATHSIG, CHILD_SUBREAPER = 1, 36
 

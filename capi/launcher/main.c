@@ -1,6 +1,6 @@
 /* dconfdb, as it is installed: `watch` and `lint` are programs of their own in the folder LIBEXEC, and every other
  * command is the proved program's, which is handed the arguments as they are, by dconfdb-home if the store's folder may be in
- * the home that the system has for the user. */
+ * the home that the system has for the user. Run by the name `dconf` it has dconf's command line, of which `watch PATH` is the program of that. */
 #define _DEFAULT_SOURCE
 #define _POSIX_C_SOURCE 200809L
 #include "environment.h"
@@ -19,6 +19,28 @@ typedef struct {
 
 static Program proved = {"", LIBEXEC "/dconfdb", ""}, homeless = {"", LIBEXEC "/dconfdb-home", ""};
 static Program others[] = {{"watch", LIBEXEC "/dconfdb-watch", "dconfdb watch"}, {"lint", LIBEXEC "/dconfdb-lint", "dconfdb lint"}};
+
+static Program watched = {"watch", LIBEXEC "/dconfdb-watch", "dconf watch"};
+
+static bool is_dconf(const char *name)
+{
+    const char *slash = strrchr(name, '/');
+    return strcmp(slash ? slash + 1 : name, "dconf") == 0;
+}
+
+/* Of a text that is no path the proved program says why. */
+static bool is_path(const char *text)
+{
+    bool is_short = false;
+    uint32_t kind = dconfdb_path_kind((const uint8_t *)text, strlen(text), DCONFDB_PATH_WANTED, false, &is_short);
+    return kind != DCONFDB_PATH_NOT_ABSOLUTE && kind != DCONFDB_PATH_DOUBLE_SLASH;
+}
+
+/* `dconf watch PATH`, and the proved program for any other words. */
+static Program *dconfs_program(int count, char **words)
+{
+    return count == 3 && strcmp(words[1], "watch") == 0 && is_path(words[2]) ? &watched : &proved;
+}
 
 static Program *program_of(const char *word)
 {
@@ -51,8 +73,9 @@ static Program *proved_program(void)
 int main(int count, char **words)
 {
     char help[] = "--help", *helped[] = {NULL, help, NULL};
-    bool asks_help = count == 3 && strcmp(words[1], "help") == 0;
-    Program *program = count < 2 ? &proved : program_of(words[asks_help ? 2 : 1]);
+    bool is_dconfs = count > 1 && is_dconf(words[0]);
+    bool asks_help = !is_dconfs && count == 3 && strcmp(words[1], "help") == 0;
+    Program *program = is_dconfs ? dconfs_program(count, words) : count < 2 ? &proved : program_of(words[asks_help ? 2 : 1]);
     if (program != &proved) {
         words = asks_help ? helped : words + 1;
         words[0] = program->name;

@@ -8,11 +8,9 @@
 #![tactic(auto)]
 
 mod find;
-mod flag;
 mod profiles;
 mod surroundings;
 
 pub use find::{Found, NotFound, enter};
-pub use flag::set_flag;
 pub use profiles::Profile;
 pub use surroundings::Surroundings;

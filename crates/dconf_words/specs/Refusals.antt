@@ -1,8 +1,9 @@
 -- What a refusal says: a word, and what stands around it.
-use Rattle.std.specs.Prelude.{ℕ, List, [], Option, Some, None, ◌==◌}
+use Rattle.std.specs.Prelude.{ℕ, List, [], Option, Some, None, option_map, ◌==◌}
 use Rattle.std.specs.List.{before_first, after_first}
 use Rattle.dconf_words.specs.Words.{word_of}
 use Rattle.dconf_words.specs.declared.word.Word.{Word}
+use Rattle.dconf_words.specs.declared.word.Word.TheVariants.{BadDatabase}
 use Rattle.dconf_words.specs.declared.said.Said.{Said}
 
 pub record Parts : Type 0 where
@@ -34,3 +35,11 @@ said_first None text = said_behind (first_part text) (behind_first text)
 -- the first part is a word, or else the second one is
 abbrev pub said_in : List ℕ → Option Parts
 said_in text = said_first (word_of (first_part text)) text
+
+-- BadDatabase NUMBER: WORD: what is wrong with the file
+abbrev pub why_if : Word → List ℕ → Option Word
+why_if BadDatabase rest = option_map (λ p. p.word) (said_in (behind_first rest))
+why_if other rest = None
+
+abbrev pub why_of : Parts → Option Word
+why_of said = why_if said.word said.rest

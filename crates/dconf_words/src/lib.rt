@@ -6,9 +6,11 @@
 #![tactic(auto)]
 
 mod explanation;
+mod heard;
 mod said;
 mod word;
 
 pub use explanation::{Facts, Hint};
+pub use heard::Heard;
 pub use said::Said;
 pub use word::{About, WORDS, Word};

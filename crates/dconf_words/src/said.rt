@@ -1,7 +1,7 @@
 //! A line of a refusal, read back.
 ghost use Rattle.std.specs.Prelude.{◌≡◌, option_map, ◌==◌};
 ghost use Rattle.std.specs.List.{before_first, after_first};
-ghost use Rattle.dconf_words.specs.Refusals.{parts_of, said_in, said_first, said_behind};
+ghost use Rattle.dconf_words.specs.Refusals.{parts_of, said_in, said_first, said_behind, why_of};
 
 use crate::word::Word;
 
@@ -29,6 +29,19 @@ impl<'a> Said<'a> {
                 rest: behind,
             }),
             None => read_behind(first, behind),
+        }
+    }
+
+    /// The word that says more: of a damaged database the fault of its file.
+    pub fn why(self) -> Option<Word>
+        ensures { result ≡ why_of (parts_of self.entry) }
+    {
+        match self.word {
+            Word::BadDatabase => {
+                let (_, why) = cut(self.rest);
+                Some(Said::read(why)?.word)
+            }
+            _ => None,
         }
     }
 }

@@ -1,4 +1,5 @@
 //! What is said below the line of a refusal to a person who reads it: dconf_words' text, of what can be seen here.
+use crate::sources::is_folder;
 use command_words::Command;
 use dconf_disk::{Folder, StdFolder, folder_of};
 use dconf_found::Renames;
@@ -7,7 +8,7 @@ use dconf_words::{About, Facts, Hint, Said, WORDS, Word};
 use std::alloc::{AllocError, Global};
 use std::env::{self, Env};
 use std::fs::{self, OpenOptions};
-use std::io::{self, IsTerminal, Write};
+use std::io::{self, IsTerminal};
 
 /// Says whether refusals are explained: `1` always, `0` never, and unset where they are read on a terminal.
 const VARIABLE: &str = "DCONFDB_EXPLAIN";
@@ -29,7 +30,7 @@ pub(crate) fn page(rt: &HostRuntime, words: &[String]) -> Option<u8> {
     Some(status_of(print_page(rt, word)))
 }
 
-fn status_of(printed: io::Result<()>) -> u8 {
+pub(crate) fn status_of(printed: io::Result<()>) -> u8 {
     match printed {
         Ok(()) => 0,
         Err(_) => 1,
@@ -46,41 +47,6 @@ fn print_all(rt: &HostRuntime) -> io::Result<()> {
         println!(rt; "{}: {}", word.name(), word.meaning())?;
     }
     Ok(())
-}
-
-/// What is written to err, and what it was.
-#[derive(Drop)]
-pub(crate) struct Heard<W> {
-    to: W,
-    text: Vec<u8>,
-}
-
-impl<W> Heard<W> {
-    pub(crate) fn new(alloc: Global, to: W) -> Heard<W> {
-        Heard {
-            to,
-            text: Vec::new(alloc),
-        }
-    }
-
-    pub(crate) fn text(&self) -> &[u8] {
-        self.text.as_slice()
-    }
-}
-
-impl<W: Write> Write for Heard<W> {
-    fn write(&mut self, buf: &[u8]) -> io::Result<usize> {
-        let took = self.to.write(buf)?;
-        // Without memory nothing is explained.
-        if took <= buf.len() && self.text.extend_from_slice(&buf[..took]).is_err() {
-            self.text.clear();
-        }
-        Ok(took)
-    }
-
-    fn flush(&mut self) -> io::Result<()> {
-        self.to.flush()
-    }
 }
 
 /// The words of a command that may be at fault. What it hasn't is empty.
@@ -206,7 +172,7 @@ fn explained(rt: &HostRuntime, given: &Given, said: &Said<'_>) -> Result<String,
         _ => String::new(rt.alloc()),
     };
     let facts = Facts {
-        why: why(said),
+        why: said.why(),
         file: path,
         line: line.as_str(),
         argument: argument(given, said),
@@ -214,17 +180,6 @@ fn explained(rt: &HostRuntime, given: &Given, said: &Said<'_>) -> Result<String,
         hint: hint(rt, given, said, path, line.as_str()),
     };
     said.word.explanation(rt.alloc(), &facts)
-}
-
-/// What is wrong with the file of a damaged database.
-fn why(said: &Said<'_>) -> Option<Word> {
-    match said.word {
-        Word::BadDatabase => {
-            let (_, why) = said.rest.split_once(' ')?;
-            Some(Said::read(why)?.word)
-        }
-        _ => None,
-    }
 }
 
 /// The word of the command line that is at fault.
@@ -391,12 +346,5 @@ fn hint(rt: &HostRuntime, given: &Given, said: &Said<'_>, path: &str, line: &str
         Word::BadToken | Word::Unexpected if line.contains(" #") => Hint::Comment,
         _ if line.as_bytes().starts_with(MARK) => Hint::Mark,
         _ => Hint::Nothing,
-    }
-}
-
-fn is_folder(rt: &HostRuntime, path: &str) -> bool {
-    match fs::metadata(rt, path) {
-        Ok(found) => found.is_dir(),
-        Err(_) => false,
     }
 }

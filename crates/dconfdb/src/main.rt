@@ -1,19 +1,26 @@
-//! The program `dconfdb`: the words, the streams and the folder of the store, handed to dconf_cli, when it is this program's turn.
+//! The program `dconfdb`: the words, the streams and the folder of the store, handed to dconf_cli, when it is this program's turn. Run by the
+//! name `dconf`, it has dconf's command line.
 #![tactic(auto)]
 
+mod by_name;
 mod explain;
 mod keep;
+mod marks;
 mod messages;
 mod named;
 mod runs;
+mod session;
 mod sources;
 mod updates;
 
+use by_name::dconf;
 use dconf_args::{Asked, command};
+use dconf_by_name::is_run_as_dconf;
 use dconf_habits::{as_in_dconf, with_dashes};
 use explain::page;
 use messages::{NO_MEMORY, USAGE, refuse};
 use runs::run_at;
+use session::Session;
 use std::env;
 use std::io::ErrorKind;
 use std::process::ExitCode;
@@ -40,6 +47,9 @@ fn main(rt: HostRuntime) -> ExitCode {
         refuse(&rt, NO_MEMORY);
         return ExitCode::from(USAGE);
     };
+    if is_run_as_dconf(&words) {
+        return ExitCode::from(dconf(&rt, words.get(1..).unwrap_or(&[])));
+    }
     if with_dashes(alloc, &mut words).is_err() {
         refuse(&rt, NO_MEMORY);
         return ExitCode::from(USAGE);
@@ -65,7 +75,10 @@ fn main(rt: HostRuntime) -> ExitCode {
 /// Does what is asked, and gives the status.
 fn done(rt: &HostRuntime, asked: Asked) -> u8 {
     match asked {
-        Asked::Run { command, place } => run_at(rt, as_in_dconf(command), place),
+        Asked::Run { command, place } => {
+            let mut session = Session::on(rt.alloc(), rt.stdin(), rt.stdout(), rt.stderr());
+            run_at(rt, as_in_dconf(command), place, &mut session)
+        }
         Asked::Update { folder } => update(rt, folder),
     }
 }

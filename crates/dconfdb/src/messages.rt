@@ -75,23 +75,6 @@ pub(crate) fn warn_of_bad(
     eprintln!(rt; "warning: {path}: {wrong}{fate}")
 }
 
-/// Says on err why something isn't the profile, or not all of it.
-pub(crate) fn warn_of_profile(rt: &HostRuntime, told: &str) -> io::Result<()> {
-    eprintln!(rt; "warning: {told}")
-}
-
-/// Says on err that the store that is named has no folder, so that nothing is read of it.
-pub(crate) fn warn_of_no_folder(rt: &HostRuntime, folder: &str) -> io::Result<()> {
-    eprintln!(rt; "warning: there is no folder {folder}")
-}
-
-/// Says on err that the profile in a folder names a database of the system which isn't beside it.
-pub(crate) fn warn_of_missing(rt: &HostRuntime, folder: &str, name: &str) -> io::Result<()> {
-    eprintln!(rt;
-        "warning: {folder}/profile names system-db:{name}, and there is no {folder}/{name}.db"
-    )
-}
-
 /// What is wrong with a file. It is printed with the rule that it breaks, if it breaks one, and the item.
 #[derive(Clone, Copy)]
 struct Wrong(BadFile);

@@ -1,5 +1,4 @@
 //! The databases that the profile of a store names, for what is said of them.
-use crate::messages::warn_of_missing;
 use dconf_disk::{Folder, StdFolder};
 use dconf_surroundings::Found;
 use dconfdb_calls::{DconfdbName, profile_databases};
@@ -84,7 +83,11 @@ fn warn_if_missing(
     }
     let file = format!(in rt.alloc(); "{folder}/{name}.db")?;
     match fs::metadata(rt, file.as_str()) {
-        Err(error) if error.kind() == ErrorKind::NotFound => warn_of_missing(rt, shown, name),
+        Err(error) if error.kind() == ErrorKind::NotFound => {
+            eprintln!(rt;
+                "warning: {shown}/profile names system-db:{name}, and there is no {shown}/{name}.db"
+            )
+        }
         _ => Ok(()),
     }
 }

@@ -11,29 +11,36 @@ ghost use Rattle.dconf_found.specs.FoundFolders as found;
 ghost use Rattle.dconf_found.specs.FoundFolders.{IsPast, agrees, inner_of};
 ghost use Rattle.dconf_found.specs.Renamed.{IsRenamed, renamed_inner};
 
-use crate::explain::{Given, Heard, explain};
+use crate::explain::{Given, explain};
 use crate::keep::{forget, keep};
+use crate::marks::set_flag;
 use crate::messages::{
     REFUSED, refuse, refuse_device, refuse_memory, refuse_place, warn_of_bad, warn_of_no_folder,
     warn_of_profile,
 };
 use crate::named::{first_file, warn_of_missing_ones};
+use crate::session::Session;
 use dconf_args::{Command, Place, Replaced, user_file};
-use dconf_cli::{Counted, run};
+use dconf_cli::{Counted, is_made, run};
 use dconf_disk::{Folder, FolderFault, FolderLock, LockFault, StdFolder, folder_of};
 use dconf_found::{BadDatabase, FoundFolder, RenamedFolder};
 use dconf_places::EVERYONES_FOLDER;
-use dconf_surroundings::{Found, NotFound, enter, set_flag};
+use dconf_surroundings::{Found, NotFound, enter};
 use std::alloc::AllocError;
-use std::io;
+use std::io::{self, Read, Write};
 
 /// Runs the command where its store is.
-pub(crate) fn run_at(rt: &HostRuntime, asked: Command, place: Place) -> u8 {
+pub(crate) fn run_at<I: Read, O: Write, E: Write>(
+    rt: &HostRuntime,
+    asked: Command,
+    place: Place,
+    session: &mut Session<I, O, E>,
+) -> u8 {
     if !place.is_users && place.folder.is_none() {
-        return run_in_turn(rt, asked);
+        return run_in_turn(rt, asked, session);
     }
     match found_for(rt, asked, place) {
-        Ok((asked, found)) => run_found(rt, asked, found),
+        Ok((asked, found)) => run_found(rt, asked, found, session),
         Err(fault) => refuse_place(rt, fault),
     }
 }
@@ -47,53 +54,70 @@ fn found_for(rt: &HostRuntime, asked: Command, place: Place) -> Result<(Command,
 
 /// Runs the command. A folder in which files can be replaced is had by its lock alone, and holds it until it is dropped: so a command that
 /// replaces one has its turn from before its first read until it ends.
-pub(crate) fn run_in_turn(rt: &HostRuntime, asked: Command) -> u8 {
+pub(crate) fn run_in_turn<I: Read, O: Write, E: Write>(
+    rt: &HostRuntime,
+    asked: Command,
+    session: &mut Session<I, O, E>,
+) -> u8 {
     let Some(replaced) = asked.replaced() else {
-        return run_on(rt, asked, &mut StdFolder::read_only(rt));
+        return run_on(rt, asked, &mut StdFolder::read_only(rt), session);
     };
     let folder = match replaced {
         Replaced::File(name) => folder_of(name),
         Replaced::UserOf(_) => ".",
     };
     match FolderLock::take(rt, rt.alloc(), folder) {
-        Ok(lock) => run_on(rt, asked, &mut StdFolder::in_turn(rt, lock)),
+        Ok(lock) => run_on(rt, asked, &mut StdFolder::in_turn(rt, lock), session),
         Err(LockFault::Busy) => refuse_busy(rt, replaced),
         Err(LockFault::Memory) => refuse_memory(rt),
         // Without the lock nothing may be replaced, but what else is wrong is said first.
-        Err(LockFault::Device(_)) => run_on(rt, asked, &mut StdFolder::read_only(rt)),
+        Err(LockFault::Device(_)) => run_on(rt, asked, &mut StdFolder::read_only(rt), session),
     }
 }
 
 /// Runs a command on a store that was found. Its folder is the current one.
-fn run_found(rt: &HostRuntime, asked: Command, found: Found) -> u8 {
+fn run_found<I: Read, O: Write, E: Write>(
+    rt: &HostRuntime,
+    asked: Command,
+    found: Found,
+    session: &mut Session<I, O, E>,
+) -> u8 {
     if asked.replaced().is_none() {
-        return read_found(rt, asked, StdFolder::read_only(rt), &found);
+        return read_found(rt, asked, StdFolder::read_only(rt), &found, session);
     }
     match FolderLock::take(rt, rt.alloc(), ".") {
-        Ok(lock) => change_found(rt, asked, in_turn(rt, lock, &found), &found),
+        Ok(lock) => change_found(rt, asked, in_turn(rt, lock, &found), &found, session),
         Err(LockFault::Busy) => match users_path(rt, &found) {
             Ok(path) => refuse_busy_file(rt, path.as_str()),
             Err(_) => refuse_memory(rt),
         },
         Err(LockFault::Memory) => refuse_memory(rt),
-        Err(LockFault::Device(_)) => read_found(rt, asked, StdFolder::read_only(rt), &found),
+        Err(LockFault::Device(_)) => {
+            read_found(rt, asked, StdFolder::read_only(rt), &found, session)
+        }
     }
 }
 
 /// Runs a command in a folder in which bad databases count as what can be saved of them, and says of each what was wrong.
-fn read_found(
+fn read_found<I: Read, O: Write, E: Write>(
     rt: &HostRuntime,
     asked: Command,
     folder: StdFolder<&HostRuntime>,
     found: &Found,
+    session: &mut Session<I, O, E>,
 ) -> u8 {
     let Ok(mut folder) = found_folder(rt, folder, found) else {
         return refuse_memory(rt);
     };
     let is_explained = matches!(&asked, Command::Explain { .. });
     let is_change = asked.replaced().is_some();
-    let status = run_within(rt, asked, found, &mut folder);
-    if is_change {
+    let is_idle = session.leaves_made && changes_nothing(rt, &asked, found);
+    let status = if is_idle {
+        0
+    } else {
+        run_within(rt, asked, found, &mut folder, session)
+    };
+    if is_change && !is_idle {
         // In the turn, and whatever became of it: who reads looks again, and that is all.
         set_flag(rt, found.flag.as_str());
     }
@@ -102,9 +126,30 @@ fn read_found(
     } else {
         Ok(())
     };
+    if !session.warns {
+        return status;
+    }
     match (told, warn(rt, folder.bad(), found)) {
         (Ok(()), Ok(())) => status,
         _ => REFUSED,
+    }
+}
+
+/// Whether the user's file holds already what a `write` or a `reset` would give it, and no database is bad.
+fn changes_nothing(rt: &HostRuntime, asked: &Command, found: &Found) -> bool {
+    match asked {
+        Command::Write { .. } => {}
+        Command::Reset { .. } => {}
+        _ => return false,
+    }
+    let Ok(mut folder) = found_folder(rt, StdFolder::read_only(rt), found) else {
+        return false;
+    };
+    // Neither of them reads it.
+    let mut input = Counted::new(rt.stdin());
+    match is_made(rt.alloc(), asked, &mut folder, &mut input) {
+        Ok(is) => is && folder.bad().is_empty(),
+        Err(_) => false,
     }
 }
 
@@ -120,10 +165,11 @@ fn in_turn<'a>(rt: &'a HostRuntime, lock: FolderLock, found: &Found) -> StdFolde
 /// Says what nobody would learn from the status alone. What can't be said is a refusal.
 fn warn(rt: &HostRuntime, bad: &[BadDatabase], found: &Found) -> io::Result<()> {
     if found.is_nowhere() {
-        warn_of_no_folder(rt, found.folder.as_str())?;
+        // Nothing is read of it.
+        eprintln!(rt; "warning: there is no folder {}", found.folder.as_str())?;
     }
     if let Some(told) = &found.profile.told {
-        warn_of_profile(rt, told.as_str())?;
+        eprintln!(rt; "warning: {}", told.as_str())?;
     }
     let first = match bad.first() {
         Some(_) => first_file(rt, found)?,
@@ -163,17 +209,18 @@ fn found_folder<'a>(
 }
 
 /// The same of a command that changes the user's file, which is kept under another name if it is bad.
-fn change_found(
+fn change_found<I: Read, O: Write, E: Write>(
     rt: &HostRuntime,
     asked: Command,
     folder: StdFolder<&HostRuntime>,
     found: &Found,
+    session: &mut Session<I, O, E>,
 ) -> u8 {
     let Ok(name) = users_file(rt, found) else {
         return refuse_memory(rt);
     };
     if name == found.profile.path {
-        return read_found(rt, asked, folder, found);
+        return read_found(rt, asked, folder, found, session);
     }
     let Ok(name) = found.held(rt, name.as_str()) else {
         return refuse_memory(rt);
@@ -183,7 +230,7 @@ fn change_found(
         Err(FolderFault::Memory) => return refuse_memory(rt),
         Err(_) => return refuse_kept(rt, found),
     };
-    let status = read_found(rt, asked, folder, found);
+    let status = read_found(rt, asked, folder, found, session);
     if let Some(other) = kept {
         forget(rt, name.as_str(), other.as_str());
     }
@@ -213,11 +260,16 @@ fn users_file(rt: &HostRuntime, found: &Found) -> Result<String, AllocError> {
     user_file(alloc, profile, &bytes)
 }
 
-/// Runs the command on a folder and the streams of the process.
+/// Runs the command on a folder and these streams.
 ///
 /// If the host's answers were those of a folder that held what this one did, the run did to it, and gave, exactly what that, the words and an
 /// input say.
-fn run_on(rt: &HostRuntime, asked: Command, folder: &mut StdFolder<&HostRuntime>) -> u8
+fn run_on<I: Read, O: Write, E: Write>(
+    rt: &HostRuntime,
+    asked: Command,
+    folder: &mut StdFolder<&HostRuntime>,
+    session: &mut Session<I, O, E>,
+) -> u8
     ensures calm { IsTrue (is_honest folder.new) → NoneFailed (failures_of folder.old) (failures_of folder.new)
         → (i : Input) × ((output : Output) × RanCalmly (command_of asked) i (events_of folder.old) (events_of folder.new) output) }
     ensures ran { IsTrue (is_honest folder.new)
@@ -226,12 +278,16 @@ fn run_on(rt: &HostRuntime, asked: Command, folder: &mut StdFolder<&HostRuntime>
     ensures untouched { can_write folder.old ≡ false → events_of folder.new ≡ events_of folder.old }
 {
     let given = Given::of(rt, &asked);
-    let mut input = Counted::new(rt.stdin());
-    let mut out = Counted::new(rt.stdout());
-    let mut err = Counted::new(Heard::new(rt.alloc(), rt.stderr()));
-    let status = run(rt.alloc(), asked, folder, &mut input, &mut out, &mut err);
+    let status = run(
+        rt.alloc(),
+        asked,
+        folder,
+        &mut session.input,
+        &mut session.out,
+        &mut session.err,
+    );
     if let Some(given) = &given {
-        explain(rt, given, err.get_ref().text());
+        explain(rt, given, session.err.get_ref().text());
     }
     status
 }
@@ -240,11 +296,12 @@ fn run_on(rt: &HostRuntime, asked: Command, folder: &mut StdFolder<&HostRuntime>
 ///
 /// What the run is said to have done, it did to a folder of files that hold what counts of the host's, of which its reads gave what it holds.
 /// The same it did to the host's, by the names that those have, but for an append or a sync that was refused.
-fn run_within(
+fn run_within<I: Read, O: Write, E: Write>(
     rt: &HostRuntime,
     asked: Command,
     store: &Found,
     folder: &mut FoundFolder<RenamedFolder<StdFolder<&HostRuntime>>>,
+    session: &mut Session<I, O, E>,
 ) -> u8
     ensures calm { IsTrue (is_honest (renamed_inner (inner_of folder.new)) && agrees folder.new) → NoneFailed (found.failures_of folder.old) (found.failures_of folder.new)
         → (old : List Event) → IsPast (IsRenamed (λ f es. es ≡ events_of f)) folder.old old
@@ -262,12 +319,16 @@ fn run_within(
     if let Some(given) = &mut given {
         given.names = store.names(rt).ok();
     }
-    let mut input = Counted::new(rt.stdin());
-    let mut out = Counted::new(rt.stdout());
-    let mut err = Counted::new(Heard::new(rt.alloc(), rt.stderr()));
-    let status = run(rt.alloc(), asked, folder, &mut input, &mut out, &mut err);
+    let status = run(
+        rt.alloc(),
+        asked,
+        folder,
+        &mut session.input,
+        &mut session.out,
+        &mut session.err,
+    );
     if let Some(given) = &given {
-        explain(rt, given, err.get_ref().text());
+        explain(rt, given, session.err.get_ref().text());
     }
     status
 }

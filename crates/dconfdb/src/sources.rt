@@ -59,12 +59,15 @@ pub(crate) fn is_folder(rt: &HostRuntime, name: &str) -> bool {
     }
 }
 
-/// The sources in the folder NAME.d, by its NAME.
-pub(crate) fn source_folder(rt: &HostRuntime, name: &str) -> Result<SourceFolder, Unread> {
+/// The sources in a folder, of the database NAME.
+pub(crate) fn source_folder(
+    rt: &HostRuntime,
+    folder: &str,
+    name: &str,
+) -> Result<SourceFolder, Unread> {
     let alloc = rt.alloc();
-    let folder = format!(in alloc; "{name}.d")?;
-    let locks = format!(in alloc; "{name}.d/locks")?;
-    let keyfiles = files_in(rt, folder.as_str())?;
+    let locks = format!(in alloc; "{folder}/locks")?;
+    let keyfiles = files_in(rt, folder)?;
     let mut lock_files = Vec::new(alloc);
     if is_folder(rt, locks.as_str()) {
         lock_files = files_in(rt, locks.as_str())?;

@@ -1,7 +1,9 @@
 //! `update [FOLDER]`: the databases that are not what their sources say, each made by `compile`.
+use crate::marks::{opened, set_invalid};
 use crate::messages::{REFUSED, refuse, refuse_device, refuse_memory, refuse_place};
 use crate::named::warn_of_missing_ones;
 use crate::runs::run_in_turn;
+use crate::session::Session;
 use crate::sources::{Unread, is_folder, names_in, source_folder};
 use dconf_args::{Command, Replaced, SourceFolder, updates};
 use dconf_cli::{Counted, is_made};
@@ -10,48 +12,52 @@ use dconf_habits::in_dconfs_place;
 use dconf_places::{EVERYONES_FOLDER, Given};
 use dconf_surroundings::{NotFound, Surroundings};
 use std::alloc::AllocError;
-use std::io::{self, ErrorKind};
+use std::io::ErrorKind;
 use std::{env, fs};
 
 /// Where dconf has its databases of the system.
 const DCONFS_FOLDER: &str = "/etc/dconf/db";
 
-/// How the databases of a folder are named.
+/// How the databases of a folder are named, and which are made.
 #[derive(Clone, Copy)]
-enum Naming {
-    /// NAME.db: our own.
+pub(crate) enum Making {
+    /// NAME.db, our own, where it isn't made.
     Own,
-    /// NAME: dconf's.
-    Dconfs,
+    /// NAME, where it isn't made.
+    InPlace,
+    /// NAME, each, as dconf does.
+    AsDconf,
 }
 
-/// Makes the databases of a folder that are not what their sources say.
+/// Makes the databases of a folder that are not what their sources say; if none is named, of the one for all users.
 pub(crate) fn update(rt: &HostRuntime, folder: Option<String>) -> u8 {
     match folder {
-        Some(folder) => update_in(rt, folder.as_str(), Naming::Own),
-        None => match machines_naming(rt) {
-            Ok(Naming::Own) => update_in(rt, EVERYONES_FOLDER, Naming::Own),
-            Ok(Naming::Dconfs) => update_in(rt, DCONFS_FOLDER, Naming::Dconfs),
-            Err(fault) => refuse_place(rt, fault),
-        },
+        Some(folder) => update_in(rt, folder.as_str(), Making::Own),
+        None => update_machines(rt, Making::InPlace),
     }
 }
 
-/// How those of the machine's kind of store are named.
-fn machines_naming(rt: &HostRuntime) -> Result<Naming, NotFound> {
-    if Surroundings::of_machine(rt)?.is_dconfs(Given::Nobody)? {
-        Ok(Naming::Dconfs)
-    } else {
-        Ok(Naming::Own)
+/// Makes those of the folder for all users, in dconf's places if the machine has dconf's kind of store.
+pub(crate) fn update_machines(rt: &HostRuntime, in_place: Making) -> u8 {
+    let machine = Surroundings::of_machine(rt);
+    match machine.and_then(|machine| machine.is_dconfs(Given::Nobody)) {
+        Ok(true) => update_in(rt, DCONFS_FOLDER, in_place),
+        Ok(false) => update_in(rt, EVERYONES_FOLDER, Making::Own),
+        Err(fault) => refuse_place(rt, fault),
     }
 }
 
 /// Makes those of a folder.
-fn update_in(rt: &HostRuntime, folder: &str, naming: Naming) -> u8 {
+pub(crate) fn update_in(rt: &HostRuntime, folder: &str, making: Making) -> u8 {
     match env::set_current_dir(rt, folder) {
         Ok(()) => {
-            let status = update_here(rt, folder, naming);
-            match warn_of_missing(rt, folder, naming) {
+            let status = update_here(rt, folder, making);
+            // A profile of our own kind is beside its databases of the system.
+            let warned = match making {
+                Making::Own => warn_of_missing_ones(rt, ".", folder),
+                _ => Ok(()),
+            };
+            match warned {
                 Ok(()) => status,
                 Err(_) => REFUSED,
             }
@@ -64,29 +70,21 @@ fn update_in(rt: &HostRuntime, folder: &str, naming: Naming) -> u8 {
     }
 }
 
-/// A profile of our own kind is beside its databases of the system.
-fn warn_of_missing(rt: &HostRuntime, folder: &str, naming: Naming) -> io::Result<()> {
-    match naming {
-        Naming::Own => warn_of_missing_ones(rt, ".", folder),
-        Naming::Dconfs => Ok(()),
-    }
-}
-
 /// Makes those of the current folder, which was given as `folder`.
-fn update_here(rt: &HostRuntime, folder: &str, naming: Naming) -> u8 {
+fn update_here(rt: &HostRuntime, folder: &str, making: Making) -> u8 {
     match names_in(rt, ".") {
-        Ok(names) => update_each(rt, &names, naming),
+        Ok(names) => update_each(rt, &names, making),
         Err(Unread::Folder(_)) => refuse_device(rt, folder),
         Err(Unread::Memory) => refuse_memory(rt),
     }
 }
 
 /// Makes those of the folders with these names. A fault of one leaves the others.
-fn update_each(rt: &HostRuntime, names: &[String], naming: Naming) -> u8 {
+fn update_each(rt: &HostRuntime, names: &[String], making: Making) -> u8 {
     let mut status = 0;
     for name in names {
         if let Some(database) = database_of(rt, name.as_str()) {
-            status |= update_one(rt, database, naming);
+            status |= update_one(rt, database, making);
         }
     }
     status
@@ -102,10 +100,13 @@ fn database_of<'a>(rt: &HostRuntime, name: &'a str) -> Option<&'a str> {
 }
 
 /// Makes the database of one folder, if it isn't made.
-fn update_one(rt: &HostRuntime, name: &str, naming: Naming) -> u8 {
-    match source_folder(rt, name) {
-        Ok(folder) => match commands_of(rt, folder, naming) {
-            Ok(commands) => run_each(rt, commands),
+fn update_one(rt: &HostRuntime, name: &str, making: Making) -> u8 {
+    let Ok(folder) = format!(in rt.alloc(); "{name}.d") else {
+        return refuse_memory(rt);
+    };
+    match source_folder(rt, folder.as_str(), name) {
+        Ok(folder) => match commands_of(rt, folder, making) {
+            Ok(commands) => run_each(rt, commands, making),
             Err(_) => refuse_memory(rt),
         },
         Err(Unread::Folder(folder)) => refuse_device(rt, folder.as_str()),
@@ -117,12 +118,12 @@ fn update_one(rt: &HostRuntime, name: &str, naming: Naming) -> u8 {
 fn commands_of(
     rt: &HostRuntime,
     folder: SourceFolder,
-    naming: Naming,
+    making: Making,
 ) -> Result<Vec<Command>, AllocError> {
     let alloc = rt.alloc();
     let name = String::from_str(alloc, folder.name.as_str())?;
     let mut commands = updates(alloc, &[folder])?;
-    if let Naming::Dconfs = naming
+    if !matches!(making, Making::Own)
         && let Some(command) = commands.pop()
     {
         commands.push(in_dconfs_place(command, name))?;
@@ -131,10 +132,14 @@ fn commands_of(
 }
 
 /// Runs commands one after another, each in its turn.
-fn run_each(rt: &HostRuntime, commands: Vec<Command>) -> u8 {
+fn run_each(rt: &HostRuntime, commands: Vec<Command>, making: Making) -> u8 {
     let mut status = 0;
     for command in commands {
-        status |= run_if_due(rt, command);
+        status |= match making {
+            Making::Own => run_if_due(rt, command, making),
+            Making::InPlace => run_if_due(rt, command, making),
+            Making::AsDconf => run_one(rt, command, making),
+        };
     }
     status
 }
@@ -142,17 +147,33 @@ fn run_each(rt: &HostRuntime, commands: Vec<Command>) -> u8 {
 /// Runs a command, unless its file holds already what it would be given: then nothing is written, and nobody is told of a change.
 ///
 /// No time is asked for: what was saved while a database was made, or has an older time, is told by what it says.
-fn run_if_due(rt: &HostRuntime, command: Command) -> u8 {
+fn run_if_due(rt: &HostRuntime, command: Command, making: Making) -> u8 {
     if !has_file(rt, &command) {
-        return run_in_turn(rt, command);
+        return run_one(rt, command, making);
     }
     let mut folder = StdFolder::read_only(rt);
     let mut input = Counted::new(rt.stdin());
     match is_made(rt.alloc(), &command, &mut folder, &mut input) {
         Ok(true) => 0,
-        Ok(false) => run_in_turn(rt, command),
+        Ok(false) => run_one(rt, command, making),
         Err(_) => refuse_memory(rt),
     }
+}
+
+/// Runs a command in its turn. In dconf's places who has the replaced file mapped is told so.
+fn run_one(rt: &HostRuntime, command: Command, making: Making) -> u8 {
+    let replaced = match command.replaced() {
+        Some(Replaced::File(name)) if !matches!(making, Making::Own) => opened(rt, name),
+        _ => None,
+    };
+    let mut session = Session::on(rt.alloc(), rt.stdin(), rt.stdout(), rt.stderr());
+    let status = run_in_turn(rt, command, &mut session);
+    if status == 0
+        && let Some(replaced) = &replaced
+    {
+        set_invalid(replaced);
+    }
+    status
 }
 
 /// Whether a file has the name of the one that the command replaces. What is no regular file is not read: that may never end.

@@ -6,16 +6,16 @@ use Rattle.dconf_disk.specs.StdFolders.{events_of}
 use Rattle.dconfdb.proofs.runs.run_on.Goals as goal
 
 pub returns-clause-calm : goal.returns-clause-calm
-returns-clause-calm c = λ honest none.
+returns-clause-calm g c = λ honest none.
     let old = events_of c.args.folder.now in
     let r = c.run-status.ensures.calm honest none old refl in
     (r.0, (r.2.2.0, subst (λ (es : List Event). RanCalmly (command_of c.args.asked) r.0 old es r.2.2.0) r.2.1 r.2.2.1))
 
 pub returns-clause-ran : goal.returns-clause-ran
-returns-clause-ran c = λ honest.
+returns-clause-ran g c = λ honest.
     let old = events_of c.args.folder.now in
     let r = c.run-status.ensures.ran honest old refl in
     (r.0, (r.2.2.0, subst (λ (es : List Event). Ran (command_of c.args.asked) r.0 old es r.2.2.0) r.2.1 r.2.2.1))
 
 pub returns-clause-untouched : goal.returns-clause-untouched
-returns-clause-untouched c = λ no_turn. sym (c.run-status.ensures.untouched no_turn (events_of c.args.folder.now) refl)
+returns-clause-untouched g c = λ no_turn. sym (c.run-status.ensures.untouched no_turn (events_of c.args.folder.now) refl)

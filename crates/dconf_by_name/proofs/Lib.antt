@@ -1,0 +1,2 @@
+pub mod PathFaults
+pub mod Directories
