@@ -38,12 +38,12 @@ def said(words, log, env=None, seconds=3600):
     return text
 
 
-def run(layers, script, log, *, upper=None, given=None, network=False, seconds=3600, words=()):
-    """Runs a script as root over these layers, the topmost first. The folder `given` is /given there. What is written comes into `upper`, or is
-    thrown away."""
+def run(layers, script, log, *, upper=None, given=None, box=False, network=False, seconds=3600, words=()):
+    """Runs a script as root over these layers, the topmost first. The folder `given` is /given there, and with `box` the layers as they are are /box.
+    What is written comes into `upper`, or is thrown away."""
     spaces = ['--mount', '--pid', '--ipc', '--uts', '--fork', '--kill-child', *([] if network else ['--net'])]
     with tempfile.TemporaryDirectory() as room:
-        env = {'PATH': PATH, 'layers': ':'.join(map(str, layers)), 'room': room, 'upper': str(upper or ''), 'given': str(given or '')}
+        env = {'PATH': PATH, 'layers': ':'.join(map(str, layers)), 'room': room, 'upper': str(upper or ''), 'given': str(given or ''), 'box': 'yes' if box else ''}
         return said(['unshare', *spaces, ENTER, script, *words], log, env, seconds)
 
 

@@ -7,7 +7,6 @@ import time
 from pathlib import Path
 
 HOME = Path(os.environ['HOME'])
-HOW = os.environ['HOW']
 # What a program takes to start, and to be told, on a busy machine.
 START, SOON = 60, 15
 
@@ -105,6 +104,6 @@ def screen():
 
 
 def files():
-    """Which of the two stores' files the user has."""
+    """Which stores' files the user has."""
     names = {'dconf': '.config/dconf/user', 'dconfdb': '.config/dconfdb/user.user', 'keyfile': '.config/glib-2.0/settings/keyfile'}
     return [how for how, name in names.items() if (HOME / name).exists()]
