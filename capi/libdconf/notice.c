@@ -26,27 +26,23 @@ static void catch_up(void)
         its->all();
 }
 
-static void carry_out(uint32_t list, DConfClient *client, const Notice *notice)
-{
-    switch (list) {
-    case DCONFDB_TELL_CATCH_UP:
-        catch_up();
-        break;
-    case DCONFDB_TELL_RIGHTS:
-        g_signal_emit_by_name(client, "writability-changed", notice->path);
-        break;
-    default: /* DCONFDB_TELL_VALUES */
-        g_signal_emit_by_name(client, "changed", notice->path, notice->changes, notice->tag);
-    }
-}
-
 static gboolean emit(gpointer data)
 {
     const Notice *notice = data;
     DconfdbTelling telling = {.is_other = true, .has_rights = notice->is_of_rights, .is_of_files = !notice->is_new};
     DConfClient *client = g_weak_ref_get(&notice->engine->client);
-    while (client && tell_next_list(&telling) != DCONFDB_TELL_OVER)
-        carry_out(telling.list, client, notice);
+    while (client && tell_next_list(&telling) != DCONFDB_TELL_OVER) {
+        switch (telling.list) {
+        case DCONFDB_TELL_CATCH_UP:
+            catch_up();
+            break;
+        case DCONFDB_TELL_RIGHTS:
+            g_signal_emit_by_name(client, "writability-changed", notice->path);
+            break;
+        default: /* DCONFDB_TELL_VALUES */
+            g_signal_emit_by_name(client, "changed", notice->path, notice->changes, notice->tag);
+        }
+    }
     g_clear_object(&client);
     return G_SOURCE_REMOVE;
 }
