@@ -127,14 +127,14 @@ static void is_answered(const GDBusMethodInvocation *call, bool is_acknowledged)
         CHECK(is_tried && changes[i]->writer == written_for, "order: nothing is answered before it was tried");
         CHECK(!is_acknowledged || is_written || changes[i]->edits->len == 0, "answer: what is acknowledged is on the disk");
         CHECK(!has_turn, "order: others may have their turn meanwhile");
-        CHECK(!is_written || asked == 0 || is_flagged, "order: dconf's readers see it before anybody is answered");
+        CHECK(is_flagged, "order: dconf's readers see it before anybody is answered");
         CHECK(i == 0 || !has_come[i - 1] || calls_of[i - 1]->answers == 1 || changes[i - 1]->writer != written_for, "order: who came first is answered first");
     }
 }
 
 void flag_readers(const char *name)
 {
-    CHECK(is_written && name == written_for->name, "order: readers look again once it is written");
+    CHECK(is_tried && name == written_for->name && is_held(&written_for->turn), "order: readers look again once it was tried");
     is_flagged = true;
 }
 

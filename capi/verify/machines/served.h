@@ -24,6 +24,16 @@ static inline uint32_t served_tried(const DconfdbServed *known)
     return !known->is_written ? DCONFDB_SERVED_FAILED : known->is_closed ? DCONFDB_SERVED_CLOSED : DCONFDB_SERVED_ACKNOWLEDGED;
 }
 
+/* Of a path. */
+static inline uint32_t served_read(uint32_t done, const DconfdbServed *known)
+{
+    if (done == DCONFDB_SERVED_PATH)
+        return known->kind > 1 ? DCONFDB_SERVED_PASSED : known->is_short ? DCONFDB_SERVED_GOES_ON : DCONFDB_SERVED_LEFT_OUT;
+    if (done == DCONFDB_SERVED_SHOWS)
+        return known->is_users ? DCONFDB_SERVED_GOES_ON : DCONFDB_SERVED_PASSED;
+    return known->is_again ? DCONFDB_SERVED_REPLACES : known->is_covered && !known->sets ? DCONFDB_SERVED_PASSED : DCONFDB_SERVED_GOES_ON;
+}
+
 static inline uint32_t served_given(uint32_t done, const DconfdbServed *known)
 {
     switch (done) {
@@ -37,6 +47,9 @@ static inline uint32_t served_given(uint32_t done, const DconfdbServed *known)
             return DCONFDB_SERVED_FAILED;
         return known->has_same_file ? DCONFDB_SERVED_PROFILES : DCONFDB_SERVED_ALONE;
     case DCONFDB_SERVED_LEFT: return known->waiting == 0 ? DCONFDB_SERVED_GOES_ON : DCONFDB_SERVED_LATE;
+    case DCONFDB_SERVED_PATH:
+    case DCONFDB_SERVED_ORDERED:
+    case DCONFDB_SERVED_SHOWS: return served_read(done, known);
     case DCONFDB_SERVED_NAMELESS: return known->had_name || known->is_bus_closed ? DCONFDB_SERVED_ENDS : DCONFDB_SERVED_TAKEN;
     default: return served_tried(known);
     }
