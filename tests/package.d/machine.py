@@ -271,19 +271,20 @@ class Setters:
         self.begun, self.is_over, self.thread = [], False, None
         for number in range(count):
             self.begins(f'{name}{number}')
+        until('the first set of each', lambda: all(Path(f'/tmp/sets.{it}').stat().st_size for it, _ in self.begun), 120)
 
     def begins(self, name, *words):
         with open(f'/tmp/sets.{name}', 'wb') as out, open('/tmp/sets', 'ab') as said:
             self.begun.append((name, subprocess.Popen([HERE / 'sets', name, *words], stdin=subprocess.PIPE, stdout=out, stderr=said)))
 
-    def keeps_beginning(self, name, each, count):
-        """From now on, one more at a time, which sets so many keys and ends."""
+    def keeps_beginning(self, name, count):
+        """From now on, one after another, each of which sets so many keys and ends."""
         def begin():
             number = 0
             while not self.is_over:
                 self.begins(f'{name}{number}', str(count))
+                self.begun[-1][1].wait()
                 number += 1
-                time.sleep(each)
 
         self.thread = threading.Thread(target=begin, daemon=True)
         self.thread.start()
