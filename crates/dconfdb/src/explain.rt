@@ -27,7 +27,10 @@ pub(crate) fn page(rt: &HostRuntime, words: &[String]) -> Option<u8> {
         return Some(status_of(print_all(rt)));
     }
     let word = Word::of(words[2].as_str())?;
-    Some(status_of(print_page(rt, word)))
+    match word.page(rt.alloc()) {
+        Ok(page) => Some(status_of(print!(rt; "{page}"))),
+        Err(_) => Some(1),
+    }
 }
 
 pub(crate) fn status_of(printed: io::Result<()>) -> u8 {
@@ -35,11 +38,6 @@ pub(crate) fn status_of(printed: io::Result<()>) -> u8 {
         Ok(()) => 0,
         Err(_) => 1,
     }
-}
-
-fn print_page(rt: &HostRuntime, word: Word) -> io::Result<()> {
-    let page = word.page(rt.alloc())?;
-    print!(rt; "{page}")
 }
 
 fn print_all(rt: &HostRuntime) -> io::Result<()> {

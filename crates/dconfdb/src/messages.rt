@@ -2,8 +2,8 @@
 use crate::explain::explain_own;
 use dconf_found::{BadDatabase, MACHINE_FILE};
 use dconf_surroundings::NotFound;
-use dconfdb_calls::{BadFile, Fate, Fault};
-use std::fmt::{self, Display};
+use dconfdb_calls::{Fate, Fault};
+use std::fmt::Display;
 use std::io;
 
 /// The status of a command that is refused.
@@ -58,40 +58,30 @@ pub(crate) fn refuse_place(rt: &HostRuntime, fault: NotFound) -> u8 {
     REFUSED
 }
 
-/// Says on err what was wrong with a database of this path, and what counts of it, as the library for C says it.
+/// Says on err what was wrong with a database of this path, and what counts of it, as the library for C says it: with the rule that it
+/// breaks, if it breaks one, and the item.
 pub(crate) fn warn_of_bad(
     rt: &HostRuntime,
     path: &str,
     bad: &BadDatabase,
     is_first: bool,
 ) -> io::Result<()> {
-    let wrong = Wrong(bad.loss.bad);
+    let wrong = bad.loss.bad;
+    let rule = wrong.unsound.rule;
+    let item = wrong.unsound.item;
     let fate = Fate {
         keys: bad.loss.keys,
         locks: bad.loss.locks,
         is_first,
         is_aside: false,
     };
-    eprintln!(rt; "warning: {path}: {wrong}{fate}")
-}
-
-/// What is wrong with a file. It is printed with the rule that it breaks, if it breaks one, and the item.
-#[derive(Clone, Copy)]
-struct Wrong(BadFile);
-
-impl fmt::Display for Wrong {
-    fn fmt<W: fmt::Write>(&self, f: &mut fmt::Formatter<W>) -> fmt::Result {
-        let broken = self.0.unsound;
-        if self.0.fault != Fault::Unsound {
-            return f.write_str(self.0.fault.text());
-        }
-        if broken.has_item {
-            return write!(
-                f,
-                "the database breaks the rule S{}, at item {}",
-                broken.rule, broken.item
-            );
-        }
-        write!(f, "the database breaks the rule S{}", broken.rule)
+    if wrong.fault != Fault::Unsound {
+        return eprintln!(rt; "warning: {path}: {}{fate}", wrong.fault.text());
     }
+    if wrong.unsound.has_item {
+        return eprintln!(rt;
+            "warning: {path}: the database breaks the rule S{rule}, at item {item}{fate}"
+        );
+    }
+    eprintln!(rt; "warning: {path}: the database breaks the rule S{rule}{fate}")
 }

@@ -14,10 +14,7 @@ ghost use Rattle.dconf_found.specs.Renamed.{IsRenamed, renamed_inner};
 use crate::explain::{Given, explain};
 use crate::keep::{forget, keep};
 use crate::marks::set_flag;
-use crate::messages::{
-    REFUSED, refuse, refuse_device, refuse_memory, refuse_place, warn_of_bad, warn_of_no_folder,
-    warn_of_profile,
-};
+use crate::messages::{REFUSED, refuse, refuse_device, refuse_memory, refuse_place, warn_of_bad};
 use crate::named::{first_file, warn_of_missing_ones};
 use crate::session::Session;
 use dconf_args::{Command, Place, Replaced, user_file};
@@ -228,7 +225,12 @@ fn change_found<I: Read, O: Write, E: Write>(
     let kept = match keep(rt, name.as_str()) {
         Ok(kept) => kept,
         Err(FolderFault::Memory) => return refuse_memory(rt),
-        Err(_) => return refuse_kept(rt, found),
+        Err(_) => {
+            return match users_path(rt, found) {
+                Ok(path) => refuse_device(rt, path.as_str()),
+                Err(_) => refuse_memory(rt),
+            };
+        }
     };
     let status = read_found(rt, asked, folder, found, session);
     if let Some(other) = kept {
@@ -237,15 +239,7 @@ fn change_found<I: Read, O: Write, E: Write>(
     status
 }
 
-/// Says on err that the user's bad file couldn't be kept under another name.
-fn refuse_kept(rt: &HostRuntime, found: &Found) -> u8 {
-    match users_path(rt, found) {
-        Ok(path) => refuse_device(rt, path.as_str()),
-        Err(_) => refuse_memory(rt),
-    }
-}
-
-/// The whole path of that file.
+/// The whole path of the user's file.
 fn users_path(rt: &HostRuntime, found: &Found) -> Result<String, AllocError> {
     found.path(rt, users_file(rt, found)?.as_str())
 }

@@ -99,14 +99,15 @@ fn database_of<'a>(rt: &HostRuntime, name: &'a str) -> Option<&'a str> {
     Some(database)
 }
 
-/// Makes the database of one folder, if it isn't made.
+/// Makes the database of one folder.
 fn update_one(rt: &HostRuntime, name: &str, making: Making) -> u8 {
     let Ok(folder) = format!(in rt.alloc(); "{name}.d") else {
         return refuse_memory(rt);
     };
     match source_folder(rt, folder.as_str(), name) {
-        Ok(folder) => match commands_of(rt, folder, making) {
-            Ok(commands) => run_each(rt, commands, making),
+        Ok(folder) => match command_of(rt, folder, making) {
+            Ok(Some(command)) => run_if_due(rt, command, making),
+            Ok(None) => 0,
             Err(_) => refuse_memory(rt),
         },
         Err(Unread::Folder(folder)) => refuse_device(rt, folder.as_str()),
@@ -114,41 +115,28 @@ fn update_one(rt: &HostRuntime, name: &str, making: Making) -> u8 {
     }
 }
 
-/// The commands that make a folder's database.
-fn commands_of(
+/// The command that makes a folder's database, unless it is hidden.
+fn command_of(
     rt: &HostRuntime,
     folder: SourceFolder,
     making: Making,
-) -> Result<Vec<Command>, AllocError> {
+) -> Result<Option<Command>, AllocError> {
     let alloc = rt.alloc();
     let name = String::from_str(alloc, folder.name.as_str())?;
-    let mut commands = updates(alloc, &[folder])?;
-    if !matches!(making, Making::Own)
-        && let Some(command) = commands.pop()
-    {
-        commands.push(in_dconfs_place(command, name))?;
+    let Some(command) = updates(alloc, &[folder])?.pop() else {
+        return Ok(None);
+    };
+    match making {
+        Making::Own => Ok(Some(command)),
+        _ => Ok(Some(in_dconfs_place(command, name))),
     }
-    Ok(commands)
-}
-
-/// Runs commands one after another, each in its turn.
-fn run_each(rt: &HostRuntime, commands: Vec<Command>, making: Making) -> u8 {
-    let mut status = 0;
-    for command in commands {
-        status |= match making {
-            Making::Own => run_if_due(rt, command, making),
-            Making::InPlace => run_if_due(rt, command, making),
-            Making::AsDconf => run_one(rt, command, making),
-        };
-    }
-    status
 }
 
 /// Runs a command, unless its file holds already what it would be given: then nothing is written, and nobody is told of a change.
 ///
 /// No time is asked for: what was saved while a database was made, or has an older time, is told by what it says.
 fn run_if_due(rt: &HostRuntime, command: Command, making: Making) -> u8 {
-    if !has_file(rt, &command) {
+    if matches!(making, Making::AsDconf) || !has_file(rt, &command) {
         return run_one(rt, command, making);
     }
     let mut folder = StdFolder::read_only(rt);
