@@ -261,7 +261,9 @@ class Program:
     def ends(self):
         self.process.stdin.close()
         same('how the program ends', self.process.wait(20), 0)
-        same('what it says of the backend', [it for it in Path('/tmp/listens').read_text(encoding='utf-8').splitlines() if 'dconf' in it], [])
+        # Many others write, and on a slow machine it says that it waits for them.
+        said = Path('/tmp/listens').read_text(encoding='utf-8').splitlines()
+        same('what it says of the backend', [it for it in said if 'dconf' in it and 'goes on waiting' not in it], [])
 
 
 class Setters:
