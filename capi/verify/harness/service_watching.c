@@ -105,7 +105,8 @@ const StorePlace *place_of(const DconfdbStore *store)
 uint32_t dconfdb_glance_after(uint32_t task, const DconfdbGlance *known)
 {
     uint32_t next = any_u32();
-    GIVEN(next > task && next <= DCONFDB_GLANCE_FAILED && next != DCONFDB_GLANCE_WATCH);
+    CHECK(!known->is_barred && !known->is_to_settle, "step: the turn is had, and nothing is settled by a look");
+    GIVEN(next > task && next <= DCONFDB_GLANCE_FAILED && next != DCONFDB_GLANCE_WATCH && next != DCONFDB_GLANCE_SETTLE && next != DCONFDB_GLANCE_AGAIN);
     GIVEN(next != DCONFDB_GLANCE_HEED || (known->is_other && task == DCONFDB_GLANCE_HAND));
     GIVEN(next != DCONFDB_GLANCE_HAND || known->is_done);
     GIVEN(task >= DCONFDB_GLANCE_HAND ? next >= DCONFDB_GLANCE_HEED : task == DCONFDB_GLANCE_BEGINS || next >= DCONFDB_GLANCE_HAND);
