@@ -125,6 +125,14 @@ bool refuse_memory(DconfdbError *error)
     return refuse(error, DCONFDB_ERROR_MEMORY, 0, nowhere, "");
 }
 
+/* Of a call that failed, and of a place in the text. */
+bool refuse_text(DconfdbError *error, uint32_t number, size_t start, size_t end)
+{
+    (void)start, (void)end;
+    CHECK(number != DCONFDB_OK, "answer: a fault");
+    return refuse(error, DCONFDB_ERROR_BAD_TEXT, 0, nowhere, "");
+}
+
 /* harness value_parse: unwind 7 */
 int value_parse(void)
 {
