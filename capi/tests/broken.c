@@ -1,5 +1,5 @@
 /* Breaks what dconfdb.h asks of a caller: broken RULE FOLDER. Without words it prints each rule, and
- * how it is seen that it is broken: `address` and `race` by clang's sanitizers, `leak` by valgrind,
+ * how it is seen that it is broken: `address` and `race` by clang's sanitizers, `leak` and `helgrind` by valgrind,
  * a signal's number by that signal, `hang` by no end, and `wrong` by a wrong answer, which this
  * program looks at itself. FOLDER is as calls.c has it. */
 #include "try.h"
@@ -347,7 +347,7 @@ static const struct {
     {"cut_off", "7", cut_off},
     {"written_over", "wrong", written_over},
     {"walked_with_anothers_place", "wrong", walked_with_anothers_place},
-    {"walked_by_two", "race", walked_by_two},
+    {"walked_by_two", "helgrind", walked_by_two},
 };
 
 int main(int argc, char **argv)
