@@ -1432,6 +1432,8 @@ typedef struct {
     bool is_covered;                /* a directory's reset takes away what is there */
     bool sets;                      /* a value is set there; else it is reset */
     bool is_users;                  /* a database is the user's own */
+    bool is_unmade;                 /* an edit isn't made, by dconfdb_is_unmade */
+    bool is_service_db;             /* its database is one that a profile of dconf's names by `service-db` */
 } DconfdbServed;
 
 /* What was done with it, or what happened. Of each its own fields count, and no others. */
@@ -1447,7 +1449,9 @@ enum {
     DCONFDB_SERVED_NAMELESS, /* it hasn't its name */
     DCONFDB_SERVED_PATH,     /* a path in it is read */
     DCONFDB_SERVED_ORDERED,  /* .. and comes behind those before it, in the order of their bytes, and of one path as they were sent */
-    DCONFDB_SERVED_SHOWS     /* the service tells who listens of a database */
+    DCONFDB_SERVED_SHOWS,    /* the service tells who listens of a database */
+    DCONFDB_SERVED_MADE,     /* an edit was tried, and is told of */
+    DCONFDB_SERVED_BESIDE    /* an edit stands beside others of its change */
 };
 
 /* What becomes of it then. */
@@ -1463,12 +1467,13 @@ enum {
     DCONFDB_SERVED_LATE,     /* the service ends: that is its answer, and nothing of it is written; or the thread is left, whatever it is at */
     DCONFDB_SERVED_LATER,    /* it is for a later write */
     DCONFDB_SERVED_PROFILES, /* the profile's store has its database */
-    DCONFDB_SERVED_ALONE,    /* the store of its database alone has it */
+    DCONFDB_SERVED_ALONE,    /* the store of its database alone has it; or an edit is made, or not, by itself */
     DCONFDB_SERVED_ENDS,     /* the service ends, and takes what it was sent before */
     DCONFDB_SERVED_TAKEN,    /* another service has the name */
     DCONFDB_SERVED_PASSED,   /* it says nothing, or nothing is told of it */
     DCONFDB_SERVED_LEFT_OUT, /* it isn't made, which is told */
-    DCONFDB_SERVED_REPLACES  /* it counts in the place of the one before it */
+    DCONFDB_SERVED_REPLACES, /* it counts in the place of the one before it */
+    DCONFDB_SERVED_UNSUPPORTED /* no such database is served */
 };
 
 uint32_t dconfdb_served_after(uint32_t done, const DconfdbServed *known);
@@ -1853,9 +1858,9 @@ uint32_t dconfdb_read_as(const DconfdbBytes *folders, size_t count, const uint8_
 /* A key that is set, or a lock, and what the installed schemas have of it. */
 typedef struct {
     uint32_t what;
-    bool is_known;         /* one has the key, or a key below the directory */
+    bool is_known;         /* one has the key, or a key below the directory; or it came before */
     bool has_schemas;      /* one is at the key's directory */
-    bool may_be_elsewhere; /* one without a path has a key of that name; of a directory, there is one */
+    bool may_be_elsewhere; /* one without a path has a key of that name; of a directory, there is one; of a line, it came before in another folder */
     bool has_value;        /* it is set to a value */
     bool is_taken;         /* .. which one of the keys takes */
     bool is_of_type;       /* .. and that is of the first one's type */
@@ -1866,7 +1871,8 @@ enum {
     DCONFDB_OF_KEY,
     DCONFDB_OF_LOCKED_KEY,
     DCONFDB_OF_LOCKED_DIRECTORY,
-    DCONFDB_OF_DATABASE /* that a profile names: `is_known`, it has its file, or nobody can say */
+    DCONFDB_OF_DATABASE, /* that a profile names: `is_known`, it has its file, or nobody can say */
+    DCONFDB_OF_AGAIN     /* a line that sets a key, or a file that is asked for */
 };
 
 /* What is found wrong with it. */
@@ -1877,7 +1883,8 @@ enum {
     DCONFDB_FINDING_NO_LOCKED_DIRECTORY,
     DCONFDB_FINDING_OTHER_TYPE,
     DCONFDB_FINDING_NOT_TAKEN,
-    DCONFDB_FINDING_NO_DATABASE
+    DCONFDB_FINDING_NO_DATABASE,
+    DCONFDB_FINDING_AGAIN
 };
 
 /* What a schema without a path may have is passed over, but where the directory is a slip away from one of these, where schemas have such a key: a

@@ -2,6 +2,7 @@
 #include "../gsettings/catch_up.h"
 #include "libdconf.h"
 
+#include "lent_value.h"
 #include "seen.h"
 #include "paths.h"
 
@@ -105,14 +106,10 @@ typedef struct {
 /* What the changes say of a key. */
 static void add_key(const Own *own, DConfChangeset *changes, const gchar *key)
 {
-    DconfdbEdit edit = {key, NULL, NULL, 0};
-    GVariant *value = NULL;
+    g_autoptr(GVariant) value = NULL; /* the changes have it */
     if (!dconf_changeset_get(changes, key, &value))
         return;
-    if (value) {
-        edit = (DconfdbEdit){key, g_variant_get_type_string(value), g_variant_get_data(value), g_variant_get_size(value)};
-        g_variant_unref(value); /* the changes have it */
-    }
+    DconfdbEdit edit = edit_with(key, value);
     g_array_append_val(own->edits, edit);
 }
 
