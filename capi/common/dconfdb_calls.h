@@ -1858,9 +1858,9 @@ uint32_t dconfdb_read_as(const DconfdbBytes *folders, size_t count, const uint8_
 /* A key that is set, or a lock, and what the installed schemas have of it. */
 typedef struct {
     uint32_t what;
-    bool is_known;         /* one has the key, or a key below the directory; or it came before */
+    bool is_known;         /* one has the key, or a key below the directory */
     bool has_schemas;      /* one is at the key's directory */
-    bool may_be_elsewhere; /* one without a path has a key of that name; of a directory, there is one; of a line, it came before in another folder */
+    bool may_be_elsewhere; /* one without a path has a key of that name; of a directory, there is one */
     bool has_value;        /* it is set to a value */
     bool is_taken;         /* .. which one of the keys takes */
     bool is_of_type;       /* .. and that is of the first one's type */
@@ -1871,8 +1871,7 @@ enum {
     DCONFDB_OF_KEY,
     DCONFDB_OF_LOCKED_KEY,
     DCONFDB_OF_LOCKED_DIRECTORY,
-    DCONFDB_OF_DATABASE, /* that a profile names: `is_known`, it has its file, or nobody can say */
-    DCONFDB_OF_AGAIN     /* a line that sets a key, or a file that is asked for */
+    DCONFDB_OF_DATABASE /* that a profile names: `is_known`, it has its file, or nobody can say */
 };
 
 /* What is found wrong with it. */
@@ -1883,8 +1882,7 @@ enum {
     DCONFDB_FINDING_NO_LOCKED_DIRECTORY,
     DCONFDB_FINDING_OTHER_TYPE,
     DCONFDB_FINDING_NOT_TAKEN,
-    DCONFDB_FINDING_NO_DATABASE,
-    DCONFDB_FINDING_AGAIN
+    DCONFDB_FINDING_NO_DATABASE
 };
 
 /* What a schema without a path may have is passed over, but where the directory is a slip away from one of these, where schemas have such a key: a

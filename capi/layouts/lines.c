@@ -39,7 +39,6 @@ static void finds_finding(void)
     is_so(is_found(0, ELSEWHERE, 0) && is_found_at("/a/", 0, ELSEWHERE, 1) && is_found(0, ELSEWHERE | SCHEMAS, 1), "DconfdbFinding");
     is_so(is_found(0, KNOWN | VALUE, 4) && is_found(0, KNOWN | VALUE | TYPED, 5) && is_found(0, KNOWN | VALUE | TAKEN, 0), "DconfdbFinding");
     is_so(is_found_at("profile", 3, SYSTEM, 6) && is_found_at("profile", 3, 0, 0) && is_found_at("profile", 3, SYSTEM | KNOWN, 0), "DconfdbFinding");
-    is_so(is_found(4, KNOWN, 7) && is_found(4, KNOWN | ELSEWHERE, 0) && is_found(4, 0, 0), "DconfdbFinding");
     lies("DconfdbFinding", "what", FINDING_WHAT, NUMBER);
     lies("DconfdbFinding", "is_known", FINDING_IS_KNOWN, FLAG);
     lies("DconfdbFinding", "has_schemas", FINDING_HAS_SCHEMAS, FLAG);

@@ -90,7 +90,7 @@ static void find_fault(Place at, uint32_t number, const DconfdbUnsound *broken)
 
 void check_database(const Lint *lint, const char *file, FileBytes *bytes)
 {
-    const Lint alone = {lint->schemas, NULL, NULL};
+    const Lint alone = {lint->schemas, NULL};
     DconfdbLayer layers[2] = {DCONFDB_EMPTY_LAYER, DCONFDB_EMPTY_LAYER};
     DconfdbUnsound broken = {0, 0, false}, nothing = {0, 0, false};
     FileBytes mended = {NULL, 0, false};

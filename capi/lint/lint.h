@@ -80,20 +80,10 @@ void values_end(void);
 
 /* ---- rows.c: a key that is set, and a lock, wherever they stand */
 
-/* Where a line sets a key: the file's folder, too. */
-typedef struct {
-    Place at;
-    const char *folder;
-} SetAt;
-
 typedef struct {
     const Schemas *schemas;
-    GHashTable *set;    /* the keys that keyfiles set, and the first SetAt of each in its folder; NULL in a database */
-    const char *folder; /* of the file */
+    GHashTable *set; /* the keys that this folder's keyfiles set, and the first place of each; NULL in a database */
 } Lint;
-
-/* Whether something came before: a line that sets the same key, of a file in another folder or not; or the same file. */
-bool came_before(bool is_known, bool is_elsewhere);
 
 /* A key is set. Of a value that is none, NULL, the key alone is looked at. */
 void check_row(const Lint *lint, Place at, const char *path, GVariant *value);
@@ -119,6 +109,8 @@ uint32_t asked_read_as(const Asked *asked, uintmax_t size, const FileBytes *byte
 Asked *asked_files(char *const *files, size_t count);
 
 void asked_free(Asked *asked, size_t count);
+
+bool is_of_folder(const Asked *one, const Asked *other);
 
 bool is_same_file(const Asked *one, const Asked *other);
 

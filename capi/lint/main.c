@@ -85,18 +85,21 @@ static void check_asked(const Lint *lint, const Asked *asked)
     }
 }
 
-/* The files of a folder, in the order of their names, each once. */
+/* The files of a folder are those of one database, in the order of their names. */
 static void check_files(const Schemas *schemas, char *const *files, size_t count)
 {
-    Lint lint = {schemas, g_hash_table_new_full(g_str_hash, g_str_equal, g_free, g_free), NULL};
+    Lint lint = {schemas, NULL};
     Asked *asked = asked_files(files, count);
     for (size_t i = 0; i < count; i++) {
-        if (came_before(i > 0 && is_same_file(&asked[i], &asked[i - 1]), false))
+        if (i > 0 && is_same_file(&asked[i], &asked[i - 1]))
             continue;
-        lint.folder = asked[i].folder;
+        if (i == 0 || !is_of_folder(&asked[i], &asked[i - 1])) {
+            g_clear_pointer(&lint.set, g_hash_table_unref);
+            lint.set = g_hash_table_new_full(g_str_hash, g_str_equal, g_free, g_free);
+        }
         check_asked(&lint, &asked[i]);
     }
-    g_hash_table_unref(lint.set);
+    g_clear_pointer(&lint.set, g_hash_table_unref);
     asked_free(asked, count);
 }
 

@@ -109,6 +109,11 @@ void asked_free(Asked *asked, size_t count)
     g_free(asked);
 }
 
+bool is_of_folder(const Asked *one, const Asked *other)
+{
+    return strcmp(one->folder, other->folder) == 0;
+}
+
 bool is_same_file(const Asked *one, const Asked *other)
 {
     return in_order(one, other) == 0;

@@ -1,5 +1,4 @@
 /* A key that is set, and a lock. */
-#include "kinds.h"
 #include "lint.h"
 
 #include <string.h>
@@ -11,25 +10,18 @@ static void find_missing(const Lint *lint, Place at, const char *what, const cha
     g_free(near);
 }
 
-bool came_before(bool is_known, bool is_elsewhere)
-{
-    const DconfdbBytes nothing = DCONFDB_NOTHING;
-    const DconfdbFinding known = {.what = DCONFDB_OF_AGAIN, .is_known = is_known, .may_be_elsewhere = is_elsewhere};
-    return dconfdb_finding(&known, nothing.at, nothing.len, &nothing, 0) == DCONFDB_FINDING_AGAIN;
-}
-
-/* Finds a key that an earlier line sets, of this file or of one before it; else this is the first. */
+/* Whether an earlier line sets the key, of this file or of one before it in the folder. */
 static void check_first(const Lint *lint, Place at, const char *path)
 {
     if (!lint->set)
         return;
-    const SetAt *first = g_hash_table_lookup(lint->set, path);
-    if (came_before(first, first && strcmp(first->folder, lint->folder) != 0)) {
-        find(at, "%s is set already, at %s:%zu", path, first->at.file, first->at.line);
+    const Place *first = g_hash_table_lookup(lint->set, path);
+    if (first) {
+        find(at, "%s is set already, at %s:%zu", path, first->file, first->line);
         return;
     }
-    SetAt *kept = g_new(SetAt, 1);
-    *kept = (SetAt){at, lint->folder};
+    Place *kept = g_new(Place, 1);
+    *kept = at;
     g_hash_table_insert(lint->set, g_strdup(path), kept);
 }
 
@@ -58,6 +50,7 @@ void check_row(const Lint *lint, Place at, const char *path, GVariant *value)
 void check_lock(const Lint *lint, Place at, const char *path)
 {
     const GPtrArray *keys = NULL;
-    DconfdbFinding known = is_directory(path) ? schemas_directory(lint->schemas, path) : schemas_key(lint->schemas, path, DCONFDB_OF_LOCKED_KEY, &keys);
+    bool is_directory = g_str_has_suffix(path, "/");
+    DconfdbFinding known = is_directory ? schemas_directory(lint->schemas, path) : schemas_key(lint->schemas, path, DCONFDB_OF_LOCKED_KEY, &keys);
     find_it(lint, at, path, &known, NULL, NULL);
 }

@@ -3,7 +3,7 @@ use Rattle.std.proofs.Common.{ℕ, ◌≡◌, ◌⊎◌, inl, inr, Bool, true, f
 use Rattle.std.specs.Prelude.{◌&&◌, ◌||◌, if◌then◌else◌, codes}
 use Rattle.std.specs.Str.{bytes_eq}
 use Rattle.dconf_roles.specs.declared.findings.Finding.{Finding}
-use Rattle.dconf_roles.specs.declared.findings.Finding.TheVariants.{Nothing, NotTaken, OtherType, NoDatabase, Again}
+use Rattle.dconf_roles.specs.declared.findings.Finding.TheVariants.{Nothing, NotTaken, OtherType, NoDatabase}
 use Rattle.dconf_roles.specs.Findings.{NoAlarmIsFalse, may_be_there, missing}
 
 -- by whether it is known, has a value, that is taken, is of the type; whether it may be there, and what is missing else
@@ -52,20 +52,6 @@ database_by false true false a b c = absurd (let bad : false ≡ true = c in cc)
 database_by false false own a b c = absurd (let bad : false ≡ true = b in cc)
 database_by true system own a b c = absurd (let bad : true ≡ false = a in cc)
 
--- by whether it came before, and elsewhere
-abbrev again_by : Bool → Bool → Finding
-again_by known elsewhere = if known && not elsewhere then Again else Nothing
-
-twice : (known elsewhere : Bool) → known ≡ true → elsewhere ≡ false → again_by known elsewhere ≡ Again
-twice true false a b = refl
-twice true true a b = absurd (let bad : true ≡ false = b in cc)
-twice false elsewhere a b = absurd (let bad : false ≡ true = a in cc)
-
-first_by : (known elsewhere : Bool) → again_by known elsewhere ≡ Again → (known ≡ true) × (elsewhere ≡ false)
-first_by true false e = (refl, refl)
-first_by true true e = absurd (let bad : Nothing ≡ Again = e in cc)
-first_by false elsewhere e = absurd (let bad : Nothing ≡ Again = e in cc)
-
 pub no_alarm_is_false : NoAlarmIsFalse
 no_alarm_is_false k slip = record {
   taken = taken_by k.is_known k.has_value k.is_taken k.is_of_type (may_be_there k slip) (missing k.what);
@@ -75,6 +61,4 @@ no_alarm_is_false k slip = record {
   elsewhere = elsewhere_by k.is_known k.has_value k.is_taken k.is_of_type (may_be_there k slip) (missing k.what);
   there = λ file. there_by k.is_known k.is_system (bytes_eq file (codes "profile"));
   database = λ file. database_by k.is_known k.is_system (bytes_eq file (codes "profile"));
-  again = twice k.is_known k.may_be_elsewhere;
-  first = first_by k.is_known k.may_be_elsewhere;
 }

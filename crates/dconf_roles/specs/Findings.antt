@@ -2,7 +2,7 @@
 use Rattle.std.specs.Prelude.{ℕ, ◌≡◌, ◌⊎◌, Bool, true, false, not, ◌&&◌, ◌||◌, if◌then◌else◌, ◌==◌, List, codes}
 use Rattle.std.specs.Str.{bytes_eq}
 use Rattle.dconf_roles.specs.declared.findings.Finding.{Finding}
-use Rattle.dconf_roles.specs.declared.findings.Finding.TheVariants.{Nothing, NoKey, NoLockedKey, NoLockedDirectory, OtherType, NotTaken, NoDatabase, Again}
+use Rattle.dconf_roles.specs.declared.findings.Finding.TheVariants.{Nothing, NoKey, NoLockedKey, NoLockedDirectory, OtherType, NotTaken, NoDatabase}
 use Rattle.dconf_roles.specs.declared.findings.FindingKnown.{FindingKnown}
 
 -- no schema is at its directory, one without a path may have it, and it is no slip
@@ -23,13 +23,8 @@ finding_of k slip = if k.is_known then of_value k else if may_be_there k slip th
 abbrev pub of_database : FindingKnown → List ℕ → Finding
 of_database k file = if k.is_known || not (k.is_system && bytes_eq file (codes "profile")) then Nothing else NoDatabase
 
--- A line that sets a key, or a file that is asked for: the key was set before, or the file looked at. The files of a folder are those of one
--- database, and a line of another one's is no earlier one.
-abbrev pub of_again : FindingKnown → Finding
-of_again k = if k.is_known && not k.may_be_elsewhere then Again else Nothing
-
 abbrev pub finding_for : FindingKnown → List ℕ → Bool → Finding
-finding_for k name slip = if k.what == 3 then of_database k name else if k.what == 4 then of_again k else finding_of k slip
+finding_for k name slip = if k.what == 3 then of_database k name else finding_of k slip
 
 abbrev pub finding_number : Finding → ℕ
 finding_number Nothing = 0
@@ -39,7 +34,6 @@ finding_number NoLockedDirectory = 3
 finding_number OtherType = 4
 finding_number NotTaken = 5
 finding_number NoDatabase = 6
-finding_number Again = 7
 
 -- ---- the law
 
@@ -55,9 +49,6 @@ pub record IsNoFalseAlarm (k : FindingKnown) (slip : Bool) : Type 0 where
   -- a database of the system that isn't there is found, in the profile of a folder alone
   pub there : (file : List ℕ) → k.is_known ≡ true → of_database k file ≡ Nothing
   pub database : (file : List ℕ) → k.is_known ≡ false → k.is_system ≡ true → bytes_eq file (codes "profile") ≡ true → of_database k file ≡ NoDatabase
-  -- what came before is found the second time, in the files of one folder
-  pub again : k.is_known ≡ true → k.may_be_elsewhere ≡ false → of_again k ≡ Again
-  pub first : of_again k ≡ Again → (k.is_known ≡ true) × (k.may_be_elsewhere ≡ false)
 
 abbrev pub NoAlarmIsFalse : Type 0
 NoAlarmIsFalse = (k : FindingKnown) (slip : Bool) → IsNoFalseAlarm k slip

@@ -1,7 +1,7 @@
 //! What is found wrong with a key that is set, and with a lock.
 ghost use Rattle.std.specs.Prelude.{◌≡◌, map};
 ghost use Rattle.std.specs.List.{list_any};
-ghost use Rattle.dconf_roles.specs.Findings.{finding_for, finding_of, finding_number, may_be_there, missing, of_again, of_database, of_value};
+ghost use Rattle.dconf_roles.specs.Findings.{finding_for, finding_of, finding_number, may_be_there, missing, of_database, of_value};
 ghost use Rattle.dconf_roles.specs.Slips.{is_slip};
 
 use crate::slips::{Name, has_slip};
@@ -22,23 +22,19 @@ pub enum Finding {
     NotTaken,
     /// There is no file of the database.
     NoDatabase,
-    /// It came before.
-    Again,
 }
 
 /// What is known of it.
 #[repr(C)]
 #[derive(Clone, Copy)]
 pub struct FindingKnown {
-    /// What it is: 0 a key that is set, 1 a lock of a key, 3 a database that a profile names, 4 a line that sets a key, or a file that is asked
-    /// for, else a lock of a directory.
+    /// What it is: 0 a key that is set, 1 a lock of a key, 3 a database that a profile names, else a lock of a directory.
     pub what: u32,
-    /// A schema has the key, or one below the directory; or the database has its file, as far as can be said; or an earlier line sets the key, or the
-    /// file was looked at.
+    /// A schema has the key, or one below the directory; or the database has its file, as far as can be said.
     pub is_known: bool,
     /// A schema is at the key's directory.
     pub has_schemas: bool,
-    /// A schema without a path has a key of that name; of a directory, there is such a schema; of a line, the earlier one is in another folder.
+    /// A schema without a path has a key of that name; of a directory, there is such a schema.
     pub may_be_elsewhere: bool,
     /// It is set to a value.
     pub has_value: bool,
@@ -64,21 +60,18 @@ pub fn finding_of(known: &FindingKnown, directory: &[u8], others: &[Name<'_>]) -
     missing(known.what)
 }
 
-/// The same, and of a database that a profile names, which is a file of that name; and of what may have come before.
+/// The same, and of a database that a profile names, which is a file of that name.
 pub fn finding_for(known: &FindingKnown, name: &[u8], others: &[Name<'_>]) -> Finding
     ensures { result ≡ finding_for known.now name.now (list_any (λ other. is_slip name.now other.text.now) others.now) }
 {
     if known.what == 3 {
         return of_database(known, name);
     }
-    if known.what == 4 {
-        return of_again(known);
-    }
     finding_of(known, name, others)
 }
 
 /// The same as a number: 0 nothing, 1 no schema has the key, 2 the locked key, 3 a key below the locked directory, 4 the value is of another
-/// type, 5 the key doesn't take it, 6 the database has no file, 7 it came before.
+/// type, 5 the key doesn't take it, 6 the database has no file.
 pub fn finding_number(known: &FindingKnown, name: &[u8], others: &[Name<'_>]) -> u32
     ensures { result ≡ finding_number (finding_for known.now name.now (list_any (λ other. is_slip name.now other.text.now) others.now)) }
 {
@@ -90,7 +83,6 @@ pub fn finding_number(known: &FindingKnown, name: &[u8], others: &[Name<'_>]) ->
         Finding::OtherType => 4,
         Finding::NotTaken => 5,
         Finding::NoDatabase => 6,
-        Finding::Again => 7,
     }
 }
 
@@ -102,16 +94,6 @@ fn of_database(known: &FindingKnown, file: &[u8]) -> Finding
         return Finding::Nothing;
     }
     Finding::NoDatabase
-}
-
-/// The files of a folder are those of one database.
-fn of_again(known: &FindingKnown) -> Finding
-    ensures { result ≡ of_again known.now }
-{
-    if known.is_known && !known.may_be_elsewhere {
-        return Finding::Again;
-    }
-    Finding::Nothing
 }
 
 fn may_be_there(known: &FindingKnown, is_slip: bool) -> bool

@@ -31,8 +31,8 @@ pub fn what_update_reads_is_read()
     ensures { WhatUpdateReadsIsRead }
 {}
 
-/// What no schema has is found, unless one without a path may have it; and so is a value that no key takes, a database of the system that isn't
-/// there, in the profile of a folder, and a key that a folder's files set twice. Nothing else is.
+/// What no schema has is found, unless one without a path may have it; and so is a value that no key takes, and a database of the system that isn't
+/// there, in the profile of a folder. Nothing else is.
 pub fn no_alarm_is_false()
     ensures { NoAlarmIsFalse }
 {}

@@ -42,7 +42,7 @@ pub extern "C" fn dconfdb_read_as(
 
 /// What is found of a key that is set, or of a lock, by what the schemas have: 0 nothing, 1 no schema has the key, 2 the locked key, 3 a key
 /// below the locked directory, 4 the value is of another type, 5 the key doesn't take it. Beside these other directories its own may be a slip. Of a
-/// database that a profile of that name names 6: it has no file. Of a line that sets a key, or a file that is asked for, 7: it came before.
+/// database that a profile of that name names 6: it has no file.
 #[unsafe(no_mangle)]
 pub extern "C" fn dconfdb_finding(known: &FindingKnown, name: &[u8], others: &[Name<'_>]) -> u32
     ensures { result ≡ finding_number (finding_for known.now name.now (list_any (λ other. is_slip name.now other.text.now) others.now)) }

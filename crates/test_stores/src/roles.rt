@@ -197,28 +197,9 @@ fn databases_are_looked_for() -> bool {
         && named_in("site", false, true) == 0
 }
 
-/// Of a line, or a file, that came before in the same folder or in another one.
-fn again(is_known: bool, may_be_elsewhere: bool) -> u32 {
-    let known = FindingKnown {
-        what: 4,
-        is_known,
-        may_be_elsewhere,
-        ..UNKNOWN
-    };
-    finding_number(&known, "".as_bytes(), &[])
-}
-
-fn what_comes_again_is_found() -> bool {
-    again(true, false) == 7
-        && again(true, true) == 0
-        && again(false, false) == 0
-        && again(false, true) == 0
-}
-
 #[test]
 fn what_schemas_lack_is_found(rt: HostRuntime) -> Result<(), Fail> {
     assert!(rt; values_are_judged() && names_are_judged() && databases_are_looked_for());
-    assert!(rt; what_comes_again_is_found());
     Ok(())
 }
 
