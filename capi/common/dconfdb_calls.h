@@ -812,7 +812,8 @@ enum {
     DCONFDB_FAULT_OF_EDITS,  /* .. of dconfdb_change */
     DCONFDB_FAULT_OF_FOLDER, /* a store's, which is looked for */
     DCONFDB_FAULT_OF_KIND,   /* .. and its kind */
-    DCONFDB_FAULT_OF_TEXT    /* of dconfdb_parse_value */
+    DCONFDB_FAULT_OF_TEXT,   /* of dconfdb_parse_value */
+    DCONFDB_FAULT_OF_EXPECTED /* of dconfdb_changed_since, which found an edit's path: `number` is what it gave */
 };
 
 /* Which sentence is said. */
@@ -840,7 +841,8 @@ enum {
     DCONFDB_SAYS_TOO_DEEP,  /* its value is nested too deep, or too long; */
     DCONFDB_SAYS_HAS_DOUBLE, /* it holds a double; */
     DCONFDB_SAYS_NO_VALUE,   /* it is no value, */
-    DCONFDB_SAYS_NO_VALUE_AT /* by what is in one place of it */
+    DCONFDB_SAYS_NO_VALUE_AT, /* by what is in one place of it */
+    DCONFDB_SAYS_CHANGED      /* something else is seen there than was expected */
 };
 
 /* Which name stands in front. */

@@ -234,7 +234,7 @@ static void finds_sentence(void)
 {
     enum { IS_THERE = 1, HAS_USER = 2, HAS_TEXT = 4, HAS_LINE = 8, HAS_RULE = 16, HAS_ITEM = 32, HAS_EDIT = 64 };
     static const uint32_t no_memory[6] = {0, 12}, busy[6] = {1, 11, 0, 0, 10000}, soon[6] = {1, 11, 0, 0, 7}, fails[6] = {1, 13},
-                          unlooked[6] = {1, 13, 0, 0, 0, 13}, call[6] = {2, 7}, ended[6] = {3, 5, 3, 2}, edits[6] = {4, 13};
+                          unlooked[6] = {1, 13, 0, 0, 0, 13}, call[6] = {2, 7}, ended[6] = {3, 5, 3, 2}, edits[6] = {4, 13}, expected[6] = {8, 0};
     is_so(is_said(no_memory, 0, (const uint32_t[5]){2, 1, 0, 1, 0}, false) && is_said(busy, HAS_USER, (const uint32_t[5]){6, 65, 0, 1, 0}, true)
               && is_said(soon, 0, (const uint32_t[5]){7, 65, 0, 1, 2}, true),
           "DconfdbFaultMet");
@@ -246,6 +246,7 @@ static void finds_sentence(void)
     is_so(is_said(ended, HAS_USER, (const uint32_t[5]){8, 64, 5, 2, 0}, true), "DconfdbSentence");
     is_so(is_said(edits, HAS_USER, (const uint32_t[5]){12, 13, 0, 1, 0}, true) && is_said(edits, HAS_EDIT, (const uint32_t[5]){12, 13, 0, 1, 3}, true),
           "DconfdbFaultMet");
+    is_so(is_said(expected, 0, (const uint32_t[5]){24, 67, 0, 1, 3}, true), "DconfdbFaultMet");
     lies("DconfdbFaultMet", "of", MET_OF, NUMBER);
     lies("DconfdbFaultMet", "number", MET_NUMBER, NUMBER);
     lies("DconfdbFaultMet", "told", MET_TOLD, NUMBER);

@@ -56,12 +56,11 @@ bool asking_is_as_expected(const DconfdbSnapshot *now, const Asking *asking, Dco
     size_t at = 0;
     uint32_t number = dconfdb_changed_since(expected->layers, expected->count, now->layers, now->count, asking->changes, asking->count,
                                             &is_changed, &at);
-    if (number != DCONFDB_OK)
-        return refuse_memory(error);
-    if (!is_changed)
+    if (number == DCONFDB_OK && !is_changed)
         return true;
-    return refuse(error, DCONFDB_ERROR_CHANGED, 0, (Place){.edit = asking->edits[at]}, "%s: something else is seen there by now",
-                  (const char *)asking->changes[at].path.at);
+    const char *const names[DCONFDB_NAMES] = {[DCONFDB_NAMES_EDIT] = (const char *)asking->changes[at].path.at};
+    const DconfdbFaultMet met = {.of = DCONFDB_FAULT_OF_EXPECTED, .number = number};
+    return tell_met(error, &met, names, (Place){.edit = asking->edits[at]});
 }
 
 /* ---- what others changed */
