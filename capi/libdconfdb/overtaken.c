@@ -5,6 +5,7 @@
 #include "overtaken.h"
 #include "edits.h"
 #include "errors.h"
+#include "lists.h"
 #include "texts.h"
 
 #include <stdlib.h>
@@ -150,7 +151,7 @@ static size_t count_seen(const DconfdbStore *store, size_t *size)
 {
     size_t count = 0;
     for (const Seen *seen = store->seen; seen; seen = seen->next) {
-        for (const char *at = seen->paths; *at; at += strlen(at) + 1) {
+        for (const char *at = seen->paths; *at; at = next_text(at)) {
             *size += order_path_size(store->own_name, strlen(at));
             count++;
         }
@@ -163,7 +164,7 @@ static void list_seen(const DconfdbStore *store, const Order *order, Asking *ask
 {
     for (const Seen *seen = store->seen; seen; seen = seen->next) {
         bool is_noted = order_has_left(order, store->own_name, &seen->left);
-        for (const char *at = seen->paths; *at; at += strlen(at) + 1) {
+        for (const char *at = seen->paths; *at; at = next_text(at)) {
             DconfdbBytes own = {bytes_of(at), strlen(at)}, path = order_path(&room, store->own_name, &own);
             asking->seen[asking->seen_count++] = (DconfdbSeen){{path, seen->when, value_in(store->now, &own)}, is_noted};
         }

@@ -1,6 +1,7 @@
 /* Who is told of what: by the proved call that says which keys are seen otherwise, of the user's own database alone, since programs in a
  * sandbox see no site's. */
 #include "kinds.h"
+#include "lists.h"
 #include "paths.h"
 #include "service.h"
 #include "snapshot.h"
@@ -101,7 +102,7 @@ static bool takes_away(const char *directory, const char *path)
 static void put_resets(GTree *edits, Newest *newest, const DconfdbSnapshot *before, const char *directory)
 {
     char *paths = snapshot_paths(before, directory, NULL);
-    for (const char *at = paths; at && *at; at += strlen(at) + 1)
+    for (const char *at = paths; at && *at; at = next_text(at))
         put_reset(edits, newest, at);
     GTreeNode *node = g_tree_lower_bound(newest->edits, directory);
     for (; node && takes_away(directory, g_tree_node_key(node)); node = g_tree_node_next(node))
@@ -151,7 +152,7 @@ static DconfdbSnapshot *own_of(const DconfdbSnapshot *snapshot)
 
 static void add_all(GPtrArray *paths, const char *list)
 {
-    for (const char *at = list; *at; at += strlen(at) + 1)
+    for (const char *at = list; *at; at = next_text(at))
         g_ptr_array_add(paths, (gpointer)at);
 }
 
