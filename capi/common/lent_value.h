@@ -29,14 +29,6 @@ static inline GVariant *lent_value(DconfdbSnapshot *snapshot, Reads *reads, cons
     return g_variant_new_from_data(type, value.data, value.size, FALSE, lent_value_end, snapshot);
 }
 
-/* What the library is asked for: the value, which stays, is set at the path; or, of NULL, it is reset. */
-static inline DconfdbEdit edit_with(const char *path, GVariant *value)
-{
-    if (!value)
-        return (DconfdbEdit){path, NULL, NULL, 0};
-    return (DconfdbEdit){path, g_variant_get_type_string(value), g_variant_get_data(value), g_variant_get_size(value)};
-}
-
 /* Of what is set, or, of NULL, reset. */
 static inline bool are_alike(GVariant *one, GVariant *other)
 {

@@ -1,7 +1,7 @@
 /* A change that is to be written, its edits, and how it is written. */
 #define _POSIX_C_SOURCE 200809L
+#include "edit_with.h"
 #include "gsettings.h"
-#include "lent_value.h"
 
 #include <string.h>
 

@@ -1,7 +1,7 @@
 /* The edits of a set of changes, and what is known of each. */
 #include "writes.h"
 
-#include "lent_value.h"
+#include "edit_with.h"
 #include "seen.h"
 
 #include <string.h>

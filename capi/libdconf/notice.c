@@ -2,7 +2,7 @@
 #include "../gsettings/catch_up.h"
 #include "libdconf.h"
 
-#include "lent_value.h"
+#include "edit_with.h"
 #include "lists.h"
 #include "seen.h"
 #include "paths.h"

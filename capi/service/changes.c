@@ -1,6 +1,6 @@
 /* Sets of changes as they are sent: the bytes of a GVariant, in whatever order, form and alignment the caller has them. */
+#include "edit_with.h"
 #include "kinds.h"
-#include "lent_value.h"
 #include "service.h"
 
 #include <string.h>
