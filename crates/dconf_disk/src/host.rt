@@ -6,9 +6,7 @@ ghost use Rattle.dconf_folders.specs.SystemCalls.{given_mode, made, removed, ren
 
 use crate::flag::set_flag;
 use crate::lock::FolderLock;
-use crate::modes::{
-    READ_AND_WRITE, Replacing, keep_mode, link_aside, make_room, old_of, open_new,
-};
+use crate::modes::{READ_AND_WRITE, Replacing, keep_mode, link_aside, make_room, old_of, open_new};
 use crate::reading::read_opened;
 use dconf_folders::{Folder, FolderFault, LARGEST_FILE, Old, Record, folder_of};
 use std::alloc::Global;

@@ -92,15 +92,22 @@ pub(crate) fn link_aside<R: Files>(
 
 /// One that was killed may have left the other name.
 fn link_once<R: Files>(rt: &R, name: &str, aside: &str) -> io::Result<()> {
-    match fs::hard_link(rt, name, aside) {
-        Err(error) if error.kind() == ErrorKind::AlreadyExists && is_same(rt, name, aside) => Ok(()),
-        answer => answer,
+    let Err(error) = fs::hard_link(rt, name, aside) else {
+        return Ok(());
+    };
+    if error.kind() == ErrorKind::AlreadyExists && is_same(rt, name, aside) {
+        return Ok(());
     }
+    Err(error)
 }
 
 /// Whether both are names of one file.
 fn is_same<R: Files>(rt: &R, one: &str, other: &str) -> bool {
-    match (fs::symlink_metadata(rt, one), fs::symlink_metadata(rt, other)) {
+    let found = (
+        fs::symlink_metadata(rt, one),
+        fs::symlink_metadata(rt, other),
+    );
+    match found {
         (Ok(one), Ok(other)) => one.dev() == other.dev() && one.ino() == other.ino(),
         _ => false,
     }
@@ -118,9 +125,7 @@ pub(crate) fn open_new<R: Files>(
     let file = options.open(rt, name)?;
     if let Some(old) = old {
         if old.group != file.metadata()?.gid() {
-            file.set_permissions(Permissions::from_mode(
-                bits_for(bits, false) | READ_AND_WRITE,
-            ))?;
+            file.set_permissions(Permissions::from_mode(bits_for(bits, false) | READ_AND_WRITE))?;
         }
     }
     Ok(file)

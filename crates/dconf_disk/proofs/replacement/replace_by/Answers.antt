@@ -33,12 +33,11 @@ steps-preserved g c =
     record {
       hides = hides_on hides (step_of t) answer t u looked a.knows i.hides;
       some = (let d = can (step_of t) answer name bytes i.some.0 whole i.some.2 in
-      (d.0, a.stands job [] i.some.0 d.0 apart i.some.1 d.1, roomy_on (step_of t) (step_of u) name d.0 a.order d.2));
+          (d.0, a.stands job [] i.some.0 d.0 apart i.some.1 d.1, roomy_on (step_of t) (step_of u) name d.0 a.order d.2));
       known = λ es p.
           (let k = i.known es p in
           let d = c.carry_out-answer.ensures.did k.0 k.1 in
-          let did : DidHere hides (step_of t) answer name bytes k.0 d.0 = subst (λ s. DidHere hides s answer name bytes k.0 d.0) c.next-step.ensures d.2 in
-          (
+          let did : DidHere hides (step_of t) answer name bytes k.0 d.0 = subst (λ s. DidHere hides s answer name bytes k.0 d.0) c.next-step.ensures d.2 in (
             d.0,
             d.1,
             straight_on t (step_of u) t.outcome u.outcome hides es k.0 d.0 name bytes (step_of t) answer size asides a.on a.order a.said whole did k.2,
