@@ -1,4 +1,5 @@
 //! Who is told of what: the keys that are seen otherwise than before.
+ghost use Rattle.std.specs.FinMap.{empty};
 ghost use Rattle.std.specs.Prelude.{◌≡◌, ◌≤◌, [], ◌∷◌, ◌++◌, ℕ, List, false, IfOk, OnOk, drop, filter, length, map, string_bytes};
 ghost use Rattle.dconf_differences.specs.Differing.{AreAsked};
 ghost use Rattle.dconf_differences.proofs.TwinLaws.{AreTwins};
@@ -124,8 +125,7 @@ impl<'a> Telling<'a, '_> {
         requires { HasAllOthers (seen_in self.before) (seen_in self.after) (map string_bytes others.now) }
         ensures { IfOk result (λ paths. AreTold (seen_in self.entry.before) (seen_in self.entry.after) self.entry.asked.now (map string_bytes paths.items)) }
     {
-        let mut paths = Texts::new(alloc);
-        self.add_asked(alloc, &mut paths)?;
+        let mut paths = self.asked_otherwise(alloc)?;
         let any = self.asked_of_any(alloc)?;
         self.add_others(alloc, others, any.as_slice(), &mut paths)?;
         paths.list()
@@ -141,8 +141,7 @@ impl<'a> Telling<'a, '_> {
         requires { AreTwins (seen_in self.before) (seen_in self.after) (settings_of older) (settings_of newer) }
         ensures { IfOk result (λ paths. AreTold (seen_in self.entry.before) (seen_in self.entry.after) self.entry.asked.now (map string_bytes paths.items)) }
     {
-        let mut paths = Texts::new(alloc);
-        self.add_asked(alloc, &mut paths)?;
+        let mut paths = self.asked_otherwise(alloc)?;
         let any = self.asked_of_any(alloc)?;
         let (gone, come) = entries_apart(older, newer);
         self.add_entries(alloc, gone, newer, any.as_slice(), &mut paths)?;
@@ -201,6 +200,15 @@ impl<'a> Telling<'a, '_> {
             add_if_any(*key, &mut paths)?;
         }
         paths.list()
+    }
+
+    /// The keys that are asked for by themselves, and are seen otherwise.
+    fn asked_otherwise(self, alloc: Global) -> Result<Texts, AllocError>
+        ensures { IfOk result (λ paths. paths ≡ with_texts (named_otherwise (seen_in self.entry.before) (seen_in self.entry.after) self.entry.asked.now) empty) }
+    {
+        let mut paths = Texts::new(alloc);
+        self.add_asked(alloc, &mut paths)?;
+        Ok(paths)
     }
 
     /// Adds the keys that are asked for by themselves, and are seen otherwise.

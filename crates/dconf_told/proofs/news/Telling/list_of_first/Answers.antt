@@ -1,4 +1,4 @@
-use Rattle.std.proofs.Common.{◌≡◌, ◌∙◌, ◌++◌, ap, map}
+use Rattle.std.proofs.Common.{◌≡◌, ◌++◌, map}
 use Rattle.std.specs.Prelude.{string_bytes}
 use Rattle.std.specs.FinMap.{empty, keys}
 use Rattle.std.proofs.lemmas.Result.{IfOk-weaker}
@@ -38,11 +38,11 @@ returns c =
     let s = settings_of c.args.older in
     let t = settings_of c.args.newer in
     let passes = shown_passes l m asked s t c.requires in
-    let first : c.add_asked.new.paths ≡ with_texts (named_otherwise l m asked) empty =
-    c.in_ok-add_asked.ensures ∙ ap (with_texts (named_otherwise l m asked)) c.new-paths.ensures in
+    let first : c.in_ok-paths.paths ≡ with_texts (named_otherwise l m asked) empty =
+    c.in_ok-paths.ensures in
     let second =
-    both_gathered f c.args.older c.args.newer (entries_left c.entries_apart.result.0) (entries_left c.entries_apart.result.1) c.add_asked.new.paths c.add_entries.new.paths c.add_entries-2.new.paths
+    both_gathered f c.args.older c.args.newer (entries_left c.entries_apart.result.0) (entries_left c.entries_apart.result.1) c.in_ok-paths.paths c.add_entries.new.paths c.add_entries-2.new.paths
     (c.entries_apart.ensures.one f passes) (c.entries_apart.ensures.other f (passes_back f s t passes)) c.in_ok-add_entries.ensures c.in_ok-add_entries-2.ensures in
     IfOk-weaker c.list.result (λ v. map string_bytes v.items ≡ keys c.add_entries-2.new.paths) (λ v. AreTold l m asked (map string_bytes v.items))
-    (λ v e. told_list l m asked (keys s.values ++ keys t.values) (twins_have_all l m s t c.requires) c.add_asked.new.paths c.add_entries-2.new.paths first second (map string_bytes v.items) e)
+    (λ v e. told_list l m asked (keys s.values ++ keys t.values) (twins_have_all l m s t c.requires) c.in_ok-paths.paths c.add_entries-2.new.paths first second (map string_bytes v.items) e)
     c.list.ensures
