@@ -6,6 +6,7 @@ use Rattle.dconf_model.specs.Paths.{has_zero_byte}
 use Rattle.keyfile_lines.specs.Kinds.{kind_from, sign_of}
 use Rattle.keyfile_lines.specs.declared.kinds.TextKind.{TextKind}
 use Rattle.dconf_roles.specs.declared.roles.Role.{Role}
+use Rattle.dconf_roles.specs.declared.sites.Part.{Part}
 use Rattle.dconf_roles.specs.declared.readings.ReadAs.{ReadAs}
 
 -- a file that begins by a database's signature
@@ -57,3 +58,26 @@ reading role size text =
     if is_database text then of_database role
     else if nat_lt most size then too_big role
     else of_text role text
+
+-- ---- of what is read of a site
+
+abbrev pub within_most : ℕ → ReadAs → ReadAs
+within_most size it = if nat_lt most size then ReadAs.TooBig else it
+
+abbrev pub profile_or_none : TextKind → ReadAs
+profile_or_none TextKind.Profile = ReadAs.Profile
+profile_or_none kind = ReadAs.Stray
+
+-- a database, or a profile of another name, lies there by right; no keyfile does, nor any other text
+abbrev pub beside : ReadAs → ℕ → List ℕ → ReadAs
+beside database size text =
+    if is_database text then database else if nat_lt most size then ReadAs.Stray else profile_or_none (kind_of text)
+
+-- the sources are what they are below NAME.d; a database that `update` makes says no more than they do
+abbrev pub reading_of_part : Part → ℕ → List ℕ → ReadAs
+reading_of_part Part.Keyfile size text = reading Role.Keyfile size text
+reading_of_part Part.Locks size text = reading Role.Locks size text
+reading_of_part Part.Profile size text = within_most size ReadAs.Profile
+reading_of_part Part.Beside size text = beside ReadAs.Database size text
+reading_of_part Part.Made size text = beside ReadAs.LeftOut size text
+reading_of_part part size text = ReadAs.LeftOut
