@@ -68,10 +68,12 @@ abbrev pub profile_or_none : TextKind → ReadAs
 profile_or_none TextKind.Profile = ReadAs.Profile
 profile_or_none kind = ReadAs.Stray
 
+abbrev pub text_beside : ℕ → List ℕ → ReadAs
+text_beside size text = if nat_lt most size then ReadAs.Stray else profile_or_none (kind_of text)
+
 -- a database, or a profile of another name, lies there by right; no keyfile does, nor any other text
 abbrev pub beside : ReadAs → ℕ → List ℕ → ReadAs
-beside database size text =
-    if is_database text then database else if nat_lt most size then ReadAs.Stray else profile_or_none (kind_of text)
+beside database size text = if is_database text then database else text_beside size text
 
 -- the sources are what they are below NAME.d; a database that `update` makes says no more than they do
 abbrev pub reading_of_part : Part → ℕ → List ℕ → ReadAs

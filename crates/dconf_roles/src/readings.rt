@@ -1,6 +1,6 @@
 //! As what a file is looked at, by its role and by what stands in it.
 ghost use Rattle.std.specs.Prelude.{◌≡◌};
-ghost use Rattle.dconf_roles.specs.Readings.{as_source, beside, by_its_text, is_database, kind_of, of_database, of_text, profile_or_none, reading, reading_of_part, too_big, within_most};
+ghost use Rattle.dconf_roles.specs.Readings.{as_source, beside, by_its_text, is_database, kind_of, of_database, of_text, profile_or_none, reading, reading_of_part, text_beside, too_big, within_most};
 
 use crate::roles::Role;
 use crate::sites::Part;
@@ -65,9 +65,15 @@ fn within_most(size: u64, it: ReadAs) -> ReadAs
 fn beside(database: ReadAs, size: u64, text: &[u8]) -> ReadAs
     ensures { result ≡ beside database size text.now }
 {
-    if is_database(text) {
-        return database;
+    if !is_database(text) {
+        return text_beside(size, text);
     }
+    database
+}
+
+fn text_beside(size: u64, text: &[u8]) -> ReadAs
+    ensures { result ≡ text_beside size text.now }
+{
     if size > MOST {
         return ReadAs::Stray;
     }

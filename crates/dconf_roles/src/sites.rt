@@ -190,7 +190,11 @@ fn folder_of_site(known: &EntryKnown, name: &[u8]) -> Part
 fn sources_of_site(name: &[u8]) -> Part
     ensures { result ≡ sources_of_site name.now }
 {
-    if is_shown(name) { Part::SourceFolder } else { Part::HiddenFolder }
+    if is_shown(name) {
+        Part::SourceFolder
+    } else {
+        Part::HiddenFolder
+    }
 }
 
 /// A profile that can't be read is said to be so.
