@@ -106,7 +106,7 @@ static void check_files(const Schemas *schemas, char *const *files, size_t count
 
 /* ---- words */
 
-static const char usage[] = "dconfdb lint [OPTIONS] [FOLDER|FILE]...";
+static const char usage[] = "dconfdb lint [OPTIONS] [FILE]...";
 
 static int finish(int status)
 {

@@ -1,4 +1,4 @@
--- What a word of `watch` or `lint` is by itself. docs/MANUAL.md, "watch PATH" and "lint".
+-- What a word of `watch` or `lint` is by itself. docs/MANUAL.md, "watch PATH" and "lint [FILE]..".
 use Rattle.std.specs.Prelude.{ℕ, List, Bool, codes, not, ◌||◌, nat_eq, if◌then◌else◌}
 use Rattle.std.specs.List.{starts_with}
 use Rattle.std.specs.Str.{bytes_eq}

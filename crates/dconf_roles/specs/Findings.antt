@@ -1,4 +1,4 @@
--- What is found wrong with a key that is set, and with a lock. docs/MANUAL.md, "lint".
+-- What is found wrong with a key that is set, and with a lock. docs/MANUAL.md, "lint [FILE]..".
 use Rattle.std.specs.Prelude.{ℕ, ◌≡◌, ◌⊎◌, Bool, true, false, not, ◌&&◌, ◌||◌, if◌then◌else◌, ◌==◌, List, codes, nat_eq}
 use Rattle.std.specs.List.{ends_with}
 use Rattle.std.specs.Str.{bytes_eq}

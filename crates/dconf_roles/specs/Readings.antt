@@ -1,4 +1,4 @@
--- As what a file is looked at: by what stands in it, and in a folder of sources by that. docs/MANUAL.md, "lint FILE..".
+-- As what a file is looked at: by what stands in it, and in a folder of sources by that. docs/MANUAL.md, "lint [FILE]..".
 use Rattle.std.specs.Prelude.{ℕ, List, Bool, true, codes, map, nat_eq, nat_lt, if◌then◌else◌}
 use Rattle.std.specs.List.{starts_with}
 use Rattle.dconf_model.specs.Lines.{lines_of}
