@@ -145,6 +145,7 @@ fn what_lies_in_a_site_is_known() -> bool {
         && lying(1, 1, "old") == 17
         && lying(1, 0, "site.d") == 9
         && lying(1, 0, "profile") == 2
+        && lying(1, 1, "profile") == 2
         && lying(1, 3, "profile") == 2
         && lying(1, 0, ".lock") == 4
         && lying(1, 1, ".lock") == 19
@@ -178,6 +179,13 @@ fn what_update_makes_is_known() -> bool {
         && taken(folder, "site.db") == 19
         && taken(folder, "site.db.new") == 19
         && taken(folder, "site") == 17
+        && taken(
+            EntryKnown {
+                is_link: true,
+                ..folder
+            },
+            "site.db",
+        ) == 17
         && taken(
             EntryKnown {
                 is_link: true,
