@@ -193,6 +193,7 @@ static void check_name(const Walked *it, const Name *name)
     case DCONFDB_READ_KEYFILE:
     case DCONFDB_READ_LOCKS:
     case DCONFDB_READ_PROFILE:
+    case DCONFDB_READ_DATABASE:
     case DCONFDB_READ_BESIDE:
     case DCONFDB_READ_MADE: check_file(&it->lint, &asked); break;
     case DCONFDB_READ_SOURCE_FOLDER: walk_into(it, path, DCONFDB_WITHIN_SOURCES, false); break;

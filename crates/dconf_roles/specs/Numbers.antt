@@ -22,6 +22,7 @@ abbrev pub part_number : Part → ℕ
 part_number Part.Keyfile = 0
 part_number Part.Locks = 1
 part_number Part.Profile = 2
+part_number Part.Database = 3
 part_number Part.Silent = 4
 part_number Part.Nested = 5
 part_number Part.Beside = 9

@@ -80,6 +80,7 @@ abbrev pub reading_of_part : Part → ℕ → List ℕ → ReadAs
 reading_of_part Part.Keyfile size text = reading Role.Keyfile size text
 reading_of_part Part.Locks size text = reading Role.Locks size text
 reading_of_part Part.Profile size text = within_most size ReadAs.Profile
+reading_of_part Part.Database size text = ReadAs.Database
 reading_of_part Part.Beside size text = beside ReadAs.Database size text
 reading_of_part Part.Made size text = beside ReadAs.LeftOut size text
 reading_of_part part size text = ReadAs.LeftOut

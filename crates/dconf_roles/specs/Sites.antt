@@ -25,12 +25,16 @@ abbrev pub stem_len : List ℕ → ℕ
 stem_len name =
     if ends_with nat_eq name (codes ".db") then length name - 3 else if ends_with nat_eq name (codes ".db.new") then length name - 7 else length name
 
+-- programs read NAME.db and NAME.user as databases
+abbrev pub by_its_name : List ℕ → Part
+by_its_name name = if ends_with nat_eq name (codes ".db") || ends_with nat_eq name (codes ".user") then Part.Database else Part.Beside
+
 -- whoever writes there takes turns by a file `.lock`, which is no link
 abbrev pub file_of_site : EntryKnown → List ℕ → Part
 file_of_site k name =
     if bytes_eq name (codes ".lock") && k.is_link then Part.Barred
     else if bytes_eq name (codes "profile") then Part.Profile
-    else if not k.is_made then unless_hidden name Part.Beside
+    else if not k.is_made then unless_hidden name (by_its_name name)
     else if nat_lt (stem_len name) (length name) then Part.Silent
     else Part.Made
 
@@ -38,17 +42,12 @@ file_of_site k name =
 abbrev pub sources_of_site : List ℕ → Part
 sources_of_site name = if is_shown name then Part.SourceFolder else Part.HiddenFolder
 
--- a folder in the place of a file that is written is in its way; a link to one gives way
-abbrev pub is_in_the_way : EntryKnown → List ℕ → Bool
-is_in_the_way k name = k.is_made && (not k.is_link && nat_lt (stem_len name) (length name))
-
--- a profile that is a folder can't be read, and is said to be so
+-- a folder in the place of a file that is written is in its way
 abbrev pub folder_of_site : EntryKnown → List ℕ → Part
 folder_of_site k name =
     if nat_lt 2 (length name) && ends_with nat_eq name (codes ".d") then sources_of_site name
     else if bytes_eq name (codes "profiles") then Part.ProfileFolder
-    else if bytes_eq name (codes "profile") then Part.Profile
-    else if bytes_eq name (codes ".lock") || is_in_the_way k name then Part.Barred
+    else if bytes_eq name (codes ".lock") || (k.is_made && nat_lt (stem_len name) (length name)) then Part.Barred
     else unless_hidden name Part.Stray
 
 abbrev pub other_of_site : List ℕ → Part

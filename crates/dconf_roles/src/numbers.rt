@@ -54,6 +54,7 @@ fn part_number(part: Part) -> u32
         Part::Keyfile => 0,
         Part::Locks => 1,
         Part::Profile => 2,
+        Part::Database => 3,
         Part::Silent => 4,
         Part::Nested => 5,
         Part::Beside => 9,

@@ -50,6 +50,7 @@ pub fn reading_of_part(part: Part, size: u64, text: &[u8]) -> ReadAs
         Part::Keyfile => reading(Role::Keyfile, size, text),
         Part::Locks => reading(Role::Locks, size, text),
         Part::Profile => within_most(size, ReadAs::Profile),
+        Part::Database => ReadAs::Database,
         Part::Beside => beside(ReadAs::Database, size, text),
         Part::Made => beside(ReadAs::LeftOut, size, text),
         _ => ReadAs::LeftOut,

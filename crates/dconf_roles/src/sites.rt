@@ -1,7 +1,7 @@
 //! As what `update` takes what lies in the folder of a site, and what nobody reads there.
 ghost use Rattle.std.specs.Prelude.{◌≡◌};
 ghost use Rattle.std.specs.Str.{is_utf8};
-ghost use Rattle.dconf_roles.specs.Sites.{file_of_site, folder_of_site, if_hidden, in_locks, in_profiles, in_site, in_sources, is_in_the_way, kind_of, left_out, other_of_site, part_in, part_of, sources_of_site, stem_len, unless_hidden, within_of};
+ghost use Rattle.dconf_roles.specs.Sites.{by_its_name, file_of_site, folder_of_site, if_hidden, in_locks, in_profiles, in_site, in_sources, kind_of, left_out, other_of_site, part_in, part_of, sources_of_site, stem_len, unless_hidden, within_of};
 
 use crate::roles::is_shown;
 
@@ -34,6 +34,8 @@ pub enum Part {
     Keyfile,
     Locks,
     Profile,
+    /// A database, whatever its text is.
+    Database,
     /// A profile or a database, if its text is one.
     Beside,
     /// The same, and as a database it is one that `update` makes.
@@ -164,12 +166,22 @@ fn file_of_site(known: &EntryKnown, name: &[u8]) -> Part
         return Part::Profile;
     }
     if !known.is_made {
-        return unless_hidden(name, Part::Beside);
+        return unless_hidden(name, by_its_name(name));
     }
     if stem_len(name) < name.len() {
         return Part::Silent;
     }
     Part::Made
+}
+
+/// Programs read NAME.db and NAME.user as databases.
+fn by_its_name(name: &[u8]) -> Part
+    ensures { result ≡ by_its_name name.now }
+{
+    if name.ends_with(b".db") || name.ends_with(b".user") {
+        return Part::Database;
+    }
+    Part::Beside
 }
 
 fn folder_of_site(known: &EntryKnown, name: &[u8]) -> Part
@@ -181,20 +193,10 @@ fn folder_of_site(known: &EntryKnown, name: &[u8]) -> Part
     if name == "profiles".as_bytes() {
         return Part::ProfileFolder;
     }
-    if name == "profile".as_bytes() {
-        return Part::Profile;
-    }
-    if name == ".lock".as_bytes() || is_in_the_way(known, name) {
+    if name == ".lock".as_bytes() || (known.is_made && stem_len(name) < name.len()) {
         return Part::Barred;
     }
     unless_hidden(name, Part::Stray)
-}
-
-/// A link would give way to the file.
-fn is_in_the_way(known: &EntryKnown, name: &[u8]) -> bool
-    ensures { result ≡ is_in_the_way known.now name.now }
-{
-    known.is_made && (!known.is_link && stem_len(name) < name.len())
 }
 
 fn sources_of_site(name: &[u8]) -> Part

@@ -144,6 +144,7 @@ fn what_lies_in_a_site_is_known() -> bool {
         && lying(1, 1, "profiles") == 13
         && lying(1, 1, "old") == 17
         && lying(1, 0, "site.d") == 9
+        && lying(1, 0, "site.db") == 3
         && lying(1, 0, "profile") == 2
         && lying(1, 1, "profile") == 2
         && lying(1, 3, "profile") == 2
@@ -226,6 +227,7 @@ fn looked_at(within: u32, is_made: bool, name: &str, text: &str) -> u32 {
 
 fn texts_of_a_site_are_read() -> bool {
     looked_at(1, false, "me.user", "GVariant") == 3
+        && looked_at(1, false, "me.user", "GVa") == 3
         && looked_at(1, true, "site", "GVariant") == 4
         && looked_at(1, false, "kiosk", "user-db:kiosk\n") == 2
         && looked_at(1, false, "site.keys", "[a]\nk=1\n") == 17
