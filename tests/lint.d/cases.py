@@ -101,7 +101,7 @@ NO_LOCK = "the line locks nothing: it doesn't start with '/'"
 FOLDERS = {
     'nothing': ({}, []),
     'all is right': ({'site.d/00': DESK + "name='x'\non=true\n", 'site.d/locks/l': f'# x\n{ON}\n/org/example/desk/\n', 'profile': 'user-db:user\nsystem-db:site\n',
-                      'profiles/kiosk': 'user-db:kiosk\nsystem-db:gone\n', 'other': 'user-db:other\n', '.lock': '', '.git/config': 'x\n', 'site.d/.00.swp': 'b0VIM\n'}, []),
+                      'profiles/kiosk': 'user-db:kiosk\nsystem-db:gone\n', 'other': 'user-db:other\n', '.lock': '', 'store': 'dconf\n', '.git/config': 'x\n', 'site.d/.00.swp': 'b0VIM\n'}, []),
     'twice, in the order of the names': ({'site.d/a': DESK + 'on=true\n', 'site.d/b': '\n' + DESK + 'on=false\n', 'lab.d/c': DESK + 'on=true\n'},
                                          [('site.d/b:3', f'{ON} is set already, at ./site.d/a:2')]),
     'a double': ({'site.d/00': DESK + 'scale=1.5\n'}, [('site.d/00:2', "/org/example/desk/scale: DoubleText at 0..3: 'update' refuses a double")]),

@@ -25,9 +25,12 @@ abbrev pub stem_len : List ℕ → ℕ
 stem_len name =
     if ends_with nat_eq name (codes ".db") then length name - 3 else if ends_with nat_eq name (codes ".db.new") then length name - 7 else length name
 
--- programs read NAME.db and NAME.user as databases
+-- programs read NAME.db and NAME.user as databases; and `store` says which kind of store a machine has
 abbrev pub by_its_name : List ℕ → Part
-by_its_name name = if ends_with nat_eq name (codes ".db") || ends_with nat_eq name (codes ".user") then Part.Database else Part.Beside
+by_its_name name =
+    if ends_with nat_eq name (codes ".db") || ends_with nat_eq name (codes ".user") then Part.Database
+    else if bytes_eq name (codes "store") then Part.Silent
+    else Part.Beside
 
 -- whoever writes there takes turns by a file `.lock`, which is no link
 abbrev pub file_of_site : EntryKnown → List ℕ → Part

@@ -174,12 +174,15 @@ fn file_of_site(known: &EntryKnown, name: &[u8]) -> Part
     Part::Made
 }
 
-/// Programs read NAME.db and NAME.user as databases.
+/// Programs read NAME.db and NAME.user as databases; and `store` says which kind of store a machine has.
 fn by_its_name(name: &[u8]) -> Part
     ensures { result ≡ by_its_name name.now }
 {
     if name.ends_with(b".db") || name.ends_with(b".user") {
         return Part::Database;
+    }
+    if name == "store".as_bytes() {
+        return Part::Silent;
     }
     Part::Beside
 }

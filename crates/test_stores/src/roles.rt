@@ -145,6 +145,7 @@ fn what_lies_in_a_site_is_known() -> bool {
         && lying(1, 1, "old") == 17
         && lying(1, 0, "site.d") == 9
         && lying(1, 0, "site.db") == 3
+        && lying(1, 0, "store") == 4
         && lying(1, 0, "profile") == 2
         && lying(1, 1, "profile") == 2
         && lying(1, 3, "profile") == 2
