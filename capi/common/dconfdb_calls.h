@@ -1877,6 +1877,7 @@ typedef struct {
     bool is_made;     /* `update` makes the database that has the stem of its name */
     bool is_one_read; /* of the files that are asked for `update` reads one of the same NAME.d */
     bool is_read;     /* its text is there */
+    bool is_store;    /* it is a folder with a profile */
 } DconfdbEntry;
 
 /* Of a file of so many bytes, of which these are there: all that a text has, or the first of another file. Before anything is read of it,

@@ -74,7 +74,7 @@ static void finds_nearing(void)
     printf("TAKES(DconfdbNearing, %d);\n", NEARING);
 }
 
-enum { ENTRY_WITHIN = 0, ENTRY_KIND = 4, ENTRY_IS_HIDDEN = 8, ENTRY_IS_LINK = 9, ENTRY_IS_MADE = 10, ENTRY_IS_ONE_READ = 11, ENTRY_IS_READ = 12, ENTRY = 16 };
+enum { ENTRY_WITHIN = 0, ENTRY_KIND = 4, ENTRY_IS_HIDDEN = 8, ENTRY_IS_LINK = 9, ENTRY_IS_MADE = 10, ENTRY_IS_ONE_READ = 11, ENTRY_IS_READ = 12, ENTRY_IS_STORE = 13, ENTRY = 16 };
 
 /* What lies within that folder of a site, or in NAME.d where it isn't in one, is of that kind, and has just the flag at that place (0: none). */
 static bool is_taken(uint32_t within, uint32_t kind, size_t flag, const char *name, uint32_t as)
@@ -98,6 +98,7 @@ static void finds_entry(void)
     is_so(is_taken(2, 0, ENTRY_IS_HIDDEN, "k", 4) && is_taken(1, 0, 0, "k", 9) && is_taken(1, 0, ENTRY_IS_READ, "k", 17), "DconfdbEntry");
     is_so(is_taken(1, 0, ENTRY_IS_MADE, "k", 10) && is_taken(0, 0, 0, "k", 1) && is_taken(0, 0, ENTRY_IS_ONE_READ, "k", 0), "DconfdbEntry");
     is_so(is_taken(1, 0, 0, ".lock", 4) && is_taken(1, 0, ENTRY_IS_LINK, ".lock", 19), "DconfdbEntry");
+    is_so(is_taken(1, 1, 0, "k", 17) && is_taken(1, 1, ENTRY_IS_STORE, "k", 4), "DconfdbEntry");
     lies("DconfdbEntry", "within", ENTRY_WITHIN, NUMBER);
     lies("DconfdbEntry", "kind", ENTRY_KIND, NUMBER);
     lies("DconfdbEntry", "is_hidden", ENTRY_IS_HIDDEN, FLAG);
@@ -105,6 +106,7 @@ static void finds_entry(void)
     lies("DconfdbEntry", "is_made", ENTRY_IS_MADE, FLAG);
     lies("DconfdbEntry", "is_one_read", ENTRY_IS_ONE_READ, FLAG);
     lies("DconfdbEntry", "is_read", ENTRY_IS_READ, FLAG);
+    lies("DconfdbEntry", "is_store", ENTRY_IS_STORE, FLAG);
     printf("TAKES(DconfdbEntry, %d);\n", ENTRY);
 }
 

@@ -183,11 +183,21 @@ static void find_unread(const Walked *it, const char *path, uint32_t as)
     }
 }
 
+static bool has_profile(const char *folder)
+{
+    struct stat found;
+    char *path = g_strconcat(folder, "/profile", NULL);
+    bool has = stat(path, &found) == 0 && S_ISREG(found.st_mode);
+    g_free(path);
+    return has;
+}
+
 static void check_name(const Walked *it, const Name *name)
 {
     const char *path = path_in(it, name->name);
     Asked asked = asked_in(it, name, path);
     asked.entry.is_made = asked_is_made(&asked, it->lint.site->made);
+    asked.entry.is_store = name->kind == DCONFDB_KIND_FOLDER && has_profile(path);
     uint32_t as = asked_read_as(&asked, 0, NULL);
     switch (as) {
     case DCONFDB_READ_KEYFILE:

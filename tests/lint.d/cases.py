@@ -135,6 +135,7 @@ FOLDERS = {
         ('lab.db:0', '/org/example/desk/name: the value is of type i, and the key of type s'), ('me.user:0', f'{NO_KEY}{ON}n{NEAR}on')]),
     'damaged databases': ({'me.user': '', 'lab.db': 'GVa'}, [(f'{it}:0', "the file is shorter than a database's header") for it in ('lab.db', 'me.user')]),
     'a hidden database': ({'.a.d/00': 'oops\n', '.a.d/locks/l': '/a//b\n', '.a.d/old/00': 'oops\n', '.d/00': 'oops\n'}, []),
+    'a store of its own': ({'kiosk/profile': 'user-db:kiosk\n', 'kiosk/site.d/00': 'oops\n', 'site/00': 'oops\n'}, [('site:0', UNREAD)]),
     'in the way': ({'site.d/00': '', 'site.db': {'folder': True}, 'site.db.new': {'folder': True}, '.lock': {'link': 'x'}},
                    [(f'{it}:0', "it is in the way of a file that 'update' writes") for it in ('.lock', 'site.db', 'site.db.new')]),
     'not in the way': ({'lab.d/00': '', 'site.db': {'folder': True}, '.new': {'folder': True}}, [('site.db:0', UNREAD)]),

@@ -45,12 +45,18 @@ file_of_site k name =
 abbrev pub sources_of_site : List ℕ → Part
 sources_of_site name = if is_shown name then Part.SourceFolder else Part.HiddenFolder
 
--- a folder in the place of a file that is written is in its way
+-- a folder in the place of a file that is written is in its way; a link to one gives way
+abbrev pub is_in_the_way : EntryKnown → List ℕ → Bool
+is_in_the_way k name = k.is_made && (not k.is_link && nat_lt (stem_len name) (length name))
+
+-- a profile that is a folder can't be read, and is said to be so; a folder with a profile is a store of its own
 abbrev pub folder_of_site : EntryKnown → List ℕ → Part
 folder_of_site k name =
     if nat_lt 2 (length name) && ends_with nat_eq name (codes ".d") then sources_of_site name
     else if bytes_eq name (codes "profiles") then Part.ProfileFolder
-    else if bytes_eq name (codes ".lock") || (k.is_made && nat_lt (stem_len name) (length name)) then Part.Barred
+    else if bytes_eq name (codes "profile") then Part.Profile
+    else if bytes_eq name (codes ".lock") || is_in_the_way k name then Part.Barred
+    else if k.is_store then Part.Silent
     else unless_hidden name Part.Stray
 
 abbrev pub other_of_site : List ℕ → Part

@@ -1,7 +1,7 @@
 //! As what `update` takes what lies in the folder of a site, and what nobody reads there.
 ghost use Rattle.std.specs.Prelude.{◌≡◌};
 ghost use Rattle.std.specs.Str.{is_utf8};
-ghost use Rattle.dconf_roles.specs.Sites.{by_its_name, file_of_site, folder_of_site, if_hidden, in_locks, in_profiles, in_site, in_sources, kind_of, left_out, other_of_site, part_in, part_of, sources_of_site, stem_len, unless_hidden, within_of};
+ghost use Rattle.dconf_roles.specs.Sites.{by_its_name, file_of_site, folder_of_site, if_hidden, in_locks, in_profiles, in_site, in_sources, is_in_the_way, kind_of, left_out, other_of_site, part_in, part_of, sources_of_site, stem_len, unless_hidden, within_of};
 
 use crate::roles::is_shown;
 
@@ -78,6 +78,8 @@ pub struct EntryKnown {
     pub is_one_read: bool,
     /// Its text is known.
     pub is_read: bool,
+    /// It is a folder with a profile: a store of its own.
+    pub is_store: bool,
 }
 
 /// As what `update` takes what has that name.
@@ -196,10 +198,23 @@ fn folder_of_site(known: &EntryKnown, name: &[u8]) -> Part
     if name == "profiles".as_bytes() {
         return Part::ProfileFolder;
     }
-    if name == ".lock".as_bytes() || (known.is_made && stem_len(name) < name.len()) {
+    if name == "profile".as_bytes() {
+        return Part::Profile;
+    }
+    if name == ".lock".as_bytes() || is_in_the_way(known, name) {
         return Part::Barred;
     }
+    if known.is_store {
+        return Part::Silent;
+    }
     unless_hidden(name, Part::Stray)
+}
+
+/// A link would give way to the file.
+fn is_in_the_way(known: &EntryKnown, name: &[u8]) -> bool
+    ensures { result ≡ is_in_the_way known.now name.now }
+{
+    known.is_made && (!known.is_link && stem_len(name) < name.len())
 }
 
 fn sources_of_site(name: &[u8]) -> Part

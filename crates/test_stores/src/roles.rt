@@ -118,6 +118,7 @@ const ENTRY: EntryKnown = EntryKnown {
     is_made: false,
     is_one_read: false,
     is_read: false,
+    is_store: false,
 };
 
 /// As what that is taken which is known so.
@@ -181,6 +182,13 @@ fn what_update_makes_is_known() -> bool {
         && taken(folder, "site.db") == 19
         && taken(folder, "site.db.new") == 19
         && taken(folder, "site") == 17
+        && taken(
+            EntryKnown {
+                is_store: true,
+                ..folder
+            },
+            "site",
+        ) == 4
         && taken(
             EntryKnown {
                 is_link: true,
