@@ -5,6 +5,7 @@
 #define _GNU_SOURCE
 #define _POSIX_C_SOURCE 200809L
 #include "environment.h"
+#include "stood.h"
 
 #include <errno.h>
 #include <stdbool.h>
@@ -107,6 +108,6 @@ int main(int count, char **words)
             run_noted(program, count, words);
     }
     execv(program->file, words);
-    fprintf(stderr, "error: %s %s\n", errno == ENOENT ? "NoFile" : "Device", program->file);
+    fprintf(stderr, "error: %s %s\n", file_fault(DCONFDB_TO_LOOK, errno) == 0 ? "NoFile" : "Device", program->file);
     return 1;
 }
