@@ -136,7 +136,7 @@ pub(crate) struct Refusing {
 }
 
 impl Folder for Refusing {
-    ghost use Rattle.std.specs.Prelude.{true};
+    ghost use Rattle.std.specs.Prelude.{false, true};
 
     ghost past = { λ _ _. ⊥ };
 
