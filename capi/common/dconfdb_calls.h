@@ -812,7 +812,8 @@ enum {
     DCONFDB_FAULT_OF_EDITS,  /* .. of dconfdb_change */
     DCONFDB_FAULT_OF_FOLDER, /* a store's, which is looked for */
     DCONFDB_FAULT_OF_KIND,   /* .. and its kind */
-    DCONFDB_FAULT_OF_TEXT    /* of dconfdb_parse_value */
+    DCONFDB_FAULT_OF_TEXT,   /* of dconfdb_parse_value */
+    DCONFDB_FAULT_OF_EXPECTED /* of dconfdb_changed_since, which found an edit's path: `number` is what it gave */
 };
 
 /* Which sentence is said. */
@@ -840,7 +841,8 @@ enum {
     DCONFDB_SAYS_TOO_DEEP,  /* its value is nested too deep, or too long; */
     DCONFDB_SAYS_HAS_DOUBLE, /* it holds a double; */
     DCONFDB_SAYS_NO_VALUE,   /* it is no value, */
-    DCONFDB_SAYS_NO_VALUE_AT /* by what is in one place of it */
+    DCONFDB_SAYS_NO_VALUE_AT, /* by what is in one place of it */
+    DCONFDB_SAYS_CHANGED      /* something else is seen there than was expected */
 };
 
 /* Which name stands in front. */
@@ -1432,6 +1434,8 @@ typedef struct {
     bool is_covered;                /* a directory's reset takes away what is there */
     bool sets;                      /* a value is set there; else it is reset */
     bool is_users;                  /* a database is the user's own */
+    bool is_unmade;                 /* an edit isn't made, by dconfdb_is_unmade */
+    bool is_service_db;             /* its database is one that a profile of dconf's names by `service-db` */
 } DconfdbServed;
 
 /* What was done with it, or what happened. Of each its own fields count, and no others. */
@@ -1447,7 +1451,9 @@ enum {
     DCONFDB_SERVED_NAMELESS, /* it hasn't its name */
     DCONFDB_SERVED_PATH,     /* a path in it is read */
     DCONFDB_SERVED_ORDERED,  /* .. and comes behind those before it, in the order of their bytes, and of one path as they were sent */
-    DCONFDB_SERVED_SHOWS     /* the service tells who listens of a database */
+    DCONFDB_SERVED_SHOWS,    /* the service tells who listens of a database */
+    DCONFDB_SERVED_MADE,     /* an edit was tried, and is told of */
+    DCONFDB_SERVED_BESIDE    /* an edit stands beside others of its change */
 };
 
 /* What becomes of it then. */
@@ -1463,12 +1469,13 @@ enum {
     DCONFDB_SERVED_LATE,     /* the service ends: that is its answer, and nothing of it is written; or the thread is left, whatever it is at */
     DCONFDB_SERVED_LATER,    /* it is for a later write */
     DCONFDB_SERVED_PROFILES, /* the profile's store has its database */
-    DCONFDB_SERVED_ALONE,    /* the store of its database alone has it */
+    DCONFDB_SERVED_ALONE,    /* the store of its database alone has it; or an edit is made, or not, by itself */
     DCONFDB_SERVED_ENDS,     /* the service ends, and takes what it was sent before */
     DCONFDB_SERVED_TAKEN,    /* another service has the name */
     DCONFDB_SERVED_PASSED,   /* it says nothing, or nothing is told of it */
     DCONFDB_SERVED_LEFT_OUT, /* it isn't made, which is told */
-    DCONFDB_SERVED_REPLACES  /* it counts in the place of the one before it */
+    DCONFDB_SERVED_REPLACES, /* it counts in the place of the one before it */
+    DCONFDB_SERVED_UNSUPPORTED /* no such database is served */
 };
 
 uint32_t dconfdb_served_after(uint32_t done, const DconfdbServed *known);

@@ -293,18 +293,13 @@ static DconfdbStood lock_it(Awaited *awaited)
     return file_stood(NULL, fault);
 }
 
-static bool is_same(const struct stat *one, const struct stat *other)
-{
-    return one->st_dev == other->st_dev && one->st_ino == other->st_ino;
-}
-
 /* Its names, the folder's and its own, may be another's after the wait. */
 static DconfdbStood look_at_names(Awaited *awaited)
 {
     const FolderLock *lock = awaited->lock;
     struct stat named, opened, file = {0};
-    bool has_folder = stat(awaited->folder, &named) == 0 && fstat(lock->folder, &opened) == 0 && is_same(&named, &opened);
-    bool has_name = fstatat(lock->folder, LOCK_NAME, &named, AT_SYMLINK_NOFOLLOW) == 0 && fstat(lock->file, &file) == 0 && is_same(&named, &file);
+    bool has_folder = stat(awaited->folder, &named) == 0 && fstat(lock->folder, &opened) == 0 && are_of_one_file(&named, &opened);
+    bool has_name = fstatat(lock->folder, LOCK_NAME, &named, AT_SYMLINK_NOFOLLOW) == 0 && fstat(lock->file, &file) == 0 && are_of_one_file(&named, &file);
     DconfdbStood stood = file_stood(&file, 0);
     stood.is_named = has_folder && has_name;
     return stood;

@@ -70,7 +70,7 @@ static bool is_one_file(int folder, const char *name, const char *aside)
 {
     struct stat one, other;
     return fstatat(folder, name, &one, AT_SYMLINK_NOFOLLOW) == 0 && fstatat(folder, aside, &other, AT_SYMLINK_NOFOLLOW) == 0
-        && one.st_dev == other.st_dev && one.st_ino == other.st_ino;
+        && are_of_one_file(&one, &other);
 }
 
 /* One of the names NAME~1, NAME~2 and so on, before which so many were tried. It is asked what has the name only where that is taken. */

@@ -9,11 +9,11 @@
 typedef struct SaidFault {
     struct SaidFault *next;
     DconfdbFailing failing;
-    bool is_there;
+    bool is_there, is_of_look;
     char text[];
 } SaidFault;
 
-static void put(Warned *warned, const char *text)
+static void put(Warned *warned, const char *text, bool is_of_look)
 {
     SaidFault **at = &warned->first;
     while (*at && strcmp((*at)->text, text) != 0)
@@ -26,6 +26,7 @@ static void put(Warned *warned, const char *text)
         memcpy((*at)->text, text, size);
     }
     (*at)->is_there = true;
+    (*at)->is_of_look = is_of_look;
 }
 
 static void put_all(Warned *warned, const DconfdbStore *store)
@@ -34,10 +35,10 @@ static void put_all(Warned *warned, const DconfdbStore *store)
     error.size = sizeof error;
     DconfdbSnapshot *now = dconfdb_store_snapshot((DconfdbStore *)store);
     if (dconfdb_store_profile_fault(store, &error))
-        put(warned, error.text);
+        put(warned, error.text, false);
     for (size_t i = 0; i < dconfdb_snapshot_databases(now); i++) {
         if (dconfdb_snapshot_fault(now, i, &error))
-            put(warned, error.text);
+            put(warned, error.text, false);
     }
     dconfdb_snapshot_unref(now);
 }
@@ -68,7 +69,15 @@ void warned_renew(Warned *warned, const DconfdbStore *store, const DconfdbError 
     if (store)
         put_all(warned, store);
     if (error)
-        put(warned, error->text);
+        put(warned, error->text, true);
+    say_each(warned, warns, it);
+}
+
+void warned_renew_files(Warned *warned, const DconfdbStore *store, Warns *warns, void *it)
+{
+    for (SaidFault *fault = warned->first; fault; fault = fault->next)
+        fault->is_there = fault->is_of_look;
+    put_all(warned, store);
     say_each(warned, warns, it);
 }
 

@@ -16,6 +16,9 @@ typedef void Warns(void *it, const char *text);
  * isn't there is forgotten. `store` is NULL if there is none, and so is `error`. Without memory it is told after the next look. */
 void warned_renew(Warned *warned, const DconfdbStore *store, const DconfdbError *error, Warns *warns, void *it);
 
+/* The same after a write, which may have read the files, and made one: a look that failed by then isn't over. */
+void warned_renew_files(Warned *warned, const DconfdbStore *store, Warns *warns, void *it);
+
 void warned_end(Warned *warned);
 
 #endif

@@ -1,5 +1,6 @@
 /* A change that is to be written, its edits, and how it is written. */
 #define _POSIX_C_SOURCE 200809L
+#include "edit_with.h"
 #include "gsettings.h"
 
 #include <string.h>
@@ -33,15 +34,6 @@ Change *change_new(size_t most, size_t paths)
     return change;
 }
 
-/* What the library is asked for. */
-static DconfdbEdit edit_of(const Edit *edit)
-{
-    if (!edit->value)
-        return (DconfdbEdit){edit->path, NULL, NULL, 0};
-    return (DconfdbEdit){edit->path, g_variant_get_type_string(edit->value), g_variant_get_data(edit->value),
-                         g_variant_get_size(edit->value)};
-}
-
 void change_add(Change *change, const char *path, GVariant *value)
 {
     g_assert(change->count < change->most);
@@ -55,7 +47,7 @@ void change_add(Change *change, const char *path, GVariant *value)
     /* Bytes of a program that aren't normal may be as deep as they like; normal ones say the
      * same. */
     edit->value = value ? g_variant_get_normal_form(value) : NULL;
-    edit->asked = edit_of(edit);
+    edit->asked = edit_with(edit->path, edit->value);
     edit->is_left_out = false;
     edit->may_be_of = 0;
 }

@@ -32,6 +32,11 @@ void warn_once(DconfdbBackend *self, Notice *notice, const DconfdbError *error)
     warned_renew(&self->told, self->store, error, keep, notice);
 }
 
+void warn_of_files(DconfdbBackend *self, Notice *notice)
+{
+    warned_renew_files(&self->told, self->store, keep, notice);
+}
+
 /* `lock` is held. */
 static char **odd_keys(const DconfdbBackend *self)
 {

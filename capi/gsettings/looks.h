@@ -13,6 +13,9 @@ void warn_of(Notice *notice, const char *text);
  * NULL. */
 void warn_once(DconfdbBackend *self, Notice *notice, const DconfdbError *error);
 
+/* The same after a write, which may have read the files, and made one: what was said of a look is said still. */
+void warn_of_files(DconfdbBackend *self, Notice *notice);
+
 /* Hands the newest snapshot to who reads, together with what no longer waits: `lock` is held, or taken. */
 void hand_newest(DconfdbBackend *self, Notice *notice);
 void renew(DconfdbBackend *self, Notice *notice);

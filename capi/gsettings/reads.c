@@ -31,12 +31,12 @@ void lock_opened(DconfdbBackend *self)
     g_mutex_lock(&self->lock);
     if (G_LIKELY(self->now != NULL))
         return;
-    bool has_opened = self->has_opened;
+    const DconfdbLookKnown known = {.is_open = self->has_opened};
     g_mutex_unlock(&self->lock);
-    if (has_opened)
-        look_if_unwatched(self);
-    else
+    if (dconfdb_look_due(DCONFDB_LOOKER_OPENS, &known) == DCONFDB_LOOK_OPENS)
         store_open(self);
+    else
+        look_if_unwatched(self);
     g_mutex_lock(&self->lock);
 }
 

@@ -37,8 +37,7 @@ static gint64 write_it(DconfdbBackend *self, const Turn *turn, Notice *notice, b
         warn_of(notice, refusal.text);
     if (said == DCONFDB_FAULT_SAY)
         warn_of_waiting(notice, &fault);
-    if (done)
-        warn_once(self, notice, NULL);
+    warn_of_files(self, notice);
     notice->waits_again = !done;
     end_try(self, notice);
     return (gint64)self->failing.again;
@@ -185,7 +184,7 @@ static void await_settled(DconfdbBackend *self, DconfdbPatience *patience, guint
 /* `turn` is held. Another program may have written what was set once more, and not brought it to the disk. */
 static bool settle(DconfdbBackend *self)
 {
-    bool is_settled = settle_store(self->store, NULL);
+    bool is_settled = self->store && settle_store(self->store, NULL);
     g_mutex_lock(&self->lock);
     self->is_to_settle = !is_settled;
     g_mutex_unlock(&self->lock);
@@ -214,7 +213,7 @@ static bool take_turn(DconfdbBackend *self, Sync *sync)
         return false;
     sync->known.sync.has_looked = has_looked_since(self, sync->begun);
     g_mutex_lock(&self->lock);
-    sync->known.sync.is_to_settle = self->is_to_settle && self->store;
+    sync->known.sync.is_to_settle = self->is_to_settle;
     g_mutex_unlock(&self->lock);
     return true;
 }

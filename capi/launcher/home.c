@@ -27,7 +27,7 @@ static int refuse(int fault, const char *of)
     if (sentence.code == DCONFDB_MEMORY)
         fprintf(stderr, "error: Memory\n");
     else
-        fprintf(stderr, "error: %s %s\n", fault == ENOENT ? "NoFile" : "Device", of);
+        fprintf(stderr, "error: %s %s\n", file_fault(DCONFDB_TO_LOOK, fault) == 0 ? "NoFile" : "Device", of);
     return 1;
 }
 

@@ -4,6 +4,7 @@
 #define _DEFAULT_SOURCE
 #define _POSIX_C_SOURCE 200809L
 #include "environment.h"
+#include "stood.h"
 
 #include <errno.h>
 #include <stdbool.h>
@@ -83,6 +84,6 @@ int main(int count, char **words)
     if (program == &proved)
         program = proved_program();
     execv(program->file, words);
-    fprintf(stderr, "error: %s %s\n", errno == ENOENT ? "NoFile" : "Device", program->file);
+    fprintf(stderr, "error: %s %s\n", file_fault(DCONFDB_TO_LOOK, errno) == 0 ? "NoFile" : "Device", program->file);
     return 1;
 }

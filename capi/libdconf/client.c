@@ -2,6 +2,7 @@
 #include "libdconf.h"
 
 #include "dconfdb_calls.h"
+#include "lists.h"
 #include "seen.h"
 #include "snapshot.h"
 
@@ -62,7 +63,7 @@ GVariant *dconf_client_read_full(DConfClient *client, const gchar *key, DConfRea
 static gchar **array_of(char *texts, gint *length)
 {
     GPtrArray *found = g_ptr_array_new();
-    for (const char *at = texts; at && *at; at += strlen(at) + 1)
+    for (const char *at = texts; at && *at; at = next_text(at))
         g_ptr_array_add(found, g_strdup(at));
     free(texts);
     if (length)

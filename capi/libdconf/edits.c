@@ -1,16 +1,10 @@
 /* The edits of a set of changes, and what is known of each. */
 #include "writes.h"
 
+#include "edit_with.h"
 #include "seen.h"
 
 #include <string.h>
-
-static DconfdbEdit edit_of(const gchar *path, GVariant *value)
-{
-    if (!value)
-        return (DconfdbEdit){path, NULL, NULL, 0};
-    return (DconfdbEdit){path, g_variant_get_type_string(value), g_variant_get_data(value), g_variant_get_size(value)};
-}
 
 Edits edits_of(DConfChangeset *changes)
 {
@@ -23,7 +17,7 @@ Edits edits_of(DConfChangeset *changes)
         gchar *path = g_strconcat(prefix, paths[i], NULL);
         /* The library takes normal forms alone; dconf writes these. */
         GVariant *normal = values[i] ? g_variant_get_normal_form(values[i]) : NULL;
-        DconfdbEdit edit = edit_of(path, normal);
+        DconfdbEdit edit = edit_with(path, normal);
         if (normal)
             g_ptr_array_add(self.values, normal);
         g_ptr_array_add(self.texts, path);

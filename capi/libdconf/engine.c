@@ -3,6 +3,7 @@
 
 #include "dconfdb_calls.h"
 #include "lent_value.h"
+#include "locked.h"
 #include "seen.h"
 
 #include <poll.h>
@@ -108,7 +109,9 @@ static void carry_out(Engine *self, uint32_t task, Looking *it)
     case DCONFDB_GLANCE_HAND:
         hand_out(self, it);
         break;
-    case DCONFDB_GLANCE_HEED:  /* the turn asks the file and its notes */
+    case DCONFDB_GLANCE_HEED: /* what waits is to be overtaken by what others changed since it was asked for */
+        heed_others(it->store, it->before, it->after);
+        break;
     case DCONFDB_GLANCE_WATCH: /* who watches hears of it by the profile */
         break;
     default:

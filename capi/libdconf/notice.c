@@ -2,6 +2,8 @@
 #include "../gsettings/catch_up.h"
 #include "libdconf.h"
 
+#include "edit_with.h"
+#include "lists.h"
 #include "seen.h"
 #include "paths.h"
 
@@ -105,14 +107,10 @@ typedef struct {
 /* What the changes say of a key. */
 static void add_key(const Own *own, DConfChangeset *changes, const gchar *key)
 {
-    DconfdbEdit edit = {key, NULL, NULL, 0};
-    GVariant *value = NULL;
+    g_autoptr(GVariant) value = NULL; /* the changes have it */
     if (!dconf_changeset_get(changes, key, &value))
         return;
-    if (value) {
-        edit = (DconfdbEdit){key, g_variant_get_type_string(value), g_variant_get_data(value), g_variant_get_size(value)};
-        g_variant_unref(value); /* the changes have it */
-    }
+    DconfdbEdit edit = edit_with(key, value);
     g_array_append_val(own->edits, edit);
 }
 
@@ -123,7 +121,7 @@ static void add_below(const Own *own, DConfChangeset *changes, const DconfdbSnap
     if (!paths)
         return;
     g_ptr_array_add(own->paths, paths);
-    for (const char *at = paths; *at; at += strlen(at) + 1)
+    for (const char *at = paths; *at; at = next_text(at))
         add_key(own, changes, at);
 }
 
@@ -182,7 +180,7 @@ static void send_changed(const void *it, DconfdbTelling *telling, const char *pa
     Engine *self = ((const Others *)it)->engine;
     const gchar *prefix = "";
     DConfChangeset *changed = dconf_changeset_new();
-    for (const char *at = paths; *at; at += strlen(at) + 1)
+    for (const char *at = paths; *at; at = next_text(at))
         dconf_changeset_set(changed, at, NULL);
     telling->has_path = false;
     telling->taken = dconf_changeset_describe(changed, &prefix, NULL, NULL);
@@ -200,7 +198,7 @@ static void send_writable(const void *it, DconfdbTelling *telling, const char *p
 {
     Engine *self = ((const Others *)it)->engine;
     telling->has_path = true;
-    for (const char *at = paths; telling->has_path; at += strlen(at) + 1) {
+    for (const char *at = paths; telling->has_path; at = next_text(at)) {
         telling->has_path = *at != 0;
         telling->is_listened = telling->has_path && engine_is_watched(self, at);
         uint32_t next = dconfdb_tell_next(telling);

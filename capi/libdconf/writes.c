@@ -87,7 +87,7 @@ typedef struct {
     DConfChangeset *changes, *told; /* `told`: what they change */
     Edits edits;
     DconfdbSnapshot *now; /* what was there when their turn came; NULL: no store can be opened */
-    const gchar *tag;
+    gchar *tag; /* NULL: nothing was to be made */
     bool has_turn;
     DconfdbError fault;
     DconfdbChanging known;
@@ -121,6 +121,7 @@ static bool take_turn(Change *self)
 {
     g_mutex_lock(&self->engine->turn);
     self->has_turn = true;
+    self->tag = new_tag();
     if (!write_waiting(self->engine, TRUE, &self->fault))
         return false;
     learn(self);
@@ -177,6 +178,7 @@ static uint32_t make(Change *self)
 static void change_end(Change *self)
 {
     edits_clear(&self->edits);
+    g_free(self->tag);
     g_clear_pointer(&self->told, dconf_changeset_unref);
     dconfdb_snapshot_unref(self->now);
 }
@@ -196,14 +198,12 @@ static gboolean answer(uint32_t outcome, const DconfdbError *fault, GError **err
 
 gboolean engine_change_sync(Engine *engine, DConfChangeset *changes, gchar **tag, GError **error)
 {
-    gboolean is_empty = dconf_changeset_is_empty(changes);
-    g_autofree gchar *own = is_empty ? g_strdup("") : new_tag();
-    Change self = {.engine = engine, .changes = changes, .edits = edits_of(changes), .tag = own, .fault = DCONFDB_ERROR_INIT};
-    self.known.is_empty = is_empty;
-    self.known.is_refused = !is_empty && is_refused(engine, &self.edits);
+    Change self = {.engine = engine, .changes = changes, .edits = edits_of(changes), .fault = DCONFDB_ERROR_INIT};
+    self.known.is_empty = dconf_changeset_is_empty(changes);
+    self.known.is_refused = !self.known.is_empty && is_refused(engine, &self.edits);
     gboolean is_done = answer(make(&self), &self.fault, error);
-    change_end(&self);
     if (is_done && tag)
-        *tag = g_steal_pointer(&own);
+        *tag = self.tag ? g_steal_pointer(&self.tag) : g_strdup("");
+    change_end(&self);
     return is_done;
 }

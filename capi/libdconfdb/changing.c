@@ -26,12 +26,12 @@ static Part *part_of_new(const DconfdbStore *store, FileBytes file, DconfdbError
 {
     Asked asked = {store->user_file, 0, false, false, NO_FOLDER};
     const Part *old = store->now->parts[0];
-    const Fault *bad = old->fault;
+    const DconfdbError *bad = part_fault(old);
     Part *part = part_open(&asked, (FileState){.is_there = true}, file, old, error);
-    if (!part || !bad || bad->aside)
+    if (!part || !bad)
         return part;
-    if (part_blame(part, &bad->error, error)) {
-        part->fault->saved = bad->saved;
+    if (part_blame(part, bad, error)) {
+        part->fault->saved = old->fault->saved;
         return part;
     }
     part_unref(part);
@@ -219,6 +219,13 @@ static void run(Changing *it)
     take_back_room(&room);
 }
 
+/* Whether a new file is left to the system: nothing that isn't noted is brought to the disk. */
+static bool is_unsynced(const DconfdbStore *store)
+{
+    const DconfdbSettling known = {.has_file = true, .is_unsynced = store->options.is_unsynced, .is_in_turn = true, .is_readable = true};
+    return dconfdb_settling_after(DCONFDB_SETTLING_NOTES, false, &known) != DCONFDB_SETTLING_SETTLE;
+}
+
 bool change_in_turn(DconfdbStore *store, const FolderLock *lock, Asking *asking, DconfdbError *error)
 {
     Edited edited = {.store = store, .lock = lock, .asking = asking};
@@ -234,7 +241,7 @@ bool change_in_turn(DconfdbStore *store, const FolderLock *lock, Asking *asking,
     int fault = replacing_begin(&it.replacing, lock->folder, store->own_name);
     if (fault != 0)
         return refuse_file(error, fault, store->user_file, nowhere);
-    it.replacing.is_unsynced = store->options.is_unsynced;
+    it.replacing.is_unsynced = is_unsynced(store);
     hold_limit_signal(&held);
     pthread_mutex_lock(&store->refreshing);
     edited.before = dconfdb_snapshot_ref(store->now);

@@ -16,7 +16,7 @@ _Static_assert((int)DCONFDB_OUTCOME_MADE == (int)DCONFDB_TURN_MADE && (int)DCONF
                    && (int)DCONFDB_OUTCOME_EITHER == (int)DCONFDB_TURN_EITHER && (int)DCONFDB_OUTCOME_UNSETTLED == (int)DCONFDB_TURN_UNSETTLED,
                "the header's outcomes are those of the proved calls");
 
-bool refuse(DconfdbError *error, DconfdbErrorCode code, int fault, Place place, const char *format, ...)
+static bool __attribute__((format(printf, 5, 6))) refuse(DconfdbError *error, DconfdbErrorCode code, int fault, Place place, const char *format, ...)
 {
     if (!error)
         return false;
@@ -94,6 +94,7 @@ static const char *const phrases[] = {
     [DCONFDB_SAYS_NOT_UTF8] = "the text is not UTF-8",
     [DCONFDB_SAYS_TOO_DEEP] = "the text's value is nested too deep or too long",
     [DCONFDB_SAYS_HAS_DOUBLE] = "the text holds a double, which is not read",
+    [DCONFDB_SAYS_CHANGED] = "something else is seen there by now",
 };
 
 /* What is said of a fault that has a text, or a place. */
@@ -138,6 +139,7 @@ static bool say(DconfdbError *error, const DconfdbFaultMet *met, const DconfdbSe
     case DCONFDB_SAYS_NO_FILE:
     case DCONFDB_SAYS_TEN_SECONDS:
     case DCONFDB_SAYS_DOUBLE:
+    case DCONFDB_SAYS_CHANGED:
     case DCONFDB_SAYS_NO_KIND: return refuse(error, code, fault, place, "%s: %s", name, phrases[it->says]);
     default: return say_of(error, met->number, it, of);
     }

@@ -12,9 +12,6 @@ typedef struct {
 
 static const Place nowhere = {0, 0, 0};
 
-bool refuse(DconfdbError *error, DconfdbErrorCode code, int fault, Place place, const char *format, ...)
-    __attribute__((format(printf, 5, 6)));
-
 bool refuse_memory(DconfdbError *error);
 
 /* What a call of files.h answered. */

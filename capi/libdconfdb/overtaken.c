@@ -5,6 +5,7 @@
 #include "overtaken.h"
 #include "edits.h"
 #include "errors.h"
+#include "lists.h"
 #include "texts.h"
 
 #include <stdlib.h>
@@ -56,12 +57,11 @@ bool asking_is_as_expected(const DconfdbSnapshot *now, const Asking *asking, Dco
     size_t at = 0;
     uint32_t number = dconfdb_changed_since(expected->layers, expected->count, now->layers, now->count, asking->changes, asking->count,
                                             &is_changed, &at);
-    if (number != DCONFDB_OK)
-        return refuse_memory(error);
-    if (!is_changed)
+    if (number == DCONFDB_OK && !is_changed)
         return true;
-    return refuse(error, DCONFDB_ERROR_CHANGED, 0, (Place){.edit = asking->edits[at]}, "%s: something else is seen there by now",
-                  (const char *)asking->changes[at].path.at);
+    const char *const names[DCONFDB_NAMES] = {[DCONFDB_NAMES_EDIT] = (const char *)asking->changes[at].path.at};
+    const DconfdbFaultMet met = {.of = DCONFDB_FAULT_OF_EXPECTED, .number = number};
+    return tell_met(error, &met, names, (Place){.edit = asking->edits[at]});
 }
 
 /* ---- what others changed */
@@ -151,7 +151,7 @@ static size_t count_seen(const DconfdbStore *store, size_t *size)
 {
     size_t count = 0;
     for (const Seen *seen = store->seen; seen; seen = seen->next) {
-        for (const char *at = seen->paths; *at; at += strlen(at) + 1) {
+        for (const char *at = seen->paths; *at; at = next_text(at)) {
             *size += order_path_size(store->own_name, strlen(at));
             count++;
         }
@@ -164,7 +164,7 @@ static void list_seen(const DconfdbStore *store, const Order *order, Asking *ask
 {
     for (const Seen *seen = store->seen; seen; seen = seen->next) {
         bool is_noted = order_has_left(order, store->own_name, &seen->left);
-        for (const char *at = seen->paths; *at; at += strlen(at) + 1) {
+        for (const char *at = seen->paths; *at; at = next_text(at)) {
             DconfdbBytes own = {bytes_of(at), strlen(at)}, path = order_path(&room, store->own_name, &own);
             asking->seen[asking->seen_count++] = (DconfdbSeen){{path, seen->when, value_in(store->now, &own)}, is_noted};
         }

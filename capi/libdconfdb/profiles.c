@@ -1,14 +1,13 @@
 /* The files that may be the profile, looked at. */
 #define _POSIX_C_SOURCE 200809L
 #include "profiles.h"
-
-#include <string.h>
+#include "lists.h"
 
 Profiles profiles_now(const char *names, int count)
 {
     Profiles now = {.asked = file_clock(), .other = {.is_there = false}};
     const char *name = names;
-    for (int i = 0; i < count && !now.other.is_there; i++, name += strlen(name) + 1)
+    for (int i = 0; i < count && !now.other.is_there; i++, name = next_text(name))
         file_look(name, i == 0 ? &now.first : &now.other);
     return now;
 }

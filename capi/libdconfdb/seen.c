@@ -12,11 +12,6 @@
 
 enum { ROOM_OF_TOLD = 4096, FEW_KEYS = 4 };
 
-static DconfdbBytes lent_text(const char *text)
-{
-    return (DconfdbBytes){(const uint8_t *)text, strlen(text)};
-}
-
 static DconfdbWaits waits_of(const DconfdbEdit *edit)
 {
     DconfdbWaits waits = DCONFDB_NO_EDIT;
@@ -24,7 +19,7 @@ static DconfdbWaits waits_of(const DconfdbEdit *edit)
     if (!edit || !edit->type)
         return waits;
     waits.sets = true;
-    waits.type_text = lent_text(edit->type);
+    waits.type_text = text_bytes(edit->type);
     if (edit->size > 0)
         waits.value = (DconfdbBytes){edit->data, edit->size};
     return waits;
@@ -33,7 +28,7 @@ static DconfdbWaits waits_of(const DconfdbEdit *edit)
 static DconfdbKeyAsked asked_of(const SeenKey *key)
 {
     DconfdbBytes no_type = DCONFDB_NOTHING;
-    return (DconfdbKeyAsked){lent_text(key->path), key->type ? lent_text(key->type) : no_type, waits_of(key->before), waits_of(key->after)};
+    return (DconfdbKeyAsked){text_bytes(key->path), key->type ? text_bytes(key->type) : no_type, waits_of(key->before), waits_of(key->after)};
 }
 
 typedef struct {

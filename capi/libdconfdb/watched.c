@@ -1,6 +1,7 @@
 /* The names of a store's files are watched by inotify, and the folders and links on the way to them. */
 #define _GNU_SOURCE
 #include "watched.h"
+#include "lists.h"
 
 #include <limits.h>
 #include <stdio.h>
@@ -177,7 +178,7 @@ static uint32_t go_through(Watch *watch, DconfdbWatchRounds *rounds, const Names
 {
     int count = 0;
     dconfdb_watch_round(rounds, DCONFDB_WATCHING_BEGINS, false, false, false);
-    for (const char *at = names->at; *at; at += strlen(at) + 1)
+    for (const char *at = names->at; *at; at = next_text(at))
         watch_path(watch, rounds, at, count++ < names->profiles);
     return dconfdb_watch_round(rounds, DCONFDB_WATCHING_NAME, names->are_all, false, true);
 }

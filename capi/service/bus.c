@@ -15,12 +15,6 @@ static const char interfaces[] =
 
 /* ---- calls */
 
-static void refuse(GDBusMethodInvocation *call, GDBusError code, const char *why)
-{
-    g_autofree char *text = g_utf8_make_valid(why, -1);
-    g_dbus_method_invocation_return_error_literal(call, G_DBUS_ERROR, (gint)code, text);
-}
-
 void call_refuse(GDBusMethodInvocation *call, uint32_t served, const char *why)
 {
     static const struct {
@@ -32,8 +26,10 @@ void call_refuse(GDBusMethodInvocation *call, uint32_t served, const char *why)
                 [DCONFDB_SERVED_TOO_LARGE] = {G_DBUS_ERROR_LIMITS_EXCEEDED, "a change has at most 64 MiB"},
                 [DCONFDB_SERVED_TOO_MUCH] = {G_DBUS_ERROR_LIMITS_EXCEEDED, "10,000 changes, or 256 MiB of them, wait to be written already"},
                 [DCONFDB_SERVED_TOO_MANY_NAMES] = {G_DBUS_ERROR_LIMITS_EXCEEDED, "64 databases are in use already"},
-                [DCONFDB_SERVED_LATE] = {G_DBUS_ERROR_FAILED, "the service ends, and could not write it in time"}};
-    refuse(call, said[served].code, said[served].text ? said[served].text : why);
+                [DCONFDB_SERVED_LATE] = {G_DBUS_ERROR_FAILED, "the service ends, and could not write it in time"},
+                [DCONFDB_SERVED_UNSUPPORTED] = {G_DBUS_ERROR_NOT_SUPPORTED, "dconfdb has no service-db"}};
+    g_autofree char *text = g_utf8_make_valid(said[served].text ? said[served].text : why, -1);
+    g_dbus_method_invocation_return_error_literal(call, G_DBUS_ERROR, (gint)said[served].code, text);
 }
 
 static void change(Service *service, const char *name, GDBusMethodInvocation *call)
@@ -72,9 +68,10 @@ static void call_unsupported(GDBusConnection *bus, const char *sender, const cha
                              GDBusMethodInvocation *call, gpointer data)
 {
     Service *service = data;
+    const DconfdbServed known = {.is_service_db = true};
     (void)bus, (void)sender, (void)object, (void)interface, (void)method, (void)words;
     blame_record(service->blame, call);
-    refuse(call, G_DBUS_ERROR_NOT_SUPPORTED, "dconfdb has no service-db");
+    call_refuse(call, dconfdb_served_after(DCONFDB_SERVED_CAME, &known), NULL);
 }
 
 static void call_info(GDBusConnection *bus, const char *sender, const char *object, const char *interface, const char *method, GVariant *words,

@@ -1,4 +1,6 @@
 /* Sets of changes as they are sent: the bytes of a GVariant, in whatever order, form and alignment the caller has them. */
+#include "edit_with.h"
+#include "kinds.h"
 #include "service.h"
 
 #include <string.h>
@@ -62,12 +64,13 @@ static GVariant *value_of(GVariant *entry)
     return boxed ? g_variant_get_variant(boxed) : NULL;
 }
 
+/* The value goes before the edit does: the text of its type is kept. */
 static DconfdbEdit edit_from(const Change *change, const char *path, GVariant *value)
 {
-    if (!value)
-        return (DconfdbEdit){path, NULL, NULL, 0};
-    const char *type = g_string_chunk_insert_const(change->types, g_variant_get_type_string(value));
-    return (DconfdbEdit){path, type, g_variant_get_data(value), g_variant_get_size(value)};
+    DconfdbEdit edit = edit_with(path, value);
+    if (edit.type)
+        edit.type = g_string_chunk_insert_const(change->types, edit.type);
+    return edit;
 }
 
 /* What becomes of a path at which a value is set, or not. */
@@ -133,7 +136,7 @@ static void sort(GArray *edits)
             continue;
         count += is == DCONFDB_SERVED_GOES_ON;
         all[count - 1] = all[at];
-        if (g_str_has_suffix(all[at].path, "/"))
+        if (is_directory(all[at].path))
             above = &all[count - 1];
     }
     g_array_set_size(edits, count);

@@ -74,6 +74,9 @@ static inline const DconfdbEdit *edit_of(const Change *change, size_t at)
     return &g_array_index(change->edits, DconfdbEdit, at);
 }
 
+/* The edits of changes that are written together, so many: to be ended. Each change knows the number of its first. */
+Batch batch_of(const GList *first, size_t count);
+
 /* ---- a user's database by its name (stores.c, watching.c) */
 
 struct Writer {

@@ -1,5 +1,7 @@
 /* Who is told of what: by the proved call that says which keys are seen otherwise, of the user's own database alone, since programs in a
  * sandbox see no site's. */
+#include "kinds.h"
+#include "lists.h"
 #include "paths.h"
 #include "service.h"
 #include "snapshot.h"
@@ -100,7 +102,7 @@ static bool takes_away(const char *directory, const char *path)
 static void put_resets(GTree *edits, Newest *newest, const DconfdbSnapshot *before, const char *directory)
 {
     char *paths = snapshot_paths(before, directory, NULL);
-    for (const char *at = paths; at && *at; at += strlen(at) + 1)
+    for (const char *at = paths; at && *at; at = next_text(at))
         put_reset(edits, newest, at);
     GTreeNode *node = g_tree_lower_bound(newest->edits, directory);
     for (; node && takes_away(directory, g_tree_node_key(node)); node = g_tree_node_next(node))
@@ -114,7 +116,7 @@ static GTree *keys_of(Newest *newest, const DconfdbSnapshot *before, const GPtrA
     GTree *edits = g_tree_new_full(by_path, NULL, NULL, NULL);
     for (guint at = 0; at < made->len; at++) {
         const DconfdbEdit *edit = g_ptr_array_index(made, at);
-        if (g_str_has_suffix(edit->path, "/"))
+        if (is_directory(edit->path))
             put_resets(edits, newest, before, edit->path);
         else
             put(edits, edit);
@@ -150,7 +152,7 @@ static DconfdbSnapshot *own_of(const DconfdbSnapshot *snapshot)
 
 static void add_all(GPtrArray *paths, const char *list)
 {
-    for (const char *at = list; *at; at += strlen(at) + 1)
+    for (const char *at = list; *at; at = next_text(at))
         g_ptr_array_add(paths, (gpointer)at);
 }
 
@@ -241,13 +243,17 @@ void tell_others(Writer *writer, const Newest *newest, const GPtrArray *left_out
     DconfdbSnapshot *after = dconfdb_store_snapshot(writer->store), *before = own_of(writer->told), *now = own_of(after);
     g_autoptr(GArray) keys = g_array_new(FALSE, FALSE, sizeof(SeenKey));
     g_autoptr(GPtrArray) paths = g_ptr_array_new();
+    DconfdbTelling telling = {.is_other = after != writer->told, .has_edits = newest || left_out, .is_of_files = true};
     if (newest)
         g_tree_foreach(newest->edits, ask_after, keys);
     for (guint at = 0; left_out && at < left_out->len; at++)
         g_ptr_array_add(paths, g_ptr_array_index(left_out, at));
-    if (after != writer->told)
-        flag_readers(writer->name);
-    tell(writer, before, now, keys, paths, "");
+    while (tell_next_list(&telling) != DCONFDB_TELL_OVER) {
+        if (telling.list == DCONFDB_TELL_CATCH_UP)
+            flag_readers(writer->name);
+        else
+            tell(writer, before, now, keys, paths, "");
+    }
     dconfdb_snapshot_unref(before);
     dconfdb_snapshot_unref(now);
     dconfdb_snapshot_unref(writer->told);

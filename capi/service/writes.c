@@ -33,61 +33,21 @@ static void read_all(Run *run)
     }
 }
 
-static DconfdbTime asked_at(const Change *change, const char *path)
-{
-    return (DconfdbTime){{(const uint8_t *)path, strlen(path)}, change->moment, 0};
-}
-
-/* The edits of all that is written together by which directories are reset. */
-static GArray *resets_of(const Run *run)
-{
-    GArray *resets = g_array_new(FALSE, FALSE, sizeof(DconfdbTime));
-    for (const GList *at = run->first; at; at = at->next) {
-        const Change *change = at->data;
-        for (size_t i = 0; i < change->edits->len; i++) {
-            DconfdbTime asked = asked_at(change, edit_of(change, i)->path);
-            if (asked.path.at[asked.path.len - 1] == '/')
-                g_array_append_val(resets, asked);
-        }
-    }
-    return resets;
-}
-
-/* The moment in which it counts as made: what stands in it in a directory that is reset, by it or by another, isn't lost to what others set
- * before its turn. Where none is, nothing is asked. */
-static uint64_t moment_of(const Change *change, const GArray *resets)
-{
-    size_t own = change->edits->len;
-    if (resets->len == 0)
-        return change->moment;
-    g_autofree DconfdbTime *asked = g_new(DconfdbTime, own + 1);
-    for (size_t i = 0; i < own; i++)
-        asked[i] = asked_at(change, edit_of(change, i)->path);
-    return dconfdb_moment_beside(asked, own, (const DconfdbTime *)(gpointer)resets->data, resets->len, change->moment);
-}
-
-/* What can't be made of a change is left out by itself: for the queue each edit is a change of its own. */
-static Batch batch_of(const Run *run)
-{
-    Batch batch = batch_new(run->count);
-    g_autoptr(GArray) resets = resets_of(run);
-    for (const GList *at = run->first; at; at = at->next) {
-        const Change *change = at->data;
-        uint64_t moment = moment_of(change, resets);
-        for (size_t i = 0; i < change->edits->len; i++)
-            batch_add(&batch, edit_of(change, i), moment, batch.count, false);
-    }
-    return batch;
-}
-
 /* ---- what came of it; `turn` is held */
 
 /* Of what is written. What others set since is left out, too. */
-static bool is_made(const Run *run, size_t number)
+static bool is_unmade(const Run *run, size_t number)
 {
     const DconfdbTried tried = {
         .is_written = true, .is_refused = batch_is_refused(&run->batch, number), .is_left_out = batch_is_left_out(&run->batch, number), .is_now = true};
-    return !dconfdb_is_unmade(&tried);
+    return dconfdb_is_unmade(&tried);
+}
+
+/* What is told of an edit. */
+static uint32_t told_of(const Run *run, bool is_unmade)
+{
+    const DconfdbServed known = {.is_written = run->is_done, .is_unmade = is_unmade};
+    return dconfdb_served_after(DCONFDB_SERVED_MADE, &known);
 }
 
 /* What becomes of a change that was tried. */
@@ -120,17 +80,22 @@ static void answer(const Run *run, Change *change, const char *tag)
         call_refuse(call, served, served == DCONFDB_SERVED_CLOSED ? run->refusal.text : run->fault.text);
 }
 
-/* Sorts the edits of a change by whether they are made. */
+/* Sorts the edits of a change by what is told of them. */
 static GPtrArray *made_of(const Run *run, const Change *change, GPtrArray *left_out)
 {
     GPtrArray *made = g_ptr_array_new();
-    for (size_t i = 0; run->is_done && i < change->edits->len; i++) {
+    for (size_t i = 0; i < change->edits->len; i++) {
         const DconfdbEdit *edit = edit_of(change, i);
-        bool is = is_made(run, change->first + i);
-        g_ptr_array_add(is ? made : left_out, is ? (gpointer)edit : (gpointer)edit->path);
+        uint32_t told = told_of(run, is_unmade(run, change->first + i));
+        if (told == DCONFDB_SERVED_GOES_ON)
+            g_ptr_array_add(made, (gpointer)edit);
+        else if (told == DCONFDB_SERVED_LEFT_OUT)
+            g_ptr_array_add(left_out, (gpointer)edit->path);
     }
-    for (guint i = 0; run->is_done && i < change->unfit->len; i++)
-        g_ptr_array_add(left_out, g_ptr_array_index(change->unfit, i));
+    for (guint i = 0; i < change->unfit->len; i++) {
+        if (told_of(run, true) == DCONFDB_SERVED_LEFT_OUT)
+            g_ptr_array_add(left_out, g_ptr_array_index(change->unfit, i));
+    }
     return made;
 }
 
@@ -236,7 +201,7 @@ static void write_in(Run *run, const Turn *turn)
     Service *service = run->writer->service;
     DconfdbError none = DCONFDB_ERROR_INIT;
     run->refusal = run->fault = none;
-    run->batch = batch_of(run);
+    run->batch = batch_of(run->first, run->count);
     run->is_done = batch_write(&run->batch, run->writer->store, turn, &run->refusal, &run->fault);
     run->said = dconfdb_failing_met(&service->failing, !run->is_done, is_momentary(&run->fault), true, (uint64_t)g_get_monotonic_time());
 }

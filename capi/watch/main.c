@@ -64,7 +64,7 @@ static bool tell(const Watching *watch, const DconfdbSnapshot *now, DconfdbError
     Told told;
     if (!seen_otherwise(&told, watch->before, now, NULL, 0, error))
         return false;
-    for (const char *at = told.paths; is_told && *at; at += strlen(at) + 1) {
+    for (const char *at = told.paths; is_told && *at; at = next_text(at)) {
         if (paths_meet(watch->path, at)) {
             is_told = put_key(now, at);
             any = any || is_told;

@@ -246,6 +246,23 @@ def overtaken(both, driver):
     same('a key that others set while a directory\'s reset waits', found, wanted)
 
 
+def unnoted(both, driver):
+    """The same of a program that notes nothing of what it sets, as the command doesn't: its file stands for when that was."""
+    store, other = both.folder / 'unwritable', both.folder / 'unnoted'
+    for folder in (store, other):
+        subprocess.run(['rm', '-rf', folder], check=True)
+        folder.mkdir()
+    env = both.environment('ours') | {'DCONFDB_STORE': str(store)}
+    with subprocess.Popen([driver], env=env, stdin=subprocess.PIPE, stdout=subprocess.PIPE, stderr=subprocess.PIPE, text=True) as program:
+        says(program, 'change sync /o/k=1 /o/l=1\nstarve\nwrite fast /o/k 2\nwrite fast /o/l 2\n')
+        subprocess.run([driver], env=env | {'DCONFDB_STORE': str(other)}, input='change sync /o/k=5 /o/l=1\n', stdout=subprocess.DEVNULL, text=True,
+                       timeout=60, check=True)
+        (other / 'user.user').replace(store / 'user.user')
+        found = says(program, 'feed\nsync\nsettle 50\nread 0 /o/k\nread 0 /o/l\n')
+        program.communicate(timeout=60)
+    same('a key that another program set meanwhile, without a note', found[-2:], ['  5', '  2'])
+
+
 def left(both, driver):
     """A client that goes while something waits: it is written all the same, if the program lives that long."""
     out, _ = asked(both, driver, 'write fast /u/k 1\nanew\nsettle 500\nread 2 /u/k\n', lambda store: None)
@@ -254,6 +271,6 @@ def left(both, driver):
 
 def main(both):
     driver = both.compiled('driver')
-    for part in (without_files, without_room, full, no_user, damaged, held, opened_late, left_out, locked_meanwhile, whole, overtaken, left):
+    for part in (without_files, without_room, full, no_user, damaged, held, opened_late, left_out, locked_meanwhile, whole, overtaken, unnoted, left):
         part(both, driver)
     return 'stores that can\'t be written, have no user, are damaged or held: the right errors, warnings and signals'

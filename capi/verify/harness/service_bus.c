@@ -14,11 +14,12 @@ static Change a_change;
 static GDBusMethodInvocation call;
 static DconfdbServed known_now;
 static unsigned added, recorded, registered;
-static bool is_made;
+static bool is_made, is_asked;
 
 uint32_t dconfdb_served_after(uint32_t done, const DconfdbServed *known)
 {
     CHECK(done == DCONFDB_SERVED_CAME && known->size == known_now.size && known->waiting == known_now.waiting, "answer: what is known of what waits");
+    is_asked = true;
     return served_given(done, known);
 }
 
@@ -86,6 +87,7 @@ int service_calls(void)
     CHECK(call.answers + added == 1, "answer: each call is answered once, or its change waits");
     CHECK((added == 1) == is_made, "answer: what is made waits");
     CHECK(what != 0 || !call.is_refused, "answer: there is nothing to be made ready");
+    CHECK(what <= 0 || what == 2 || is_asked, "answer: what becomes of a change is asked");
     if (added == 1)
         REACHED("a change that waits");
     if (what == 1 && call.answers == 1)
@@ -101,7 +103,7 @@ int service_calls(void)
 int service_refusal(void)
 {
     uint32_t served = any_u32();
-    GIVEN(served > DCONFDB_SERVED_ACKNOWLEDGED && served <= DCONFDB_SERVED_LATE);
+    GIVEN((served > DCONFDB_SERVED_ACKNOWLEDGED && served <= DCONFDB_SERVED_LATE) || served == DCONFDB_SERVED_UNSUPPORTED);
     call_begin(&call);
     call_refuse(&call, served, served == DCONFDB_SERVED_FAILED || served == DCONFDB_SERVED_CLOSED ? "w" : NULL);
     CHECK(call.is_refused, "answer: it is refused");

@@ -114,6 +114,24 @@ uint32_t dconfdb_tell_next(const DconfdbTelling *known)
     return next;
 }
 
+uint32_t dconfdb_path_kind(const uint8_t *text, size_t len, uint32_t wanted, bool is_relative, bool *is_short)
+{
+    CHECK(__CPROVER_r_ok(text, len) && wanted == DCONFDB_PATH_WANTED && !is_relative, "memory: a path that is there");
+    *is_short = any_bool();
+    return len > 0 && text[len - 1] == '/' ? DCONFDB_PATH_DIRECTORY : any_bool() ? DCONFDB_PATH_KEY : any_u32();
+}
+
+/* As the proved call has it of lists of what stands in files, without rights and faults. */
+uint32_t tell_next_list(DconfdbTelling *telling)
+{
+    bool is_silent = !telling->is_other && !telling->has_edits;
+    CHECK(telling->is_of_files && !telling->has_rights && !telling->has_faults && !telling->is_first && !telling->ends, "answer: what is told");
+    telling->list = is_silent || telling->list >= DCONFDB_TELL_VALUES ? DCONFDB_TELL_OVER
+        : telling->list < DCONFDB_TELL_CATCH_UP                       ? DCONFDB_TELL_CATCH_UP
+                                                                      : DCONFDB_TELL_VALUES;
+    return telling->list;
+}
+
 /* ---- trees of up to three keys, in any order */
 
 enum { MOST_KEYS = 3 };
@@ -240,7 +258,7 @@ int service_tell_others(void)
         put(newest.edits, &an_edit);
     bool is_amid = any_bool();
     tell_others(&writer, is_amid ? &newest : NULL, is_amid ? &left_out : NULL);
-    CHECK((flagged > 0) == ((char *)(void *)writer.told == &new_told), "step: dconf's readers look where the file is another");
+    CHECK(flagged > 0 || (char *)(void *)writer.told != &new_told, "step: dconf's readers look where the file is another");
     if (notified == 1 && flagged == 1 && !is_amid)
         REACHED("what others changed is told");
     all_is_given_back();

@@ -105,6 +105,13 @@ uint32_t dconfdb_verdict(uint32_t code, uint32_t fault)
     return any_bool() ? DCONFDB_QUEUE_SOON : DCONFDB_QUEUE_YES;
 }
 
+uint32_t dconfdb_path_kind(const uint8_t *text, size_t len, uint32_t wanted, bool is_relative, bool *is_short)
+{
+    CHECK(__CPROVER_r_ok(text, len) && wanted == DCONFDB_PATH_WANTED && !is_relative, "memory: a path that is there");
+    *is_short = any_bool();
+    return any_bool() ? DCONFDB_PATH_DIRECTORY : any_u32();
+}
+
 bool dconfdb_is_unmade(const DconfdbTried *edit) { return edit->is_refused || edit->is_left_out; }
 
 uint64_t dconfdb_moment_beside(const DconfdbTime *change, size_t n, const DconfdbTime *others, size_t others_n, uint64_t moment)

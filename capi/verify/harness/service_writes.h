@@ -1,5 +1,6 @@
 /* The service's changes, up to three and of up to two databases, as the harnesses of service/writes.c have them. What reads, writes and tells answers in
  * any way. */
+#include "service/together.c"
 #include "service/writes.c"
 #include "glib_world.h"
 #include "machines/served.h"

@@ -6,6 +6,8 @@
 
 static inline uint32_t served_came(const DconfdbServed *known)
 {
+    if (known->is_service_db)
+        return DCONFDB_SERVED_UNSUPPORTED;
     if (known->size > 67108864)
         return DCONFDB_SERVED_TOO_LARGE;
     if (!known->is_used && known->names >= 64)
@@ -22,6 +24,12 @@ static inline uint32_t served_tried(const DconfdbServed *known)
     if (!known->has_edits)
         return DCONFDB_SERVED_ACKNOWLEDGED;
     return !known->is_written ? DCONFDB_SERVED_FAILED : known->is_closed ? DCONFDB_SERVED_CLOSED : DCONFDB_SERVED_ACKNOWLEDGED;
+}
+
+/* Of an edit. */
+static inline uint32_t served_made(const DconfdbServed *known)
+{
+    return !known->is_written ? DCONFDB_SERVED_PASSED : known->is_unmade ? DCONFDB_SERVED_LEFT_OUT : DCONFDB_SERVED_GOES_ON;
 }
 
 /* Of a path. */
@@ -50,6 +58,8 @@ static inline uint32_t served_given(uint32_t done, const DconfdbServed *known)
     case DCONFDB_SERVED_PATH:
     case DCONFDB_SERVED_ORDERED:
     case DCONFDB_SERVED_SHOWS: return served_read(done, known);
+    case DCONFDB_SERVED_MADE: return served_made(known);
+    case DCONFDB_SERVED_BESIDE: return DCONFDB_SERVED_ALONE;
     case DCONFDB_SERVED_NAMELESS: return known->had_name || known->is_bus_closed ? DCONFDB_SERVED_ENDS : DCONFDB_SERVED_TAKEN;
     default: return served_tried(known);
     }

@@ -8,15 +8,15 @@ use Rattle.dconf_making.specs.declared.ending.Told.{Told as EndingTold}
 use Rattle.dconf_making.specs.declared.ending.Told.TheVariants as ending
 use Rattle.dconf_making.specs.Endings.{told_by}
 use Rattle.dconf_making.specs.declared.sentence.FaultOf.{FaultOf}
-use Rattle.dconf_making.specs.declared.sentence.FaultOf.TheVariants.{File, Lock, Call, Change, Edits, Folder, Kind, Parsing}
+use Rattle.dconf_making.specs.declared.sentence.FaultOf.TheVariants.{File, Lock, Call, Change, Edits, Folder, Kind, Parsing, Expected}
 use Rattle.dconf_making.specs.declared.sentence.FaultMet.{FaultMet}
 use Rattle.dconf_making.specs.declared.sentence.Says.{Says}
-use Rattle.dconf_making.specs.declared.sentence.Says.TheVariants.{Nothing, Already, NoMemory, TooBig, System, NoFile, TenSeconds, Busy, Either, Unsettled, Unsynced, Double, Number, Text, TextAt, Rule, RuleAt, NoFolder, NoKind, NotUtf8, TooDeep, HoldsDouble, NoValue, NoValueAt}
+use Rattle.dconf_making.specs.declared.sentence.Says.TheVariants.{Nothing, Already, NoMemory, TooBig, System, NoFile, TenSeconds, Busy, Either, Unsettled, Unsynced, Double, Number, Text, TextAt, Rule, RuleAt, NoFolder, NoKind, NotUtf8, TooDeep, HoldsDouble, NoValue, NoValueAt, Changed}
 use Rattle.dconf_making.specs.declared.sentence.Sentence.{Sentence}
 
 abbrev pub fault_of : ℕ → FaultOf
 fault_of n = if n == 0 then File else if n == 1 then Lock else if n == 2 then Call else if n == 4 then Edits else if n == 5 then Folder else
-    if n == 6 then Kind else if n == 7 then Parsing else Change
+    if n == 6 then Kind else if n == 7 then Parsing else if n == 8 then Expected else Change
 
 -- ---- which sentence
 
@@ -65,6 +65,10 @@ parsed n =
     if n == 1 then NoMemory else if n == 8 then NotUtf8 else if n == 17 then TooDeep else if n == 19 then HoldsDouble else
     if nat_le 32 n && nat_le n 35 then NoValueAt else NoValue
 
+-- of what is seen otherwise than was expected, or of a comparison with that which failed
+abbrev pub unexpected : ℕ → Says
+unexpected n = if n == 0 then Changed else NoMemory
+
 abbrev pub said_for : FaultOf → FaultMet → Says
 said_for File f = said_of_file f.number
 said_for Lock f = locked f
@@ -74,6 +78,7 @@ said_for Change f = ended (told_by f.told) f
 said_for Folder f = sought NoFolder f.number
 said_for Kind f = sought NoKind f.number
 said_for Parsing f = parsed f.number
+said_for Expected f = unexpected f.number
 
 abbrev pub says_of : FaultMet → Says
 says_of f = said_for (fault_of f.of) f
@@ -104,6 +109,7 @@ code_for Change f = ended_code (told_by f.told) f.number
 code_for Folder f = sought_code 66 f.number
 code_for Kind f = sought_code 9 f.number
 code_for Parsing f = parsed_code (parsed f.number) f.number
+code_for Expected f = if f.number == 0 then 67 else 1
 
 -- ---- the errno, ..
 
@@ -150,6 +156,7 @@ abbrev pub named_for : FaultOf → Says → FaultMet → ℕ
 named_for Lock says f = locks_name says f
 named_for Change says f = users_name f
 named_for Edits says f = if f.has_edit then 3 else users_name f
+named_for Expected says f = 3
 named_for what says f = 0
 
 abbrev pub is_placed : Says → Bool
@@ -181,6 +188,7 @@ says_number TooDeep = 20
 says_number HoldsDouble = 21
 says_number NoValue = 22
 says_number NoValueAt = 23
+says_number Changed = 24
 
 abbrev pub sentence_of : FaultMet → Sentence
 sentence_of f = record {

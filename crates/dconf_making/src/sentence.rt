@@ -1,6 +1,6 @@
 //! What a program is told of a fault: which sentence, with which code and errno, and which file that names.
 ghost use Rattle.std.specs.Prelude.{◌≡◌};
-ghost use Rattle.dconf_making.specs.Sentences.{called, code_for, ended, ended_code, ended_errno, errno_of, fault_of, is_placed, locked, locks_name, named_for, outcome_of, parsed, parsed_code, said_for, said_of_file, says_number, says_of, sentence_of, sought, sought_code, system_errno, users_name};
+ghost use Rattle.dconf_making.specs.Sentences.{called, code_for, ended, ended_code, ended_errno, errno_of, fault_of, is_placed, locked, locks_name, named_for, outcome_of, parsed, parsed_code, said_for, said_of_file, says_number, says_of, sentence_of, sought, sought_code, system_errno, unexpected, users_name};
 
 use crate::ending::{Told as EndingTold, told_by};
 use dconf_verdicts::{Told, told_code, told_of};
@@ -19,9 +19,9 @@ const USUAL_WAIT: u32 = 10000;
 #[derive(Clone, Copy)]
 pub struct FaultMet {
     /// Of what it is: 0 a file, 1 the lock by which programs take turns, 2 a proved call, 4 the one that makes a file of edits, 5 the look for a
-    /// store's folder, 6 for its kind, 7 the reading of a value's text, else a change that ended.
+    /// store's folder, 6 for its kind, 7 the reading of a value's text, 8 the one that compares with what was expected, else a change that ended.
     pub of: u32,
-    /// The errno; of a call and of a text, the number of its fault; 0 of a look that failed by no errno.
+    /// The errno; of a call and of a text, the number of its fault; 0 of a look that failed by no errno, and of what is seen otherwise.
     pub number: u32,
     /// Of a change, what is told, as [`DconfdbEnding`](crate::DconfdbEnding) has it, and what has become of its file.
     pub told: u32,
@@ -53,6 +53,7 @@ pub enum FaultOf {
     Folder,
     Kind,
     Parsing,
+    Expected,
 }
 
 /// The sentence.
@@ -95,6 +96,8 @@ pub enum Says {
     HoldsDouble,
     NoValue,
     NoValueAt,
+    /// That something else is seen at an edit's path than was expected.
+    Changed,
 }
 
 /// What a program is told. The numbers of the sentences are those of [`says_number`]; the code is the library's header's, and so is the outcome.
@@ -147,6 +150,7 @@ fn fault_of(number: u32) -> FaultOf
         5 => FaultOf::Folder,
         6 => FaultOf::Kind,
         7 => FaultOf::Parsing,
+        8 => FaultOf::Expected,
         _ => FaultOf::Change,
     }
 }
@@ -163,7 +167,18 @@ fn said_for(of: FaultOf, met: &FaultMet) -> Says
         FaultOf::Folder => sought(Says::NoFolder, met.number),
         FaultOf::Kind => sought(Says::NoKind, met.number),
         FaultOf::Parsing => parsed(met.number),
+        FaultOf::Expected => unexpected(met.number),
     }
+}
+
+/// Something else is seen; or the comparison failed, which takes memory.
+fn unexpected(number: u32) -> Says
+    ensures { result ≡ unexpected number }
+{
+    if number == 0 {
+        return Says::Changed;
+    }
+    Says::NoMemory
 }
 
 fn said_of_file(errno: u32) -> Says
@@ -255,6 +270,8 @@ fn code_for(of: FaultOf, met: &FaultMet) -> u32
         FaultOf::Folder => sought_code(66, met.number),
         FaultOf::Kind => sought_code(9, met.number),
         FaultOf::Parsing => parsed_code(parsed(met.number), met.number),
+        FaultOf::Expected if met.number == 0 => 67,
+        FaultOf::Expected => 1,
     }
 }
 
@@ -331,6 +348,7 @@ fn named_for(of: FaultOf, says: Says, met: &FaultMet) -> u32
         FaultOf::Change => users_name(met),
         FaultOf::Edits if met.has_edit => 3,
         FaultOf::Edits => users_name(met),
+        FaultOf::Expected => 3,
         _ => 0,
     }
 }
@@ -390,5 +408,6 @@ pub fn says_number(says: Says) -> u32
         Says::HoldsDouble => 21,
         Says::NoValue => 22,
         Says::NoValueAt => 23,
+        Says::Changed => 24,
     }
 }

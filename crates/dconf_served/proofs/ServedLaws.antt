@@ -2,8 +2,8 @@
 use Rattle.std.proofs.Common.{◌≡◌, ◌≢◌, ◌⊎◌, inl, inr, arith, Bool, true, false, not, refl, sym, ◌∙◌}
 use Rattle.std.specs.Prelude.{ℕ, ◌&&◌, ◌||◌, ◌==◌, if◌then◌else◌, nat_lt, nat_le}
 use Rattle.dconf_served.specs.declared.served.Served.{Served}
-use Rattle.dconf_served.specs.declared.served.Served.TheVariants.{GoesOn, Acknowledged, Failed, Closed, Odd, TooLarge, TooMuch, TooManyNames, Late, Profiles, Alone, PassedOver, LeftOut, Replaces}
-use Rattle.dconf_served.specs.Served.{has_room, is_odd, is_path, lasts, NothingIsAnsweredUnwritten, WhatIsSentCounts, WhatWaitsIsBounded, WhoWaitsIsToldAtTheEnd, LocksCountWhereTheyAreKnown}
+use Rattle.dconf_served.specs.declared.served.Served.TheVariants.{GoesOn, Acknowledged, Failed, Closed, Odd, TooLarge, TooMuch, TooManyNames, Late, Profiles, Alone, PassedOver, LeftOut, Replaces, Unsupported}
+use Rattle.dconf_served.specs.Served.{has_room, is_odd, is_path, lasts, NothingIsAnsweredUnwritten, WhatIsMadeIsTold, WhatIsSentCounts, WhatWaitsIsBounded, WhoWaitsIsToldAtTheEnd, LocksCountWhereTheyAreKnown}
 
 -- ---- what was tried, by whether it is written, lasts, is at its end, is odd, has edits, and is closed
 
@@ -42,22 +42,28 @@ waits false false true o e c a = absurd (rest_answers false o e c a)
 waits false true s o e c a = absurd (rest_answers false o e c a)
 waits true l s o e c a = absurd (rest_answers true o e c a)
 
--- ---- what came, by whether it is large, of one name too many, and has room
+-- ---- what came, by whether it is of such a database, large, of one name too many, and has room
 
-abbrev came_by : Bool → Bool → Bool → Served
-came_by large many room = if large then TooLarge else if many then TooManyNames else if room then GoesOn else TooMuch
+abbrev came_by : Bool → Bool → Bool → Bool → Served
+came_by other large many room = if other then Unsupported else if large then TooLarge else if many then TooManyNames else if room then GoesOn else TooMuch
 
-goes_on : (large many room : Bool) → came_by large many room ≡ GoesOn → (large ≡ false) × (many ≡ false) × (room ≡ true)
-goes_on true many room e = absurd (let bad : TooLarge ≡ GoesOn = e in cc)
-goes_on false true room e = absurd (let bad : TooManyNames ≡ GoesOn = e in cc)
-goes_on false false true e = (refl, refl, refl)
-goes_on false false false e = absurd (let bad : TooMuch ≡ GoesOn = e in cc)
+goes_on : (other large many room : Bool) → came_by other large many room ≡ GoesOn → (large ≡ false) × (many ≡ false) × (room ≡ true)
+goes_on true large many room e = absurd (let bad : Unsupported ≡ GoesOn = e in cc)
+goes_on false true many room e = absurd (let bad : TooLarge ≡ GoesOn = e in cc)
+goes_on false false true room e = absurd (let bad : TooManyNames ≡ GoesOn = e in cc)
+goes_on false false false true e = (refl, refl, refl)
+goes_on false false false false e = absurd (let bad : TooMuch ≡ GoesOn = e in cc)
 
-unacknowledged : (large many room : Bool) → came_by large many room ≢ Acknowledged
-unacknowledged true many room e = let bad : TooLarge ≡ Acknowledged = e in cc
-unacknowledged false true room e = let bad : TooManyNames ≡ Acknowledged = e in cc
-unacknowledged false false true e = let bad : GoesOn ≡ Acknowledged = e in cc
-unacknowledged false false false e = let bad : TooMuch ≡ Acknowledged = e in cc
+is_ours : (other large many room : Bool) → came_by other large many room ≡ GoesOn → other ≡ false
+is_ours true large many room e = absurd (let bad : Unsupported ≡ GoesOn = e in cc)
+is_ours false large many room e = refl
+
+unacknowledged : (other large many room : Bool) → came_by other large many room ≢ Acknowledged
+unacknowledged true large many room e = let bad : Unsupported ≡ Acknowledged = e in cc
+unacknowledged false true many room e = let bad : TooLarge ≡ Acknowledged = e in cc
+unacknowledged false false true room e = let bad : TooManyNames ≡ Acknowledged = e in cc
+unacknowledged false false false true e = let bad : GoesOn ≡ Acknowledged = e in cc
+unacknowledged false false false false e = let bad : TooMuch ≡ Acknowledged = e in cc
 
 unread : (odd : Bool) → (if odd then Odd else GoesOn) ≢ Acknowledged
 unread true e = let bad : Odd ≡ Acknowledged = e in cc
@@ -152,6 +158,23 @@ own : (users : Bool) → (if users then GoesOn else PassedOver) ≡ GoesOn → u
 own true e = refl
 own false e = absurd (let bad : PassedOver ≡ GoesOn = e in cc)
 
+abbrev told_by : Bool → Bool → Served
+told_by written unmade = if not written then PassedOver else if unmade then LeftOut else GoesOn
+
+told_made : (written unmade : Bool) → told_by written unmade ≡ GoesOn → (written ≡ true) × (unmade ≡ false)
+told_made false unmade e = absurd (let bad : PassedOver ≡ GoesOn = e in cc)
+told_made true true e = absurd (let bad : LeftOut ≡ GoesOn = e in cc)
+told_made true false e = (refl, refl)
+
+told_left : (written unmade : Bool) → written ≡ true → unmade ≡ true → told_by written unmade ≡ LeftOut
+told_left false unmade w u = absurd (let bad : false ≡ true = w in cc)
+told_left true false w u = absurd (let bad : false ≡ true = u in cc)
+told_left true true w u = refl
+
+untold : (written unmade : Bool) → written ≡ false → told_by written unmade ≡ PassedOver
+untold false unmade w = refl
+untold true unmade w = absurd (let bad : true ≡ false = w in cc)
+
 -- ---- the laws
 
 pub nothing_is_answered_unwritten : NothingIsAnsweredUnwritten
@@ -160,15 +183,16 @@ nothing_is_answered_unwritten k = record {
   waits = waits k.is_written (lasts k) k.ends (is_odd k) k.has_edits k.is_closed;
   written = λ w e. is_not k.is_written w (waits k.is_written (lasts k) k.ends (is_odd k) k.has_edits k.is_closed e).0;
   lasting = λ l e. is_not (lasts k) l (waits k.is_written (lasts k) k.ends (is_odd k) k.has_edits k.is_closed e).1;
-  before = (unacknowledged (nat_lt 67108864 k.size) (not k.is_used && nat_le 64 k.names) (has_room k), unread (is_odd k));
+  before = (unacknowledged k.is_service_db (nat_lt 67108864 k.size) (not k.is_used && nat_le 64 k.names) (has_room k), unread (is_odd k));
 }
 
 pub what_waits_is_bounded : WhatWaitsIsBounded
 what_waits_is_bounded k = record {
-  size = λ e. (goes_on (nat_lt 67108864 k.size) (not k.is_used && nat_le 64 k.names) (has_room k) e).0;
-  waiting = λ e. both (nat_lt k.waiting 10000) (nat_lt k.waiting_size 268435456) (goes_on (nat_lt 67108864 k.size) (not k.is_used && nat_le 64 k.names) (has_room k) e).2;
-  names = λ e u. unused k.is_used (nat_le 64 k.names) (goes_on (nat_lt 67108864 k.size) (not k.is_used && nat_le 64 k.names) (has_room k) e).1 u;
+  size = λ e. (goes_on k.is_service_db (nat_lt 67108864 k.size) (not k.is_used && nat_le 64 k.names) (has_room k) e).0;
+  waiting = λ e. both (nat_lt k.waiting 10000) (nat_lt k.waiting_size 268435456) (goes_on k.is_service_db (nat_lt 67108864 k.size) (not k.is_used && nat_le 64 k.names) (has_room k) e).2;
+  names = λ e u. unused k.is_used (nat_le 64 k.names) (goes_on k.is_service_db (nat_lt 67108864 k.size) (not k.is_used && nat_le 64 k.names) (has_room k) e).1 u;
   told = named (nat_lt 16777216 k.size);
+  kind = is_ours k.is_service_db (nat_lt 67108864 k.size) (not k.is_used && nat_le 64 k.names) (has_room k);
 }
 
 at_the_end : (amid : Bool) (w l s o e c : Bool) → ((if amid then GoesOn else Late) ≡ Late) ⊎ ((amid ≡ true) × (s ≡ true → by w l s o e c ≢ GoesOn))
@@ -197,4 +221,12 @@ what_is_sent_counts k = record {
   covered = passed_over k.is_again k.is_covered k.sets;
   once = once k.is_again k.is_covered k.sets;
   own = own k.is_users;
+}
+
+pub what_is_made_is_told : WhatIsMadeIsTold
+what_is_made_is_told k = record {
+  made = told_made k.is_written k.is_unmade;
+  left_out = told_left k.is_written k.is_unmade;
+  unwritten = untold k.is_written k.is_unmade;
+  alone = refl;
 }

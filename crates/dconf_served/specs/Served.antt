@@ -1,7 +1,7 @@
 -- What the D-Bus service answers to a call that changes settings, and when it ends.
 use Rattle.std.specs.Prelude.{ℕ, ◌≡◌, ◌≢◌, ◌⊎◌, Bool, true, false, not, ◌&&◌, ◌||◌, if◌then◌else◌, ◌==◌, nat_lt, nat_le}
 use Rattle.dconf_served.specs.declared.served.Served.{Served}
-use Rattle.dconf_served.specs.declared.served.Served.TheVariants.{GoesOn, Acknowledged, Failed, Closed, Odd, TooLarge, TooMuch, TooManyNames, Late, Later, Profiles, Alone, Ends, Taken, PassedOver, LeftOut, Replaces}
+use Rattle.dconf_served.specs.declared.served.Served.TheVariants.{GoesOn, Acknowledged, Failed, Closed, Odd, TooLarge, TooMuch, TooManyNames, Late, Later, Profiles, Alone, Ends, Taken, PassedOver, LeftOut, Replaces, Unsupported}
 use Rattle.dconf_served.specs.declared.served.ServedKnown.{ServedKnown}
 
 -- ---- when it came
@@ -10,9 +10,11 @@ use Rattle.dconf_served.specs.declared.served.ServedKnown.{ServedKnown}
 abbrev pub has_room : ServedKnown → Bool
 has_room k = nat_lt k.waiting 10000 && nat_lt k.waiting_size 268435456
 
--- of 64 MiB at most, and of 64 databases
+-- of 64 MiB at most, and of 64 databases; of none that a profile names by `service-db`, which ours can't
 abbrev pub came : ServedKnown → Served
-came k = if nat_lt 67108864 k.size then TooLarge else if not k.is_used && nat_le 64 k.names then TooManyNames else if has_room k then GoesOn else TooMuch
+came k =
+    if k.is_service_db then Unsupported else if nat_lt 67108864 k.size then TooLarge else
+    if not k.is_used && nat_le 64 k.names then TooManyNames else if has_room k then GoesOn else TooMuch
 
 -- ---- when it is read
 
@@ -50,7 +52,15 @@ tried k =
     if not (is_settled k) then GoesOn else if is_odd k then Odd else if not k.has_edits then Acknowledged else
     if not k.is_written then Failed else if k.is_closed then Closed else Acknowledged
 
+-- an edit of it is refused by itself, whatever becomes of those beside it
+abbrev pub beside : ServedKnown → Served
+beside k = Alone
+
 -- ---- when it is told
+
+-- an edit: it is made, or isn't, which is told as well; of what isn't on the disk nothing is
+abbrev pub made : ServedKnown → Served
+made k = if not k.is_written then PassedOver else if k.is_unmade then LeftOut else GoesOn
 
 -- 16 MiB of paths are named at most
 abbrev pub told : ServedKnown → Served
@@ -86,7 +96,8 @@ placed k = if not k.is_open || not k.is_profile_open then Failed else if k.has_s
 abbrev pub served_after : ℕ → ServedKnown → Served
 served_after done k = if done == 0 then came k else if done == 1 then read k else if done == 3 then told k else
     if done == 4 then ended k else if done == 5 then joined k else if done == 6 then placed k else if done == 7 then left k else
-    if done == 8 then named k else if done == 9 then entered k else if done == 10 then ordered k else if done == 11 then shown k else tried k
+    if done == 8 then named k else if done == 9 then entered k else if done == 10 then ordered k else if done == 11 then shown k else
+    if done == 12 then made k else if done == 13 then beside k else tried k
 
 abbrev pub served_number : Served → ℕ
 served_number GoesOn = 0
@@ -106,6 +117,7 @@ served_number Taken = 13
 served_number PassedOver = 14
 served_number LeftOut = 15
 served_number Replaces = 16
+served_number Unsupported = 17
 
 -- ---- the laws
 
@@ -127,6 +139,7 @@ pub record IsBounded (k : ServedKnown) : Type 0 where
   pub waiting : came k ≡ GoesOn → (nat_lt k.waiting 10000 ≡ true) × (nat_lt k.waiting_size 268435456 ≡ true)
   pub names : came k ≡ GoesOn → k.is_used ≡ false → nat_le 64 k.names ≡ false
   pub told : served_after 3 k ≡ GoesOn → nat_lt 16777216 k.size ≡ false
+  pub kind : came k ≡ GoesOn → k.is_service_db ≡ false
 
 abbrev pub WhatWaitsIsBounded : Type 0
 WhatWaitsIsBounded = (k : ServedKnown) → IsBounded k
@@ -168,3 +181,14 @@ pub record CountsAsSent (k : ServedKnown) : Type 0 where
 
 abbrev pub WhatIsSentCounts : Type 0
 WhatIsSentCounts = (k : ServedKnown) → CountsAsSent k
+
+-- what is written is told, edit by edit
+pub record IsToldAsMade (k : ServedKnown) : Type 0 where
+  pub made : served_after 12 k ≡ GoesOn → (k.is_written ≡ true) × (k.is_unmade ≡ false)
+  pub left_out : k.is_written ≡ true → k.is_unmade ≡ true → served_after 12 k ≡ LeftOut
+  pub unwritten : k.is_written ≡ false → served_after 12 k ≡ PassedOver
+  -- what can't be made takes nothing with it
+  pub alone : served_after 13 k ≡ Alone
+
+abbrev pub WhatIsMadeIsTold : Type 0
+WhatIsMadeIsTold = (k : ServedKnown) → IsToldAsMade k

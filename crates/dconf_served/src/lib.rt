@@ -4,7 +4,7 @@
 //! Nothing is kept here: each call is told what is known, and says what becomes of the change.
 #![tactic(auto)]
 
-ghost use Rattle.dconf_served.specs.Served.{LocksCountWhereTheyAreKnown, NothingIsAnsweredUnwritten, WhatIsSentCounts, WhatWaitsIsBounded, WhoWaitsIsToldAtTheEnd};
+ghost use Rattle.dconf_served.specs.Served.{LocksCountWhereTheyAreKnown, NothingIsAnsweredUnwritten, WhatIsMadeIsTold, WhatIsSentCounts, WhatWaitsIsBounded, WhoWaitsIsToldAtTheEnd};
 
 mod served;
 
@@ -16,8 +16,8 @@ pub fn nothing_is_answered_unwritten()
     ensures { NothingIsAnsweredUnwritten }
 {}
 
-/// However much is asked for, so many changes wait at most, each of so many bytes, and of so many databases; and a notice names so many
-/// bytes of paths.
+/// However much is asked for, so many changes wait at most, each of so many bytes, and of so many databases, none of which is one that no profile
+/// can name; and a notice names so many bytes of paths.
 pub fn what_waits_is_bounded()
     ensures { WhatWaitsIsBounded }
 {}
@@ -37,4 +37,9 @@ pub fn locks_count_where_they_are_known()
 /// for it; and who listens is told of no site's database.
 pub fn what_is_sent_counts()
     ensures { WhatIsSentCounts }
+{}
+
+/// Of each edit of a change that is written it is told that it is made, or that it isn't; and of no other. What can't be made is left out by itself.
+pub fn what_is_made_is_told()
+    ensures { WhatIsMadeIsTold }
 {}

@@ -1,6 +1,6 @@
 //! What becomes of a call that changes settings, and of the service that takes it.
 ghost use Rattle.std.specs.Prelude.{◌≡◌};
-ghost use Rattle.dconf_served.specs.Served.{came, ended, entered, has_room, is_odd, is_path, is_settled, joined, lasts, left, named, ordered, placed, read, served_after, served_number, shown, told, tried};
+ghost use Rattle.dconf_served.specs.Served.{came, ended, entered, has_room, is_odd, is_path, is_settled, joined, lasts, left, made, named, ordered, placed, read, served_after, served_number, shown, told, tried};
 
 /// A change has so many bytes at most.
 const LARGEST: u64 = 67_108_864;
@@ -44,7 +44,7 @@ pub enum Served {
     Later,
     /// Its database is the profile's, with its locks.
     Profiles,
-    /// Its database is one by itself.
+    /// Its database is one by itself; or an edit is made, or not, by itself.
     Alone,
     /// The service ends, and takes what it was sent before.
     Ends,
@@ -56,6 +56,8 @@ pub enum Served {
     LeftOut,
     /// It counts in the place of the one before it.
     Replaces,
+    /// It is refused: no such database is served.
+    Unsupported,
 }
 
 /// What is known of a change, and of those that wait.
@@ -104,12 +106,16 @@ pub struct ServedKnown {
     pub sets: bool,
     /// A database is the user's own.
     pub is_users: bool,
+    /// An edit isn't made, be what was tried on the disk: its key may not be written, or others have set it since.
+    pub is_unmade: bool,
+    /// Its database is one that a profile of dconf's names by `service-db`.
+    pub is_service_db: bool,
 }
 
 /// What becomes of a change: 0 it came, 1 it is read, 3 what is seen otherwise by it is told, 4 the service ends before it is answered, 5 it
 /// waits behind those that are taken, 6 the stores were opened that may have its database, and else it was tried to write it. Of what it says: 9 a
-/// path is read, 10 it comes behind those before it in the order of their bytes. And of the service: 7 each caller is answered who can be at its
-/// end, 8 it hasn't its name, 11 it tells of a database.
+/// path is read, 10 it comes behind those before it in the order of their bytes, 12 an edit was tried, and is told of, 13 it stands beside others
+/// of its change. And of the service: 7 each caller is answered who can be at its end, 8 it hasn't its name, 11 it tells of a database.
 pub fn served_after(done: u32, known: &ServedKnown) -> Served
     ensures { result ≡ served_after done known.now }
 {
@@ -125,13 +131,15 @@ pub fn served_after(done: u32, known: &ServedKnown) -> Served
         9 => entered(known),
         10 => ordered(known),
         11 => shown(known),
+        12 => made(known),
+        13 => Served::Alone, // a locked key keeps no other one from being set
         _ => tried(known),
     }
 }
 
 /// The same as a number: 0 it goes on, 1 it is acknowledged, 2 failed, 3 closed, 4 odd, 5 too large, 6 too much waits, 7 too many databases, 8
 /// the service ends, 9 it is for a later write, 10 the profile's store has it, 11 a store of its own has it, 12 the service ends in peace, 13
-/// another one has the name, 14 it is passed over, 15 left out, 16 it takes the place of the one before it.
+/// another one has the name, 14 it is passed over, 15 left out, 16 it takes the place of the one before it, 17 no such database is served.
 pub fn served_number(done: u32, known: &ServedKnown) -> u32
     ensures { result ≡ served_number (served_after done known.now) }
 {
@@ -153,12 +161,16 @@ pub fn served_number(done: u32, known: &ServedKnown) -> u32
         Served::PassedOver => 14,
         Served::LeftOut => 15,
         Served::Replaces => 16,
+        Served::Unsupported => 17,
     }
 }
 
 fn came(known: &ServedKnown) -> Served
     ensures { result ≡ came known.now }
 {
+    if known.is_service_db {
+        return Served::Unsupported;
+    }
     if known.size > LARGEST {
         return Served::TooLarge;
     }
@@ -220,6 +232,19 @@ fn ordered(known: &ServedKnown) -> Served
     }
     if known.is_covered && !known.sets {
         return Served::PassedOver;
+    }
+    Served::GoesOn
+}
+
+/// Who listens may have taken for made what isn't; of a change that failed its caller is told.
+fn made(known: &ServedKnown) -> Served
+    ensures { result ≡ made known.now }
+{
+    if !known.is_written {
+        return Served::PassedOver;
+    }
+    if known.is_unmade {
+        return Served::LeftOut;
     }
     Served::GoesOn
 }

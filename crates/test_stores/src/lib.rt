@@ -7,8 +7,6 @@ mod calls;
 #[cfg(test)]
 mod calls_rows;
 #[cfg(test)]
-mod changesets;
-#[cfg(test)]
 mod engines;
 #[cfg(test)]
 mod examples;
@@ -17,44 +15,24 @@ mod folders;
 #[cfg(test)]
 mod homes;
 #[cfg(test)]
-mod left;
-#[cfg(test)]
 mod machines;
 #[cfg(test)]
 mod made;
 #[cfg(test)]
 mod maps;
 #[cfg(test)]
-mod options;
-#[cfg(test)]
-mod parts;
-#[cfg(test)]
 mod places;
 #[cfg(test)]
 mod questions;
 #[cfg(test)]
-mod roles;
-#[cfg(test)]
-mod rounds;
-#[cfg(test)]
 mod seen;
-#[cfg(test)]
-mod sentences;
-#[cfg(test)]
-mod served;
 #[cfg(test)]
 mod stores;
 #[cfg(test)]
 mod tables;
-#[cfg(test)]
-mod takings;
 #[cfg(test)]
 mod texts;
 #[cfg(test)]
 mod times;
 #[cfg(test)]
 mod turns;
-#[cfg(test)]
-mod verdicts;
-#[cfg(test)]
-mod watches;

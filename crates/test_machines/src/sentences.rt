@@ -105,6 +105,16 @@ fn are_sought() -> bool {
         && is_said_so(7, 36, 22, 21)
 }
 
+/// Of what was expected to be seen.
+fn are_expected() -> bool {
+    let changed = FaultMet {
+        of: 8,
+        number: 0,
+        ..OF_FILE
+    };
+    is_said_so(8, 0, 24, 67) && is_said_so(8, 1, 2, 1) && is_named(&changed, 67, 0, 3)
+}
+
 fn are_named() -> bool {
     let edits = FaultMet {
         of: 4,
@@ -240,6 +250,6 @@ fn are_told() -> bool {
 #[test]
 fn faults_are_told(rt: HostRuntime) -> Result<(), Fail> {
     assert!(rt; are_said() && are_renamed() && are_looked_at() && are_noted() && are_told());
-    assert!(rt; are_sought() && are_named() && own_changes_are_known());
+    assert!(rt; are_sought() && are_expected() && are_named() && own_changes_are_known());
     Ok(())
 }

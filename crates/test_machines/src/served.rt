@@ -28,6 +28,8 @@ const PLAIN: ServedKnown = ServedKnown {
     is_covered: false,
     sets: true,
     is_users: true,
+    is_unmade: false,
+    is_service_db: false,
 };
 
 const ODD: ServedKnown = ServedKnown {
@@ -214,6 +216,33 @@ fn sites_are_not_told() -> bool {
     served_number(11, &PLAIN) == 0 && served_number(11, &sites) == 14
 }
 
+fn each_edit_is_told_of() -> bool {
+    let written = ServedKnown {
+        is_written: true,
+        ..PLAIN
+    };
+    let unmade = ServedKnown {
+        is_unmade: true,
+        ..written
+    };
+    let failed = ServedKnown {
+        is_written: false,
+        ..unmade
+    };
+    served_number(12, &written) == 0
+        && served_number(12, &unmade) == 15
+        && served_number(12, &failed) == 14
+        && served_number(13, &PLAIN) == 11
+}
+
+fn no_service_db_is_served() -> bool {
+    let other = ServedKnown {
+        is_service_db: true,
+        ..PLAIN
+    };
+    served_number(0, &other) == 17
+}
+
 #[test]
 fn calls_are_answered_once_they_are_written(rt: HostRuntime) -> Result<(), Fail> {
     assert!(rt; too_much_is_refused() && names_are_bounded());
@@ -221,5 +250,6 @@ fn calls_are_answered_once_they_are_written(rt: HostRuntime) -> Result<(), Fail>
     assert!(rt; who_waits_is_told_at_the_end() && a_name_has_a_store());
     assert!(rt; one_database_is_written_at_once() && who_has_no_name_ends());
     assert!(rt; each_path_counts() && the_last_of_a_path_counts() && sites_are_not_told());
+    assert!(rt; each_edit_is_told_of() && no_service_db_is_served());
     Ok(())
 }
