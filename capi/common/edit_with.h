@@ -4,7 +4,7 @@
 
 #include "dconfdb.h"
 
-#include <glib.h>
+#include <gio/gio.h>
 
 /* What the library is asked for: the value, which stays, is set at the path; or, of NULL, it is reset. */
 static inline DconfdbEdit edit_with(const char *path, GVariant *value)
