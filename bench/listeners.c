@@ -1,7 +1,7 @@
-/* Programs over GSettings that hear of each other, for `bench/listeners`. Times are in microseconds of the monotonic clock.
+/* Programs over GSettings that hear of each other, for `bench/listeners` and `bench/service`. Times are in microseconds of the monotonic clock.
  *
  *   listeners hears COUNT           prints `ready`, and then the time at each of so many changes of the name
- *   listeners sets COUNT PAUSE      sets the name so many times, each after so many milliseconds, and prints the time before it
+ *   listeners sets COUNT PAUSE      sets the name so many times, each after so many milliseconds, and prints the times before it and once it is kept
  */
 #include <gio/gio.h>
 #include <inttypes.h>
@@ -16,17 +16,17 @@ typedef struct {
     int left;
 } Hearing;
 
-static void tell(void)
+static int64_t now(void)
 {
-    printf("%" PRId64 "\n", (int64_t)g_get_monotonic_time());
-    fflush(stdout);
+    return g_get_monotonic_time();
 }
 
 static void hear(GSettings *desk, const char *key, gpointer data)
 {
     (void)desk, (void)key;
     Hearing *hearing = data;
-    tell();
+    printf("%" PRId64 "\n", now());
+    fflush(stdout);
     if (--hearing->left == 0)
         g_main_loop_quit(hearing->loop);
 }
@@ -48,11 +48,12 @@ static int sets(GSettings *desk, int count, int pause)
     char name[32]; /* another one each time */
     for (int i = 0; i < count; i++) {
         g_usleep((gulong)pause * MILLISECOND);
-        snprintf(name, sizeof name, "%" PRId64, (int64_t)g_get_monotonic_time());
-        tell();
+        int64_t before = now();
+        snprintf(name, sizeof name, "%" PRId64, before);
         if (!g_settings_set_string(desk, "name", name))
             return 3;
         g_settings_sync();
+        printf("%" PRId64 " %" PRId64 "\n", before, now());
     }
     return 0;
 }

@@ -1,7 +1,8 @@
 /* dconfdb, as it is installed: `watch` and `lint` are programs of their own in the folder LIBEXEC, and every other
  * command is the proved program's, which is handed the arguments as they are, by dconfdb-home if the store's folder may be in
- * the home that the system has for the user. Run by the name `dconf` it has dconf's command line, of which `watch PATH` is the program of that. */
-#define _DEFAULT_SOURCE
+ * the home that the system has for the user. Run by the name `dconf` it has dconf's command line, of which `watch PATH` is the program of that, and
+ * `blame` and what DCONF_BLAME asks for are dconfdb-blame's, where it is installed. */
+#define _GNU_SOURCE
 #define _POSIX_C_SOURCE 200809L
 #include "environment.h"
 #include "stood.h"
@@ -21,7 +22,7 @@ typedef struct {
 static Program proved = {"", LIBEXEC "/dconfdb", ""}, homeless = {"", LIBEXEC "/dconfdb-home", ""};
 static Program others[] = {{"watch", LIBEXEC "/dconfdb-watch", "dconfdb watch"}, {"lint", LIBEXEC "/dconfdb-lint", "dconfdb lint"}};
 
-static Program watched = {"watch", LIBEXEC "/dconfdb-watch", "dconf watch"};
+static Program watched = {"watch", LIBEXEC "/dconfdb-watch", "dconf watch"}, blamed = {"blame", LIBEXEC "/dconfdb-blame", "dconf blame"};
 
 static bool is_dconf(const char *name)
 {
@@ -37,10 +38,30 @@ static bool is_path(const char *text)
     return kind != DCONFDB_PATH_NOT_ABSOLUTE && kind != DCONFDB_PATH_DOUBLE_SLASH;
 }
 
-/* `dconf watch PATH`, and the proved program for any other words. */
+/* `dconf watch PATH`, `dconf blame`, and the proved program for any other words. */
 static Program *dconfs_program(int count, char **words)
 {
-    return count == 3 && strcmp(words[1], "watch") == 0 && is_path(words[2]) ? &watched : &proved;
+    if (count == 3 && strcmp(words[1], "watch") == 0 && is_path(words[2]))
+        return &watched;
+    return count == 2 && strcmp(words[1], "blame") == 0 && access(blamed.file, X_OK) == 0 ? &blamed : &proved;
+}
+
+static bool is_changing(const char *word)
+{
+    return strcmp(word, "write") == 0 || strcmp(word, "reset") == 0 || strcmp(word, "load") == 0;
+}
+
+/* Becomes the program by dconfdb-blame, or returns. */
+static void run_noted(const Program *program, int count, char **words)
+{
+    char **noted = calloc((size_t)count + 3, sizeof *noted);
+    if (!noted)
+        return;
+    noted[0] = blamed.name;
+    noted[1] = (char *)(uintptr_t)program->file;
+    memcpy(noted + 2, words, (size_t)count * sizeof *words);
+    execv(blamed.file, noted);
+    free(noted);
 }
 
 static Program *program_of(const char *word)
@@ -81,8 +102,11 @@ int main(int count, char **words)
         words = asks_help ? helped : words + 1;
         words[0] = program->name;
     }
-    if (program == &proved)
+    if (program == &proved) {
         program = proved_program();
+        if (is_dconfs && is_changing(words[1]) && secure_getenv("DCONF_BLAME"))
+            run_noted(program, count, words);
+    }
     execv(program->file, words);
     fprintf(stderr, "error: %s %s\n", file_fault(DCONFDB_TO_LOOK, errno) == 0 ? "NoFile" : "Device", program->file);
     return 1;

@@ -1,5 +1,5 @@
 """Homes for programs over GSettings: the module, which is put into no folder of the system, schemas, a bus, and an environment with nothing of the
-caller's in it. For tests/gsettings and bench/gsettings."""
+caller's in it. For tests/gsettings, and for benches of programs over GSettings."""
 import os
 import subprocess
 import sys
@@ -44,6 +44,31 @@ def schemas(folder):
     (folder / 'schemas').mkdir()
     subprocess.run(['glib-compile-schemas', '--strict', f'--targetdir={folder}/schemas', HERE], check=True)
     return folder / 'schemas'
+
+
+def service(folder):
+    """Our service: the program that DCONFDB_SERVICE names, or one that is made."""
+    made = os.environ.get('DCONFDB_SERVICE')
+    if made:
+        return Path(made).resolve()
+    build = [frame.TOP / 'capi' / 'build', '--service']
+    if subprocess.run(build, env=os.environ | {'OUT': str(folder / 'service')}, stdout=subprocess.DEVNULL, check=False).returncode:
+        raise Stop('capi/build made no service')
+    return folder / 'service' / 'dconfdb-service'
+
+
+def has_service(folder, program):
+    """What starts a program on a bus of its own, on which this is dconf's service."""
+    (folder / 'services').mkdir(parents=True)
+    (folder / 'services' / 'ca.desrt.dconf.service').write_text(f'[D-BUS Service]\nName=ca.desrt.dconf\nExec={program}\n', encoding='utf-8')
+    (folder / 'bus.conf').write_text(BUS.format(folder=folder), encoding='utf-8')
+    return ['dbus-run-session', f'--config-file={folder}/bus.conf', '--']
+
+
+def starts_service():
+    """As at a login: who only listens starts none."""
+    words = ['--session', '--dest', 'org.freedesktop.DBus', '--object-path', '/org/freedesktop/DBus', '--method', 'org.freedesktop.DBus.StartServiceByName', 'ca.desrt.dconf', '0']
+    subprocess.run(['gdbus', 'call', *words], stdout=subprocess.DEVNULL, check=True)
 
 
 def bus(folder):

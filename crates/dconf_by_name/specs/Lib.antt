@@ -5,3 +5,5 @@ pub mod LeftOut
 pub mod Completions
 pub mod Names
 pub mod Values
+pub mod Dumps
+pub mod Meant

@@ -33,13 +33,13 @@ usage_of Read = codes "read [-d] KEY\n\nPrint the value of KEY, or nothing if it
 usage_of ListIt = codes "list DIR\n\nPrint the keys and the directories directly below DIR.\n"
 usage_of ListLocks = codes "list-locks DIR\n\nPrint the locks on DIR and on paths below it.\n"
 usage_of Write = codes "write KEY VALUE\n\nSet KEY to VALUE, a GVariant text without a double in it.\n"
-usage_of Reset = codes "reset [-f] PATH\n\nRemove the user's value of a key.\n-f removes those of all keys below a directory.\n"
+usage_of Reset = codes "reset [-f] PATH\n\nRemove the user's value of a key. That of a locked key stays.\n-f removes those of all keys below a directory.\n"
 usage_of Compile = codes "compile OUTPUT KEYFILEDIR\n\nMake the database OUTPUT of the keyfiles in KEYFILEDIR, and of the locks in KEYFILEDIR/locks.\n"
 usage_of Update = codes "update [DBDIR]\n\nMake the databases of the folders NAME.d in DBDIR, or of the site's.\n"
 usage_of Watch = codes "watch PATH\n\nPrint what changes at a key or below a directory, until it is interrupted.\n"
 usage_of Dump = codes "dump DIR\n\nPrint all values below DIR as a keyfile.\nA value with a double in it is left out, and its key named in a comment.\n"
-usage_of Load = codes "load [-f] DIR\n\nSet keys below DIR from a keyfile on stdin.\n-f leaves out locked keys, and values with a double in them.\n"
-usage_of Blame = codes "blame\n\nSay how to ask the service which programs changed settings.\n"
+usage_of Load = codes "load [-f] DIR\n\nSet keys below DIR from a keyfile on stdin.\nA value with a double in it is left out, and its key named on stderr.\n-f leaves out locked keys, too.\n"
+usage_of Blame = codes "blame\n\nPrint what the service has noted: who changed settings, where DCONF_BLAME is set.\n"
 usage_of Complete = codes "_complete SUFFIX PATH\n\nPrint the paths that begin with PATH and end in SUFFIX, which is empty or a slash.\n"
 
 abbrev pub commands_text : List ℕ

@@ -16,10 +16,13 @@ use Rattle.dconf_by_name.specs.declared.why.Why.TheVariants.{NoCommand, Unknown,
 use Rattle.dconf_by_name.specs.declared.request.Asked.{Asked}
 use Rattle.dconf_by_name.specs.declared.request.Asked.TheVariants as asked
 
--- A command on the store that is found; a forced load, and its directory; the databases of a folder, or of the site; OUTPUT and KEYFILEDIR; SUFFIX and
--- PATH; what is watched; help for a command; or words that are refused, by the command if there is one.
+-- A command on the store that is found; a dump, whose groups are put in dconf's order; a reset, and its key; a load, and its directory; the
+-- databases of a folder, or of the site; OUTPUT and KEYFILEDIR; SUFFIX and PATH; what is watched; help for a command; or words that are refused, by
+-- the command if there is one.
 pub data Meaning : Type 0 where
   run : Command → Meaning
+  run_dump : Command → Meaning
+  run_reset : Command → List ℕ → Meaning
   run_load : Command → List ℕ → Meaning
   update : Option (List ℕ) → Meaning
   compile : List ℕ → List ℕ → Meaning
@@ -31,6 +34,8 @@ pub data Meaning : Type 0 where
 
 abbrev pub meaning_of : Asked → Meaning
 meaning_of (asked.Run command) = run (command_of command)
+meaning_of (asked.Dump command) = run_dump (command_of command)
+meaning_of (asked.Reset command key) = run_reset (command_of command) key.now
 meaning_of (asked.Load command directory) = run_load (command_of command) directory.now
 meaning_of (asked.Update folder) = update (option_map (λ f. f.now) folder)
 meaning_of (asked.Compile out folder) = compile out.now folder.now
@@ -117,13 +122,16 @@ abbrev pub list_locks_means : List (List ℕ) → Meaning
 list_locks_means words = run_on verb.ListLocks (only_path Dir words) (λ directory. list_locks directory profile)
 
 -- `dump DIR`; a value that has no text for a double in it is named in a comment
-abbrev pub dump_means : List (List ℕ) → Meaning
-dump_means words = run_on verb.Dump (only_path Dir words) (λ directory. dump true directory profile)
+abbrev pub dump_of : Result (List ℕ) Why → Meaning
+dump_of (Ok directory) = run_dump (dump true directory profile)
+dump_of (Err why) = wrong (Some verb.Dump) why
 
--- `load [-f] DIR`; -f leaves out what is locked, and what has a double in its text
+abbrev pub dump_means : List (List ℕ) → Meaning
+dump_means words = dump_of (only_path Dir words)
+
+-- `load [-f] DIR`; what has a double in its text is left out, and with -f what is locked
 abbrev pub load_of : Bool → Result (List ℕ) Why → Meaning
-load_of true (Ok directory) = run_load (load true true directory profile) directory
-load_of false (Ok directory) = run (load false false directory profile)
+load_of force (Ok directory) = run_load (load force true directory profile) directory
 load_of force (Err why) = wrong (Some verb.Load) why
 
 abbrev pub load_means : List (List ℕ) → Meaning
@@ -147,9 +155,14 @@ if_forced force (Ok path) = if ends_with_slash path && not force then Err NeedsF
 abbrev pub reset_path : Bool → List (List ℕ) → Result (List ℕ) Why
 reset_path force words = alone (if_forced force (first_path Path words)) (behind words)
 
+-- a locked key stays as it is, and is named
+abbrev pub reset_of : Result (List ℕ) Why → Meaning
+reset_of (Ok path) =
+    if ends_with_slash path then run (resetting true path profile) else run_reset (resetting false path profile) path
+reset_of (Err why) = wrong (Some verb.Reset) why
+
 abbrev pub reset_means : List (List ℕ) → Meaning
-reset_means words =
-    run_on verb.Reset (reset_path (has_option (codes "-f") words) (behind_option (codes "-f") words)) (λ path. resetting (ends_with_slash path) path profile)
+reset_means words = reset_of (reset_path (has_option (codes "-f") words) (behind_option (codes "-f") words))
 
 -- `compile OUTPUT KEYFILEDIR`
 abbrev pub compile_means : List (List ℕ) → Meaning

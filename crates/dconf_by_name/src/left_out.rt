@@ -1,9 +1,9 @@
-//! The locked keys that `load -f` leaves out.
+//! The keys that `load` and `reset` leave as they are.
 ghost use Rattle.std.specs.Prelude.{◌≡◌, ◌++◌, IfOk, OnOk, map, string_bytes};
 ghost use Rattle.dconf_model.specs.Keyfiles.{path_of};
 ghost use Rattle.dconf_model.specs.Locks.{covers};
 ghost use Rattle.keyfile_core.specs.Rows.{row_meant};
-ghost use Rattle.dconf_by_name.specs.LeftOut.{ignored, ignored_rows, is_locked, warning_if_locked, warning_of};
+ghost use Rattle.dconf_by_name.specs.LeftOut.{double_warning_of, doubles, doubles_of, ignored, ignored_rows, is_ignored, is_locked, warning_if_locked, warning_of};
 
 use crate::completions::lines;
 use crate::paths::is_directory;
@@ -73,10 +73,23 @@ fn push_if_locked(
     text.push_str(warning.as_str())
 }
 
-fn warning_of(alloc: Global, path: &str) -> Result<String, AllocError>
+/// What dconf says of a locked key that stays as it is.
+///
+/// The only error is a failed allocation.
+pub fn warning_of(alloc: Global, path: &str) -> Result<String, AllocError>
     ensures { IfOk result (λ warning. string_bytes warning ≡ warning_of path.now) }
 {
     format!(in alloc; "warning: ignored non-writable key '{path}'\n")
+}
+
+/// Whether a key is locked. `listed` is what `list-locks /` printed.
+///
+/// It looks at each lock. The only error is a failed allocation.
+pub fn is_ignored(alloc: Global, listed: &str, path: &str) -> Result<bool, AllocError>
+    ensures { IfOk result (λ is. is ≡ is_ignored listed.now path.now) }
+{
+    let locks = lines(alloc, listed)?;
+    Ok(is_locked(&locks, path))
 }
 
 fn is_locked(locks: &[&str], path: &str) -> bool
@@ -90,4 +103,35 @@ fn covers(lock: &str, path: &str) -> bool
     ensures { result ≡ covers lock.now path.now }
 {
     lock == path || (is_directory(lock) && path.as_bytes().starts_with(lock.as_bytes()))
+}
+
+/// What is said of the keys that `load` leaves out for a double in their text: a line for each. `listed` is what `load --skip-doubles` printed.
+///
+/// The only error is a failed allocation.
+pub fn doubles(alloc: Global, listed: &str) -> Result<String, AllocError>
+    ensures { IfOk result (λ text. string_bytes text ≡ doubles listed.now) }
+{
+    let paths = lines(alloc, listed)?;
+    doubles_of(alloc, &paths)
+}
+
+fn doubles_of(alloc: Global, paths: &[&str]) -> Result<String, AllocError>
+    ensures { IfOk result (λ text. string_bytes text ≡ doubles_of (map (λ path. path.now) paths.now)) }
+{
+    let mut text = String::new(alloc);
+    for path in paths {
+        let warning = double_warning_of(alloc, *path)?;
+        text.push_str(warning.as_str())?;
+    }
+    Ok(text)
+}
+
+/// Of an empty line nothing is said.
+fn double_warning_of(alloc: Global, path: &str) -> Result<String, AllocError>
+    ensures { IfOk result (λ warning. string_bytes warning ≡ double_warning_of path.now) }
+{
+    if path.is_empty() {
+        return Ok(String::new(alloc));
+    }
+    format!(in alloc; "warning: ignored key '{path}': a double's text is not read\n")
 }

@@ -10,6 +10,7 @@ mod completions;
 mod folders;
 mod left_out;
 mod names;
+mod order;
 mod paths;
 mod request;
 mod texts;
@@ -20,8 +21,9 @@ mod words;
 
 pub use completions::{directory_of, offers};
 pub use folders::compile_of_folder;
-pub use left_out::ignored;
+pub use left_out::{doubles, ignored, is_ignored, warning_of};
 pub use names::is_run_as_dconf;
+pub use order::in_dconfs_order;
 pub use request::Asked;
 pub use texts::{refusal, usage};
 pub use values::{dconfs_sentence, is_wrong_value};

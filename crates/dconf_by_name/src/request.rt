@@ -8,7 +8,14 @@ use command_words::Command;
 pub enum Asked<'a> {
     /// A command on the store that is found.
     Run(Command),
-    /// `load -f`, which names the locked keys that it leaves out, below this directory.
+    /// `dump`, whose groups are put in dconf's order.
+    Dump(Command),
+    /// `reset` of a key, which is named if it is locked, and stays as it is.
+    Reset {
+        command: Command,
+        key: &'a str,
+    },
+    /// `load`, which names what it leaves out below this directory: keys with a double in their text, and with `-f` locked ones.
     Load {
         command: Command,
         directory: &'a str,

@@ -105,7 +105,7 @@ fn usage_of(verb: Verb) -> &'static str
         Verb::Write =>
             "write KEY VALUE\n\nSet KEY to VALUE, a GVariant text without a double in it.\n",
         Verb::Reset =>
-            "reset [-f] PATH\n\nRemove the user's value of a key.\n-f removes those of all keys below a directory.\n",
+            "reset [-f] PATH\n\nRemove the user's value of a key. That of a locked key stays.\n-f removes those of all keys below a directory.\n",
         Verb::Compile =>
             "compile OUTPUT KEYFILEDIR\n\nMake the database OUTPUT of the keyfiles in KEYFILEDIR, and of the locks in KEYFILEDIR/locks.\n",
         Verb::Update =>
@@ -115,8 +115,9 @@ fn usage_of(verb: Verb) -> &'static str
         Verb::Dump =>
             "dump DIR\n\nPrint all values below DIR as a keyfile.\nA value with a double in it is left out, and its key named in a comment.\n",
         Verb::Load =>
-            "load [-f] DIR\n\nSet keys below DIR from a keyfile on stdin.\n-f leaves out locked keys, and values with a double in them.\n",
-        Verb::Blame => "blame\n\nSay how to ask the service which programs changed settings.\n",
+            "load [-f] DIR\n\nSet keys below DIR from a keyfile on stdin.\nA value with a double in it is left out, and its key named on stderr.\n-f leaves out locked keys, too.\n",
+        Verb::Blame =>
+            "blame\n\nPrint what the service has noted: who changed settings, where DCONF_BLAME is set.\n",
         Verb::Complete =>
             "_complete SUFFIX PATH\n\nPrint the paths that begin with PATH and end in SUFFIX, which is empty or a slash.\n",
     }

@@ -145,11 +145,19 @@ fn reset<'a>(alloc: Global, words: &'a [String]) -> Result<Asked<'a>, AllocError
     ensures { IfOk result (λ asked. meaning_of asked ≡ reset_means (map string_bytes words.entry.now)) }
 {
     match reset_path(has_option("-f", words), behind_option("-f", words)) {
-        Ok(path) => Ok(Asked::Run(Command::Reset {
-            force: is_directory(path),
-            path: String::from_str(alloc, path)?,
-            profile: profile(alloc)?,
-        })),
+        Ok(path) => {
+            let is_directory = is_directory(path);
+            let command = Command::Reset {
+                force: is_directory,
+                path: String::from_str(alloc, path)?,
+                profile: profile(alloc)?,
+            };
+            if is_directory {
+                Ok(Asked::Run(command))
+            } else {
+                Ok(Asked::Reset { command, key: path })
+            }
+        }
         Err(why) => Ok(Asked::Wrong(Some(Verb::Reset), why)),
     }
 }
@@ -210,7 +218,7 @@ fn dump<'a>(alloc: Global, words: &'a [String]) -> Result<Asked<'a>, AllocError>
     ensures { IfOk result (λ asked. meaning_of asked ≡ dump_means (map string_bytes words.entry.now)) }
 {
     match only_path(Noun::Dir, words) {
-        Ok(directory) => Ok(Asked::Run(Command::Dump {
+        Ok(directory) => Ok(Asked::Dump(Command::Dump {
             skip_doubles: true,
             directory: String::from_str(alloc, directory)?,
             profile: profile(alloc)?,
@@ -223,21 +231,16 @@ fn dump<'a>(alloc: Global, words: &'a [String]) -> Result<Asked<'a>, AllocError>
 fn load<'a>(alloc: Global, words: &'a [String]) -> Result<Asked<'a>, AllocError>
     ensures { IfOk result (λ asked. meaning_of asked ≡ load_means (map string_bytes words.entry.now)) }
 {
-    let force = has_option("-f", words);
     match only_path(Noun::Dir, behind_option("-f", words)) {
-        Ok(directory) => {
-            let command = Command::Load {
-                force,
-                skip_doubles: force,
+        Ok(directory) => Ok(Asked::Load {
+            command: Command::Load {
+                force: has_option("-f", words),
+                skip_doubles: true,
                 directory: String::from_str(alloc, directory)?,
                 profile: profile(alloc)?,
-            };
-            if force {
-                Ok(Asked::Load { command, directory })
-            } else {
-                Ok(Asked::Run(command))
-            }
-        }
+            },
+            directory,
+        }),
         Err(why) => Ok(Asked::Wrong(Some(Verb::Load), why)),
     }
 }

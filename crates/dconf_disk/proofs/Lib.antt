@@ -1,1 +1,2 @@
 pub mod DrivingLaws
+mod DrivenLaws

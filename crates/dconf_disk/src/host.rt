@@ -1,12 +1,14 @@
 //! The current folder of the host.
 ghost use Rattle.std.specs.Prelude.{◌≡◌, ◌<◌, ◌≤◌, None, IfSome, IfOk, IsOk, ◌↔◌, IsTrue, IsErrOf, ◌∷◌, OnOk, OnErr, true, false, length, option_map};
+ghost use Rattle.dconf_folders.specs.Asides.{IsSetAside};
 ghost use Rattle.dconf_folders.specs.Failures.{HasCause};
 ghost use Rattle.dconf_folders.specs.SystemCalls.{given_mode, made, removed, renamed, synced, with_its_folder};
 
+use crate::flag::set_flag;
 use crate::lock::FolderLock;
-use crate::modes::{FOR_ALL, FOR_OWNER, keep_mode, open_new};
+use crate::modes::{READ_AND_WRITE, Replacing, keep_mode, link_aside, make_room, old_of, open_new};
 use crate::reading::read_opened;
-use dconf_folders::{Folder, FolderFault, LARGEST_FILE, Record, folder_of};
+use dconf_folders::{Folder, FolderFault, LARGEST_FILE, Old, Record, folder_of};
 use std::alloc::Global;
 use std::fs::{OpenFile, OpenOptions};
 use std::io::{ErrorKind, Write};
@@ -27,6 +29,8 @@ const REMOVE: u64 = 5;
 
 const SYNC_FOLDER: u64 = 6;
 
+const LINK: u64 = 7;
+
 const FAILED: u64 = 0;
 
 const DONE: u64 = 1;
@@ -39,7 +43,7 @@ const DONE: u64 = 1;
 ///
 /// A name may lead into another folder, by the host's rules for a path. `sync_folder` syncs the current folder; a rename into
 /// another one syncs that one itself, so its `Device` may come when the file has its name already. `create` removes a file of
-/// that name first. A file that `replace` puts in the place of another has its permission bits, and is at no time open to
+/// that name first, and gives a folder another name. A file that `replace` puts in the place of another has its permission bits, and is at no time open to
 /// more users than it; a new one has those of 0666 that the process's umask leaves, or of 0600 in a private turn. Each call is a few calls of the host;
 /// `read` asks for the file's length, and takes that much memory once.
 #[derive(Drop)]
@@ -47,11 +51,15 @@ pub struct StdFolder<R> {
     rt: R,
     failures: u64,
     can_write: bool,
-    /// The permission bits of a file that takes no other's place, less the umask.
-    bits: u32,
+    /// A file that replaces none is open to its owner alone.
+    is_private: bool,
     log: Record,
     /// The calls of the system that make those up, as far as their order matters.
     calls: Record,
+    /// The file that was looked at last, and is to be replaced.
+    replaced: Option<Replacing>,
+    /// The flag of those who read the file that is replaced.
+    flag: Option<String>,
     /// It is held as long as the folder is.
     _lock: Option<FolderLock>,
 }
@@ -82,9 +90,11 @@ impl<R: Files> StdFolder<R> {
             rt,
             failures: 0,
             can_write: true,
-            bits: FOR_ALL,
+            is_private: false,
             log: Record::new(),
             calls: Record::new(),
+            replaced: None,
+            flag: None,
             _lock: Some(lock),
         }
     }
@@ -96,7 +106,7 @@ impl<R: Files> StdFolder<R> {
         ensures honest { IsTrue (is_honest result) }
     {
         let mut folder = StdFolder::in_turn(rt, lock);
-        folder.bits = FOR_OWNER;
+        folder.is_private = true;
         folder
     }
 
@@ -111,11 +121,24 @@ impl<R: Files> StdFolder<R> {
             rt,
             failures: 0,
             can_write: false,
-            bits: FOR_ALL,
+            is_private: false,
             log: Record::new(),
             calls: Record::new(),
+            replaced: None,
+            flag: None,
             _lock: None,
         }
+    }
+
+    /// The same folder, which sets this flag once a file has got its name, or may have got it.
+    pub fn with_flag(mut self, flag: String) -> StdFolder<R>
+        ensures failures { failures_of result ≡ failures_of self }
+        ensures writes { can_write result ≡ can_write self }
+        ensures events { events_of result ≡ events_of self }
+        ensures honest { is_honest result ≡ is_honest self }
+    {
+        self.flag = Some(flag);
+        self
     }
 
     /// The answer of a call, whose fault is counted.
@@ -184,6 +207,8 @@ impl<R: Files> Folder for StdFolder<R> {
 
     ghost failed = { failures_of };
 
+    ghost hides = { false };
+
     fn failures(&self) -> u64 {
         self.failures
     }
@@ -193,11 +218,29 @@ impl<R: Files> Folder for StdFolder<R> {
         self.counted(found)
     }
 
-    fn create(&mut self, name: &str) -> Result<(), FolderFault> {
+    fn take_turn(&mut self) -> Result<(), FolderFault> {
+        if self.can_write {
+            return Ok(());
+        }
+        self.counted(Err(FolderFault::Device))
+    }
+
+    /// It doesn't know what a file is for, so it asks for none to be set aside.
+    fn look(&mut self, name: &str) -> Result<Old, FolderFault> {
+        match old_of(&self.rt, name) {
+            Ok(old) => {
+                self.replaced = old;
+                Ok(bits_of_new(old, self.is_private))
+            }
+            Err(_) => self.counted(Err(FolderFault::Device)),
+        }
+    }
+
+    fn create(&mut self, alloc: Global, name: &str, bits: u32) -> Result<(), FolderFault> {
         if !self.can_write {
             return self.counted(Err(FolderFault::Device));
         }
-        let answer = make_new(&self.rt, &mut self.calls, name, self.bits);
+        let answer = make_new(alloc, &self.rt, &mut self.calls, name, bits, self.replaced);
         self.noted(CREATE, name, &[], answer)
     }
 
@@ -209,12 +252,22 @@ impl<R: Files> Folder for StdFolder<R> {
         self.noted(APPEND, name, bytes, answer)
     }
 
-    fn sync(&mut self, name: &str) -> Result<(), FolderFault> {
+    fn sync(&mut self, name: &str, bits: Option<u32>) -> Result<(), FolderFault> {
         if !self.can_write {
             return self.counted(Err(FolderFault::Device));
         }
-        let answer = sync_file(&self.rt, &mut self.calls, name);
+        let answer = sync_file(&self.rt, &mut self.calls, name, bits, self.replaced);
         self.noted(SYNC, name, &[], answer)
+    }
+
+    fn set_aside(&mut self, alloc: Global, name: &str) -> Result<(), FolderFault> {
+        if !self.can_write {
+            return self.counted(Err(FolderFault::Device));
+        }
+        let Ok((aside, answer)) = link_aside(alloc, &self.rt, name) else {
+            return self.counted(Err(FolderFault::Device));
+        };
+        self.noted(LINK, name, aside.as_bytes(), answer)
     }
 
     fn rename(&mut self, from: &str, to: &str) -> Result<(), FolderFault> {
@@ -222,6 +275,10 @@ impl<R: Files> Folder for StdFolder<R> {
             return self.counted(Err(FolderFault::Device));
         }
         let answer = rename_to(&self.rt, &mut self.calls, from, to);
+        // Those who read it look again, and that is all.
+        if let Some(flag) = &self.flag {
+            set_flag(&self.rt, flag.as_str());
+        }
         self.noted(RENAME, from, to.as_bytes(), answer)
     }
 
@@ -247,17 +304,33 @@ impl<R: Files> Folder for StdFolder<R> {
     }
 }
 
-/// A new file, in the place of any other: one of that name may be another name's too, so it is not written over.
-fn make_new<R: Files>(rt: &R, calls: &mut Record, name: &str, bits: u32) -> io::Result<()>
+/// The permission bits of the file that replaces this one, if there is one.
+fn bits_of_new(old: Option<Replacing>, is_private: bool) -> Old
+    ensures { IsSetAside result → ⊥ }
+{
+    match old {
+        Some(old) => Old::Bits(old.bits),
+        None if is_private => Old::Bits(READ_AND_WRITE),
+        None => Old::Absent,
+    }
+}
+
+/// A new file, in the place of any other: one of that name may have another name, too, so it is not written over. A folder of that name is none of
+/// ours, and gets another name.
+fn make_new<R: Files>(
+    alloc: Global,
+    rt: &R,
+    calls: &mut Record,
+    name: &str,
+    bits: u32,
+    old: Option<Replacing>,
+) -> io::Result<()>
     ensures { OnOk result (calls.new.notes ≡ made name.now ∷ removed name.now ∷ calls.old.notes) }
 {
     calls.note(&[REMOVE, DONE], name.as_bytes(), &[]);
-    match fs::remove_file(rt, name) {
-        Err(error) if error.kind() != ErrorKind::NotFound => return Err(error),
-        _ => {}
-    }
+    make_room(alloc, rt, name)?;
     calls.note(&[CREATE, DONE], name.as_bytes(), &[]);
-    let _file = open_new(rt, name, bits)?;
+    let _file = open_new(rt, name, bits, old)?;
     Ok(())
 }
 
@@ -267,11 +340,17 @@ fn append_to<R: Files>(rt: &R, name: &str, bytes: &[u8]) -> io::Result<()> {
 }
 
 /// A file's bytes. One that is to take another's place has that one's permission bits before, so that they are on the disk with them.
-fn sync_file<R: Files>(rt: &R, calls: &mut Record, name: &str) -> io::Result<()>
+fn sync_file<R: Files>(
+    rt: &R,
+    calls: &mut Record,
+    name: &str,
+    bits: Option<u32>,
+    old: Option<Replacing>,
+) -> io::Result<()>
     ensures { OnOk result (calls.new.notes ≡ synced name.now ∷ given_mode name.now ∷ calls.old.notes) }
 {
     let file = fs::open(rt, name)?;
-    keep_mode(rt, calls, &file, name)?;
+    keep_mode(calls, &file, name, bits, old)?;
     calls.note(&[SYNC, DONE], name.as_bytes(), &[]);
     file.sync_all()
 }

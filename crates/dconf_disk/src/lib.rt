@@ -21,13 +21,14 @@
 //! ```
 #![tactic(auto)]
 
+mod flag;
 mod host;
 mod lock;
 mod modes;
 mod reading;
 mod replacement;
 
-pub use dconf_folders::{Folder, FolderFault, LARGEST_FILE, MemoryFolder, Record, folder_of};
+pub use dconf_folders::{Folder, FolderFault, LARGEST_FILE, MemoryFolder, Old, Record, folder_of};
 pub use host::StdFolder;
 pub use lock::{FolderLock, LockFault};
 pub use replacement::replace;

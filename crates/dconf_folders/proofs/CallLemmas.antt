@@ -103,3 +103,11 @@ newest_remove cs gone name c lt is same = ap (λ (l : List Event). file_of l nam
 
 pub content_remove : (cs : List Call) (n : String Global) (file : ℕ) (c : Call) → 0 < length cs → c ≡ get_or cs (length cs - 1) c → c ≡ call.Remove n → content (events_of cs) file ≡ content (events_of (take (length cs - 1) cs)) file
 content_remove cs n file c lt is same = ap (λ (l : List Event). content l file) (newest cs c _ lt is same)
+
+pub newest_link : (cs : List Call) (from to : String Global) (name : List ℕ) (c : Call) → 0 < length cs → c ≡ get_or cs (length cs - 1) c → c ≡ call.Link from to
+    → file_of (events_of cs) name ≡ cond (bytes_eq name (string_bytes to)) (file_of (events_of (take (length cs - 1) cs)) (string_bytes from))
+    (file_of (events_of (take (length cs - 1) cs)) name)
+newest_link cs from to name c lt is same = ap (λ (l : List Event). file_of l name) (newest cs c _ lt is same)
+
+pub content_link : (cs : List Call) (n m : String Global) (file : ℕ) (c : Call) → 0 < length cs → c ≡ get_or cs (length cs - 1) c → c ≡ call.Link n m → content (events_of cs) file ≡ content (events_of (take (length cs - 1) cs)) file
+content_link cs n m file c lt is same = ap (λ (l : List Event). content l file) (newest cs c _ lt is same)

@@ -107,6 +107,9 @@ module _ (given all left : List Event) (a : AreMadeAgain given all left) (name :
 pub by_rename : (given all left : List Event) (from to : List ℕ) → AreMadeAgain (create to ∷ given) all left → AreMadeAgain (rename from to ∷ given) all left
 by_rename given all left from to a = record { synced = a.synced; named = a.named; others = a.others }
 
+pub by_link : (given all left : List Event) (from to : List ℕ) → AreMadeAgain (create to ∷ given) all left → AreMadeAgain (link from to ∷ given) all left
+by_link given all left from to a = record { synced = a.synced; named = a.named; others = a.others }
+
 -- ---- the whole folder
 
 same_seen : (es : List Event) (o : Option ℕ) → content_of (sync_folder ∷ es) o ≡ content_of es o

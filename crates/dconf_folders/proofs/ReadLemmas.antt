@@ -5,7 +5,7 @@ use Rattle.dconf_model.specs.Reads.{IsOverSize}
 use Rattle.dconf_model.specs.Folders.{Event, file_of, content, content_of, read_content}
 use Rattle.dconf_folders.specs.MemoryFolders.{events_of, AddsTouches}
 use Rattle.dconf_folders.specs.declared.calls.Call.{Call}
-use Rattle.dconf_folders.proofs.Untouched.{seen_noted}
+use Rattle.dconf_folders.proofs.Untouched.{same_file, seen_noted}
 
 module _ (old calls : List Call) (same : calls ≡ old) (es : List Event) (past : AddsTouches (events_of old) es) (name : List ℕ) (file : Option ℕ) (is : file ≡ file_of (events_of calls) name) where
   seen_now : read_content es name ≡ content_of (events_of calls) file
@@ -28,3 +28,6 @@ module _ (old calls : List Call) (same : calls ≡ old) (es : List Event) (past 
 
   pub is_there : is_some file ≡ true → read_content es name ≡ None → ⊥
   is_there t n = there_of file seen_now t n
+
+  pub is_free : file ≡ None → file_of es name ≡ None
+  is_free n = same_file (events_of calls) es (subst (λ cs. AddsTouches (events_of cs) es) (sym same) past) name ∙ sym is ∙ n

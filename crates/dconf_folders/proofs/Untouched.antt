@@ -65,7 +65,7 @@ module _ (ds es : List Event) (a : AddsTouches ds es) where
   pub seen_noted : (name : List ℕ) → read_content es name ≡ read_content ds name
   seen_noted name = sym (seen_untouched es name) ∙ ap (λ (x : List Event). read_content x name) a.others ∙ seen_untouched ds name
 
-  same_file : (name : List ℕ) → file_of es name ≡ file_of ds name
+  pub same_file : (name : List ℕ) → file_of es name ≡ file_of ds name
   same_file name = sym (file_untouched es name) ∙ ap (λ (x : List Event). file_of x name) a.others ∙ file_untouched ds name
 
   -- an event that sets a file to synced or unsynced

@@ -4,3 +4,4 @@ pub mod MemoryFolders
 pub mod Crashes
 pub mod Notes
 pub mod SystemCalls
+pub mod Asides

@@ -15,6 +15,7 @@ event_of (call.Touch name) = touch (string_bytes name)
 event_of (call.Rename from to) = rename (string_bytes from) (string_bytes to)
 event_of (call.Remove name) = remove (string_bytes name)
 event_of call.SyncFolder = sync_folder
+event_of (call.Link from to) = link (string_bytes from) (string_bytes to)
 
 abbrev pub events_onto : List Event → List Call → List Event
 events_onto es [] = es

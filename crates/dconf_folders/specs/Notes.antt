@@ -5,6 +5,7 @@ use Rattle.dconf_model.specs.Bytes.{longest_file}
 use Rattle.dconf_model.specs.Folders.{Event, read_content}
 use Rattle.dconf_model.specs.Folders.Event.{create, append, sync, touch, rename, remove, link, exchange, sync_folder}
 use Rattle.dconf_model.specs.Reads.{FileRead}
+use Rattle.dconf_folders.specs.Asides.{is_free_for}
 use Rattle.dconf_model.specs.Reads.FileRead.{no_file, holds, over_size, failed}
 
 pub data HostCall : Type 0 where
@@ -21,7 +22,7 @@ pub data HostCall : Type 0 where
 abbrev pub Note : Type 0
 Note = ℕ × ℕ × List ℕ × List ℕ
 
--- what a call of this number is to do; the last two are of others, before
+-- what a call of this number is to do; the last is of others, before
 abbrev pub event_noted : ℕ → List ℕ → List ℕ → Event
 event_noted which name more =
     if which == 1 then create name else if which == 2 then append name more else if which == 3 then sync name else if which == 4 then rename name more else
@@ -44,6 +45,7 @@ after_failure fate (append name bytes) es = if fate == 0 then touch name ∷ es 
 after_failure fate (sync name) es = touch name ∷ es
 after_failure fate (rename from to) es = if fate == 0 then es else rename from to ∷ es
 after_failure fate (remove name) es = if fate == 0 then es else remove name ∷ es
+after_failure fate (link from to) es = if fate == 0 then es else link from to ∷ es
 after_failure fate _ es = es
 
 abbrev pub after_call : ℕ → HostCall → List Event → List Event
@@ -70,11 +72,12 @@ gives_read None no_file = true
 gives_read held failed = true
 gives_read held read = false
 
--- A call is done only where there is a file for it.
+-- A call is done only where there is a file for it, and no other that it would take the name from but is not to.
 abbrev pub can_be_done : Event → List Event → Bool
 can_be_done (append name bytes) es = is_there (read_content es name)
 can_be_done (sync name) es = is_there (read_content es name)
 can_be_done (rename from to) es = is_there (read_content es from)
+can_be_done (link from to) es = is_there (read_content es from) && is_free_for from to es
 can_be_done e es = true
 
 -- the answer to a call is true of a folder to which this was done

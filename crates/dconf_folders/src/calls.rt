@@ -1,7 +1,7 @@
 //! The calls of a folder, and what the names stand for after them.
 ghost use Rattle.std.specs.Prelude.{◌≡◌, ◌≤◌, ◌∷◌, IfOk, IfSome, OnOk, OnErr, length};
 ghost use Rattle.dconf_model.specs.Folders.{files_made, file_of, content, is_file, is_synced};
-ghost use Rattle.dconf_model.specs.Folders.Event.{append, rename};
+ghost use Rattle.dconf_model.specs.Folders.Event.{append, link, rename};
 ghost use Rattle.dconf_folders.specs.MemoryFolders.{event_of, events_of};
 ghost use Rattle.dconf_folders.specs.Crashes.{was_named};
 
@@ -18,6 +18,7 @@ pub(crate) enum Call {
     Rename(String, String),
     Remove(String),
     SyncFolder,
+    Link(String, String),
 }
 
 /// How many files were made.
@@ -37,6 +38,7 @@ pub(crate) fn files_made(calls: &[Call]) -> usize
         Call::Rename(_, _) => before,
         Call::Remove(_) => before,
         Call::SyncFolder => before,
+        Call::Link(_, _) => before,
     }
 }
 
@@ -73,6 +75,12 @@ pub(crate) fn file_of(calls: &[Call], name: &str) -> Option<usize>
         Call::Sync(_) => file_of(earlier, name),
         Call::Touch(_) => file_of(earlier, name),
         Call::SyncFolder => file_of(earlier, name),
+        Call::Link(from, to) => {
+            if name == to.as_str() {
+                return file_of(earlier, from.as_str());
+            }
+            file_of(earlier, name)
+        }
     }
 }
 
@@ -98,6 +106,7 @@ pub(crate) fn content(alloc: Global, calls: &[Call], file: usize) -> Result<Vec<
         Call::Sync(_) => Ok(bytes),
         Call::Touch(_) => Ok(bytes),
         Call::SyncFolder => Ok(bytes),
+        Call::Link(_, _) => Ok(bytes),
     }
 }
 
@@ -140,10 +149,11 @@ pub(crate) fn is_synced(calls: &[Call], file: usize) -> bool
         Call::Rename(_, _) => is_synced(earlier, file),
         Call::Remove(_) => is_synced(earlier, file),
         Call::SyncFolder => is_synced(earlier, file),
+        Call::Link(_, _) => is_synced(earlier, file),
     }
 }
 
-/// Whether a file was made under a name, or renamed to it.
+/// Whether a file was made under a name, or got it.
 pub(crate) fn was_named(calls: &[Call], name: &str) -> bool
     ensures { result ≡ was_named (events_of calls.now) name.now }
 {
@@ -168,6 +178,12 @@ pub(crate) fn was_named(calls: &[Call], name: &str) -> bool
         Call::Sync(_) => was_named(earlier, name),
         Call::Touch(_) => was_named(earlier, name),
         Call::SyncFolder => was_named(earlier, name),
+        Call::Link(_, to) => {
+            if name == to.as_str() {
+                return true;
+            }
+            was_named(earlier, name)
+        }
     }
 }
 
@@ -195,4 +211,12 @@ pub(crate) fn rename_call(alloc: Global, from: &str, to: &str) -> Option<Call>
 {
     let from = String::from_str(alloc, from).ok()?;
     Some(Call::Rename(from, String::from_str(alloc, to).ok()?))
+}
+
+/// The call to give a file another name, where there is memory for it.
+pub(crate) fn link_call(alloc: Global, from: &str, to: &str) -> Option<Call>
+    ensures { IfSome result (λ k. event_of k ≡ link from.now to.now) }
+{
+    let from = String::from_str(alloc, from).ok()?;
+    Some(Call::Link(from, String::from_str(alloc, to).ok()?))
 }

@@ -58,6 +58,7 @@ fn made_again(
         Call::Sync(_) => Ok(left),
         Call::Touch(_) => Ok(left),
         Call::SyncFolder => Ok(left),
+        Call::Link(_, name) => make_again(alloc, earlier, all, name.as_str(), left, number),
     }
 }
 
@@ -136,6 +137,12 @@ fn stood_for(calls: &[Call], name: &str, number: &mut u64) -> Option<usize>
         Call::Append(_, _) => stood_for(earlier, name, number),
         Call::Sync(_) => stood_for(earlier, name, number),
         Call::Touch(_) => stood_for(earlier, name, number),
+        Call::Link(from, to) => {
+            if name == to.as_str() && pick(number, 2) == 0 {
+                return file_of(earlier, from.as_str());
+            }
+            stood_for(earlier, name, number)
+        }
     }
 }
 

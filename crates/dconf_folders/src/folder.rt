@@ -1,11 +1,12 @@
 //! A folder of files, which counts the failures of its device.
 ghost use Rattle.std.specs.Prelude.{◌≡◌, ◌⊎◌, ◌≤◌, ◌∷◌, ℕ, Bool, true, false, List, None, IfOk, IsTrue, OnOk, OnErr, IsErrOf, IfSome, option_map, length};
 ghost use Rattle.dconf_model.specs.Folders.{Event, read_content};
-ghost use Rattle.dconf_model.specs.Folders.Event.{create, append, sync, touch, rename, remove, sync_folder};
+ghost use Rattle.dconf_model.specs.Folders.Event.{create, append, sync, touch, rename, remove, link, sync_folder};
 ghost use Rattle.dconf_model.specs.Reads.{IsOverSize};
+ghost use Rattle.dconf_folders.specs.Asides.{IsSetAside, is_free_for};
 ghost use Rattle.dconf_folders.specs.Failures.{HasCause};
 
-use crate::FolderFault;
+use crate::{FolderFault, Old};
 use std::alloc::Global;
 
 /// The most bytes that a file may have to be read: the places in a database are numbers of four bytes.
@@ -31,6 +32,9 @@ pub trait Folder {
     // How often the device failed, up to `u64::MAX`.
     ghost failed: { Self → ℕ };
 
+    // The other name of what is set aside is in a folder behind this one, and not shown. No other folder asks for anything to be set aside.
+    ghost hides: { Bool };
+
     /// How often the device failed, up to `u64::MAX`. It never falls, and rises by one where a call answers `Device`.
     fn failures(&self) -> u64
         ensures { result ≡ failed self.now };
@@ -48,9 +52,28 @@ pub trait Folder {
         ensures turn { holds_turn self.new ≡ holds_turn self.old }
         ensures cause { HasCause (failed self.old) (failed self.new) result };
 
-    /// Makes an empty file, in the place of any other of that name. It never fails for want of a file. If it fails, it may have removed the other
-    /// one and made none.
-    fn create(&mut self, name: &str) -> Result<(), FolderFault>
+    /// Takes the turn to replace files. A folder that holds it has it already; any other can't be given it.
+    fn take_turn(&mut self) -> Result<(), FolderFault>
+        ensures past { (es : List Event) → past self.old es → past self.new es }
+        ensures held { OnOk result (holds_turn self.old ≡ true) }
+        ensures honest { IsTrue (honest self.new) → IsTrue (honest self.old) }
+        ensures turn { holds_turn self.new ≡ holds_turn self.old }
+        ensures read_only { holds_turn self.old ≡ false → IsErrOf result FolderFault.Device }
+        ensures only { OnErr result (IsErrOf result FolderFault.Device) }
+        ensures cause { HasCause (failed self.old) (failed self.new) result };
+
+    /// What has a name that a new file is to take. It reads none of its bytes, and changes nothing.
+    fn look(&mut self, name: &str) -> Result<Old, FolderFault>
+        ensures past { (es : List Event) → past self.old es → past self.new es }
+        ensures aside { IfOk result (λ old. IsSetAside old → hides ≡ true) }
+        ensures honest { IsTrue (honest self.new) → IsTrue (honest self.old) }
+        ensures turn { holds_turn self.new ≡ holds_turn self.old }
+        ensures only { OnErr result (IsErrOf result FolderFault.Device) }
+        ensures cause { HasCause (failed self.old) (failed self.new) result };
+
+    /// Makes an empty file, in the place of any other of that name, with those of these permission bits that the host leaves. It never fails for want of a
+    /// file. If it fails, it may have removed the other one and made none.
+    fn create(&mut self, alloc: Global, name: &str, bits: u32) -> Result<(), FolderFault>
         ensures ok { (es : List Event) → past self.old es → OnOk result (past self.new (create name.now ∷ es)) }
         ensures err { (es : List Event) → past self.old es → OnErr result (past self.new es ⊎ (past self.new (create name.now ∷ es) ⊎ past self.new (remove name.now ∷ es))) }
         ensures honest { IsTrue (honest self.new) → IsTrue (honest self.old) }
@@ -72,11 +95,25 @@ pub trait Folder {
         ensures only { OnErr result (IsErrOf result FolderFault.Device) }
         ensures cause { HasCause (failed self.old) (failed self.new) result };
 
-    /// Makes sure that a crash leaves all bytes of the file (POSIX, `fsync`). A name without a file is a fault of the device.
-    fn sync(&mut self, name: &str) -> Result<(), FolderFault>
+    /// Gives the file these permission bits, if any, and makes sure that a crash leaves all its bytes (POSIX, `fsync`). A name without a file is a fault
+    /// of the device.
+    fn sync(&mut self, name: &str, bits: Option<u32>) -> Result<(), FolderFault>
         ensures ok { (es : List Event) → past self.old es → OnOk result (past self.new (sync name.now ∷ es)) }
         ensures err { holds_turn self.old ≡ true → (es : List Event) → past self.old es → OnErr result (past self.new (touch name.now ∷ es)) }
         ensures missing { IsTrue (honest self.new) → (es : List Event) → past self.old es → read_content es name.now ≡ None → IsErrOf result FolderFault.Device }
+        ensures honest { IsTrue (honest self.new) → IsTrue (honest self.old) }
+        ensures turn { holds_turn self.new ≡ holds_turn self.old }
+        ensures read_only { holds_turn self.old ≡ false → IsErrOf result FolderFault.Device }
+        ensures untouched { holds_turn self.old ≡ false → (es : List Event) → past self.old es → past self.new es }
+        ensures only { OnErr result (IsErrOf result FolderFault.Device) }
+        ensures cause { HasCause (failed self.old) (failed self.new) result };
+
+    /// Gives what has this name another one, too: `NAME~1` or the like, that nothing has, or that it has already (POSIX, `link`).
+    fn set_aside(&mut self, alloc: Global, name: &str) -> Result<(), FolderFault>
+        ensures hidden { hides ≡ true → (es : List Event) → past self.old es → past self.new es }
+        ensures ok { hides ≡ false → (es : List Event) → past self.old es → OnOk result ((aside : List ℕ)
+            × (IsTrue (honest self.new) → IsTrue (is_free_for name.now aside es)) × past self.new (link name.now aside ∷ es)) }
+        ensures any { (es : List Event) → past self.old es → past self.new es ⊎ ((aside : List ℕ) × past self.new (link name.now aside ∷ es)) }
         ensures honest { IsTrue (honest self.new) → IsTrue (honest self.old) }
         ensures turn { holds_turn self.new ≡ holds_turn self.old }
         ensures read_only { holds_turn self.old ≡ false → IsErrOf result FolderFault.Device }

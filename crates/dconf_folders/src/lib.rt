@@ -11,16 +11,20 @@
 //! through those before them.
 #![tactic(auto)]
 
+mod aside;
 mod calls;
 mod crash;
 mod fault;
 mod folder;
 mod memory;
+mod old;
 mod parent;
 mod record;
 
+pub use aside::aside_name;
 pub use fault::FolderFault;
 pub use folder::{Folder, LARGEST_FILE};
 pub use memory::MemoryFolder;
+pub use old::Old;
 pub use parent::folder_of;
 pub use record::Record;

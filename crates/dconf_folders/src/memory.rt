@@ -1,14 +1,17 @@
 //! A folder in memory, whose device fails when it is told to.
-ghost use Rattle.std.specs.Prelude.{◌≡◌, ◌⊎◌, ◌≤◌, ◌-◌, ◌↔◌, [], ◌∷◌, true, List, None, IfOk, IfSome, IsSome, OnOk, OnErr, IsErrOf, option_map, length};
-ghost use Rattle.dconf_model.specs.Folders.{Event, read_content};
+ghost use Rattle.std.specs.Prelude.{◌≡◌, ◌⊎◌, ◌≤◌, ◌-◌, ◌↔◌, [], ◌∷◌, true, false, string_bytes, List, None, IfOk, IfSome, IsSome, OnOk, OnErr, IsErrOf, option_map, length};
+ghost use Rattle.dconf_model.specs.Folders.{Event, file_of, read_content};
 ghost use Rattle.dconf_model.specs.Folders.Event.{rename, touch};
 ghost use Rattle.dconf_model.specs.Reads.{IsOverSize};
 ghost use Rattle.dconf_folders.specs.Failures.{HasCause, failed_by};
 ghost use Rattle.dconf_folders.specs.MemoryFolders.{event_of, events_of, IsPast, failures_of, failing_call};
 
-use crate::calls::{Call, append_call, content, file_of, push, rename_call};
-use crate::{Folder, FolderFault, LARGEST_FILE};
+use crate::calls::{Call, append_call, content, file_of, link_call, push, rename_call};
+use crate::{Folder, FolderFault, LARGEST_FILE, Old, aside_name};
 use std::alloc::Global;
+
+/// More than the other names of one file that are tried.
+const MOST_ASIDE: u32 = 1000;
 
 /// A folder in memory, which is the record of the calls that were made on it.
 ///
@@ -122,6 +125,28 @@ impl MemoryFolder {
     {
         file_of(&self.calls, name).is_some()
     }
+
+    fn is_free(&self, name: &str) -> bool
+        ensures { result ≡ true → (es : List Event) → IsPast self.now es → file_of es name.now ≡ None }
+    {
+        match file_of(&self.calls, name) {
+            Some(_) => false,
+            None => true,
+        }
+    }
+
+    /// Another name for what is set aside, that no file has, if there is memory for it.
+    fn free_name(&self, name: &str) -> Option<String>
+        ensures { IfSome result (λ aside. (es : List Event) → IsPast self.now es → file_of es (string_bytes aside) ≡ None) }
+    {
+        for n in 1..MOST_ASIDE {
+            let aside = aside_name(self.alloc, name, n).ok()?;
+            if self.is_free(aside.as_str()) {
+                return Some(aside);
+            }
+        }
+        None
+    }
 }
 
 impl Folder for MemoryFolder {
@@ -132,6 +157,8 @@ impl Folder for MemoryFolder {
     ghost holds_turn = { λ _. true };
 
     ghost failed = { λ m. failures_of m };
+
+    ghost hides = { false };
 
     fn failures(&self) -> u64 {
         self.failures
@@ -160,7 +187,16 @@ impl Folder for MemoryFolder {
         Ok(Some(bytes))
     }
 
-    fn create(&mut self, name: &str) -> Result<(), FolderFault> {
+    fn take_turn(&mut self) -> Result<(), FolderFault> {
+        Ok(())
+    }
+
+    /// It keeps no permission bits.
+    fn look(&mut self, _name: &str) -> Result<Old, FolderFault> {
+        Ok(Old::Absent)
+    }
+
+    fn create(&mut self, _alloc: Global, name: &str, _bits: u32) -> Result<(), FolderFault> {
         self.note(String::from_str(self.alloc, name).ok().map(Call::Create))
     }
 
@@ -175,7 +211,7 @@ impl Folder for MemoryFolder {
         noted
     }
 
-    fn sync(&mut self, name: &str) -> Result<(), FolderFault> {
+    fn sync(&mut self, name: &str, _bits: Option<u32>) -> Result<(), FolderFault> {
         if !self.is_there(name) {
             return self.note(None);
         }
@@ -184,6 +220,16 @@ impl Folder for MemoryFolder {
             self.touch(name);
         }
         noted
+    }
+
+    fn set_aside(&mut self, _alloc: Global, name: &str) -> Result<(), FolderFault> {
+        if !self.is_there(name) {
+            return self.note(None);
+        }
+        let Some(aside) = self.free_name(name) else {
+            return self.note(None);
+        };
+        self.note(link_call(self.alloc, name, aside.as_str()))
     }
 
     /// One that fails is done all the same, so that a crash leaves either.

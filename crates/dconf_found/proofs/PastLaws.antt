@@ -1,12 +1,15 @@
 -- What was done to a folder that was found, call by call.
-use Rattle.std.proofs.Common.{◌≡◌, inl, inr, ℕ, Bool, true, false, Result, Ok, Err, OnOk, OnErr, IfSome, IsSome, Option, Some, None, List, ◌∷◌, ◌++◌, cond, IsErrOf, refl, sym, ◌∙◌, ap, subst}
+use Rattle.std.proofs.Common.{◌≡◌, inl, inr, ℕ, Bool, true, false, Result, Ok, Err, OnOk, OnErr, IfSome, IsSome, Option, Some, None, List, [], ◌∷◌, ◌++◌, cond, IsErrOf, refl, sym, ◌∙◌, ap, subst}
+use Rattle.std.specs.List.{list_any}
+use Rattle.std.specs.Prelude.{◌||◌, map}
 use Rattle.std.specs.String.{string_bytes}
 use Rattle.std.specs.declared.string.String.{String}
 use Rattle.dconf_model.specs.Folders.{Event, file_of, files_made}
-use Rattle.dconf_model.specs.Folders.Event.{create, touch}
+use Rattle.dconf_model.specs.Folders.Event.{create, link, touch}
 use Rattle.dconf_model.proofs.SameBytes.{path_itself}
 use Rattle.dconf_folders.specs.declared.fault.FolderFault.{FolderFault}
-use Rattle.dconf_found.specs.FoundFolders.{AreShown, IsPast, held_of, inner_of, lookup_of, shown_of}
+use Rattle.dconf_found.specs.FoundFolders.{AreShown, IsPast, held_by, held_of, inner_of, lookup_of, shown_by, shown_of}
+use Rattle.dconf_found.specs.FoundFolders.Deed.{both, unasked, aside}
 use Rattle.dconf_found.specs.declared.found.FoundFolder.{FoundFolder}
 
 -- it is looked up in the same way, and began as the same
@@ -22,46 +25,52 @@ module _ {F : Type 0} (Past : F → List Event → Type 0) (f g : FoundFolder F)
       (subst (λ h. AreShown (lookup_of f) h (shown_of g)) (sym beside.held)
       (subst (λ s. AreShown (lookup_of f) (held_of f) s) (sym beside.shown) past.shown))
 
-  es_still : es ≡ past.more ++ shown_of g
-  es_still = past.es_is ∙ ap (λ s. past.more ++ s) (sym beside.shown)
+  es_still : es ≡ shown_by past.deeds ++ shown_of g
+  es_still = past.es_is ∙ ap (λ s. shown_by past.deeds ++ s) (sym beside.shown)
 
   -- nothing was done to it
-  pub kept : Past (inner_of g) (past.done ++ held_of f) → (g.is_written ≡ false → f.is_written ≡ false)
+  pub kept : Past (inner_of g) (held_by past.deeds ++ held_of f) → (g.is_written ≡ false → f.is_written ≡ false)
       → IfSome g.own (λ name. IsSome (file_of es (string_bytes name))) → IsPast Past g es
   kept inner written own = record {
-    more = past.more;
-    done = past.done;
+    deeds = past.deeds;
     es_is = es_still;
-    are_done = past.are_done;
-    inner = subst (λ h. Past (inner_of g) (past.done ++ h)) (sym beside.held) inner;
+    inner = subst (λ h. Past (inner_of g) (held_by past.deeds ++ h)) (sym beside.held) inner;
     shown = shown_still;
     unwritten = λ is. past.unwritten (written is);
     own = own;
   }
 
   -- this was done to the inner folder
-  pub did : (e : Event) → Past (inner_of g) (e ∷ past.done ++ held_of f) → g.is_written ≡ true
+  pub did : (e : Event) → Past (inner_of g) (e ∷ held_by past.deeds ++ held_of f) → g.is_written ≡ true
       → IfSome g.own (λ name. IsSome (file_of (e ∷ es) (string_bytes name))) → IsPast Past g (e ∷ es)
   did e inner written own = record {
-    more = e ∷ past.more;
-    done = e ∷ past.done;
+    deeds = both e ∷ past.deeds;
     es_is = ap (λ (x : List Event). e ∷ x) es_still;
-    are_done = inl (past.done, refl, past.are_done);
-    inner = subst (λ h. Past (inner_of g) (e ∷ past.done ++ h)) (sym beside.held) inner;
+    inner = subst (λ h. Past (inner_of g) (e ∷ held_by past.deeds ++ h)) (sym beside.held) inner;
     shown = shown_still;
     unwritten = λ is. let bad : true ≡ false = sym written ∙ is in cc;
     own = own;
   }
 
   -- an append or a sync was not asked of it
-  pub refused : (name : List ℕ) → Past (inner_of g) (past.done ++ held_of f) → g.is_written ≡ true
+  pub refused : (name : List ℕ) → Past (inner_of g) (held_by past.deeds ++ held_of f) → g.is_written ≡ true
       → IfSome g.own (λ name. IsSome (file_of es (string_bytes name))) → IsPast Past g (touch name ∷ es)
   refused name inner written own = record {
-    more = touch name ∷ past.more;
-    done = past.done;
+    deeds = unasked name ∷ past.deeds;
     es_is = ap (λ (x : List Event). touch name ∷ x) es_still;
-    are_done = inr (name, refl, past.are_done);
-    inner = subst (λ h. Past (inner_of g) (past.done ++ h)) (sym beside.held) inner;
+    inner = subst (λ h. Past (inner_of g) (held_by past.deeds ++ h)) (sym beside.held) inner;
+    shown = shown_still;
+    unwritten = λ is. let bad : true ≡ false = sym written ∙ is in cc;
+    own = own;
+  }
+
+  -- a file got another name there
+  pub was_set_aside : (name other : List ℕ) → Past (inner_of g) (link name other ∷ held_by past.deeds ++ held_of f) → g.is_written ≡ true
+      → IfSome g.own (λ name. IsSome (file_of es (string_bytes name))) → IsPast Past g es
+  was_set_aside name other inner written own = record {
+    deeds = aside name other ∷ past.deeds;
+    es_is = es_still;
+    inner = subst (λ h. Past (inner_of g) (link name other ∷ held_by past.deeds ++ h)) (sym beside.held) inner;
     shown = shown_still;
     unwritten = λ is. let bad : true ≡ false = sym written ∙ is in cc;
     own = own;
@@ -102,3 +111,9 @@ pub made_is_there : {Z : Type 0} (es : List Event) (name : List ℕ) (own : Stri
 made_is_there es name own o e same =
     subst (λ x. IfSome x (λ it. IsSome (file_of (create name ∷ es) (string_bytes it)))) (sym e)
     (subst (λ (b : Bool). IsSome (cond b (Some (files_made es)) (file_of es (string_bytes own)))) (sym (path_itself (string_bytes own) name same)) refl)
+
+-- ---- what is lost
+
+pub any_of_map : {X Y : Type 0} (test : Y → Bool) (f : X → Y) (xs : List X) → list_any (λ x. test (f x)) xs ≡ list_any test (map f xs)
+any_of_map test f [] = refl
+any_of_map test f (x ∷ xs) = ap (λ (b : Bool). test (f x) || b) (any_of_map test f xs)

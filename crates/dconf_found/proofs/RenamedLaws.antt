@@ -5,6 +5,7 @@ use Rattle.std.specs.Str.{bytes_eq}
 use Rattle.dconf_model.specs.Folders.{Event, content, content_of, file_of, files_made, is_file, read_content}
 use Rattle.dconf_model.specs.Folders.Event.{create, append, sync, touch, rename, remove, link, exchange, sync_folder}
 use Rattle.dconf_model.proofs.SameBytes.{itself, other_path, same_or_not, same_path, path_itself}
+use Rattle.dconf_folders.specs.Asides.{is_free_for, is_none_or}
 use Rattle.dconf_found.specs.Renamed.{Names, held_event, held_events, held_name, swapped}
 
 -- ---- a swap, twice, is none
@@ -112,3 +113,24 @@ same_content_of n es (Some file) = ap (λ (held : List ℕ). Some held) (same_co
 -- what a read gives by the name in the folder is what it gives by the other one
 pub same_read : (n : Names) (es : List Event) (name : List ℕ) → read_content (held_events n es) (held_name n name) ≡ read_content es name
 same_read n es name = ap (content_of (held_events n es)) (same_file n es name) ∙ same_content_of n es (file_of es name)
+
+-- ---- the way back
+
+-- the name, for who reads the folder, of what has this one in it
+abbrev pub shown_name : Names → List ℕ → List ℕ
+shown_name n name = swapped n.shown n.held (swapped n.shown_new n.held_new name)
+
+back : (n : Names) (name : List ℕ) → held_name n (shown_name n name) ≡ name
+back n name = ap (swapped n.shown_new n.held_new) (twice n.shown n.held (swapped n.shown_new n.held_new name)) ∙ twice n.shown_new n.held_new name
+
+-- a name that is free there is free by the other one
+pub as_free : (n : Names) (es : List Event) (name aside held : List ℕ) → held ≡ held_name n name
+    → is_free_for held aside (held_events n es) ≡ is_free_for name (shown_name n aside) es
+as_free n es name aside held is =
+    ap (λ (it : Option ℕ). is_none_or it (file_of (held_events n es) aside)) (ap (file_of (held_events n es)) is ∙ same_file n es name)
+    ∙ ap (is_none_or (file_of es name)) (ap (file_of (held_events n es)) (sym (back n aside)) ∙ same_file n es (shown_name n aside))
+
+pub as_linked : (n : Names) (es : List Event) (name aside held : List ℕ) → held ≡ held_name n name
+    → link held aside ∷ held_events n es ≡ held_events n (link name (shown_name n aside) ∷ es)
+as_linked n es name aside held is =
+    ap (λ (it : List ℕ). link it aside ∷ held_events n es) is ∙ ap (λ (it : List ℕ). link (held_name n name) it ∷ held_events n es) (sym (back n aside))

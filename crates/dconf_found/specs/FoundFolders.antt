@@ -2,11 +2,12 @@
 use Rattle.std.specs.Prelude.{◌≡◌, ◌⊎◌, ℕ, Bool, false, List, [], ◌∷◌, ◌++◌, IfSome, IsSome, true, not, ◌&&◌, map, Option, Some, None, option_map, vec_items, ◌≢◌}
 use Rattle.std.specs.String.{string_bytes}
 use Rattle.dconf_model.specs.Folders.{Event, file_of, read_content}
-use Rattle.dconf_model.specs.Folders.Event.{touch}
+use Rattle.dconf_model.specs.Folders.Event.{touch, link}
 use Rattle.dconf_folders.specs.Notes.{events_noted, is_honest}
 use Rattle.dconf_found.specs.Everyones.{IsEveryones}
 use Rattle.dconf_found.specs.declared.found.FoundFolder.{FoundFolder}
 use Rattle.dconf_found.specs.declared.lookup.Lookup.{Lookup}
+use Rattle.std.specs.List.{list_any}
 use Rattle.std.specs.Str.{bytes_eq}
 use Rattle.dconf_model.specs.Paths.{starts_with_slash}
 use Rattle.dconf_model.specs.Reads.{IsOverSize}
@@ -78,6 +79,10 @@ losses bad = map (λ b. (string_bytes b.name, b.loss)) bad
 abbrev pub losses_of : List ℕ → Option Loss → List Lost
 losses_of name None = []
 losses_of name (Some loss) = (name, loss) ∷ []
+
+-- something is lost of the database of this name
+abbrev pub is_bad : List Lost → List ℕ → Bool
+is_bad lost name = list_any (λ it. bytes_eq it.0 name) lost
 
 -- ---- what a read gives
 
@@ -178,20 +183,31 @@ module _ {F : Type 0} (folder : FoundFolder F) where
 abbrev pub AreShown : Lookup → List Event → List Event → Type 0
 AreShown lookup held shown = (name : List ℕ) → IsShown lookup name (read_content held name) (read_content shown name)
 
--- The second were done, and the first ones of the inner folder: the same, but for an append or a sync that was not asked of it.
-abbrev pub AreDone : List Event → List Event → Type 0
-AreDone done [] = done ≡ []
-AreDone done (e ∷ more) =
-    ((before : List Event) × (done ≡ e ∷ before) × AreDone before more) ⊎ ((name : List ℕ) × (e ≡ touch name) × AreDone done more)
+-- What a call did: to both folders the same; an append or a sync that was not asked of the inner one; or another name of a file there, which isn't
+-- shown.
+pub data Deed : Type 0 where
+  both : Event → Deed
+  unasked : List ℕ → Deed
+  aside : List ℕ → List ℕ → Deed
+
+abbrev pub shown_by : List Deed → List Event
+shown_by [] = []
+shown_by (both e ∷ deeds) = e ∷ shown_by deeds
+shown_by (unasked name ∷ deeds) = touch name ∷ shown_by deeds
+shown_by (aside name other ∷ deeds) = shown_by deeds
+
+abbrev pub held_by : List Deed → List Event
+held_by [] = []
+held_by (both e ∷ deeds) = e ∷ held_by deeds
+held_by (unasked name ∷ deeds) = held_by deeds
+held_by (aside name other ∷ deeds) = link name other ∷ held_by deeds
 
 -- These events are what was done to the folder that is shown, where `Past` says it of the inner one. It is read before it is written, and
 -- the file that it made last is there.
 pub record IsPast {F : Type 0} (Past : F → List Event → Type 0) (folder : FoundFolder F) (es : List Event) : Type 0 where
-  pub more : List Event
-  pub done : List Event
-  pub es_is : es ≡ more ++ shown_of folder
-  pub are_done : AreDone done more
-  pub inner : Past (inner_of folder) (done ++ held_of folder)
+  pub deeds : List Deed
+  pub es_is : es ≡ shown_by deeds ++ shown_of folder
+  pub inner : Past (inner_of folder) (held_by deeds ++ held_of folder)
   pub shown : AreShown (lookup_of folder) (held_of folder) (shown_of folder)
-  pub unwritten : folder.is_written ≡ false → more ≡ []
+  pub unwritten : folder.is_written ≡ false → deeds ≡ []
   pub own : IfSome folder.own (λ name. IsSome (file_of es (string_bytes name)))

@@ -1,13 +1,18 @@
 //! A folder in which bad databases count as what can be saved of them.
-ghost use Rattle.std.specs.Prelude.{◌≡◌, ◌≤◌, [], List, IfOk, IfSome, IsErrOf, IsSomeAnd, IsTrue, None, OnErr, OnOk, Some, false, length, option_map, string_bytes, vec_items};
+ghost use Rattle.std.specs.Prelude.{◌≡◌, ◌⊎◌, ◌≤◌, [], List, IfOk, IfSome, IsErrOf, IsSomeAnd, IsTrue, None, OnErr, OnOk, Some, false, length, option_map, string_bytes, true, vec_items};
 ghost use Rattle.dconf_model.specs.Folders.{Event, read_content};
 ghost use Rattle.dconf_model.specs.Reads.{IsOverSize};
+ghost use Rattle.dconf_folders.specs.Asides.{IsReplaced, IsSetAside};
 ghost use Rattle.dconf_folders.specs.Failures.{HasCause};
+ghost use Rattle.dconf_found.specs.FoundFolders.{is_bad, losses};
 
 use crate::bad::BadDatabase;
 use crate::lookup::{Lookup, look_up};
-use dconf_folders::{Folder, FolderFault, LARGEST_FILE, Record};
+use dconf_folders::{Folder, FolderFault, LARGEST_FILE, Old, Record};
 use std::alloc::Global;
+
+/// What the owner of a new file needs.
+const READ_AND_WRITE: u32 = 0o600;
 
 /// The folder of a store, with the profile that was found for it, for one run of a command: it is read, and then a file is replaced.
 ///
@@ -35,8 +40,7 @@ pub struct FoundFolder<F> {
 }
 
 impl<F: Folder> FoundFolder<F> {
-    ghost use Rattle.std.specs.Prelude.{true};
-    ghost use Rattle.dconf_found.specs.FoundFolders.{agrees, failures_of, inner_of, lost_of, losses};
+    ghost use Rattle.dconf_found.specs.FoundFolders.{agrees, failures_of, inner_of, lost_of};
 
     /// The folder `inner`, with the profile in the file `profile`, or the one that was `made`, which is read by that name. If it is that of
     /// all users its databases of the system are files beside it.
@@ -108,6 +112,26 @@ fn is_name(own: &Option<String>, name: &str) -> bool
     }
 }
 
+/// Whether something is lost of a database of this name.
+fn is_bad(bad: &[BadDatabase], name: &str) -> bool
+    ensures { result ≡ is_bad (losses bad.now) name.now }
+{
+    bad.iter().any(|it| it.name.as_str() == name)
+}
+
+/// What has the name of a database, which is to be set aside if it is bad. The owner of the new file may read and write it.
+fn if_bad(old: Old, is_bad: bool) -> Old
+    ensures aside { IsSetAside result → IsSetAside old ⊎ (is_bad ≡ true) }
+    ensures stays { IsReplaced result → is_bad ≡ false }
+{
+    match old {
+        Old::Absent => Old::Absent,
+        Old::Bits(bits) if is_bad => Old::SetAside(bits | READ_AND_WRITE),
+        Old::Bits(bits) => Old::Bits(bits),
+        Old::SetAside(bits) => Old::SetAside(bits),
+    }
+}
+
 impl<F: Folder> Folder for FoundFolder<F> {
     ghost use Rattle.std.specs.Prelude.{◌&&◌};
     ghost use Rattle.dconf_found.specs.FoundFolders.{IsPast, agrees, failures_of, inner_of, lookup_of, lost_of, IsLookedUp, IsTooBigAt};
@@ -119,6 +143,8 @@ impl<F: Folder> Folder for FoundFolder<F> {
     ghost holds_turn = { λ folder. F.holds_turn (inner_of folder) };
 
     ghost failed = { λ folder. failures_of folder };
+
+    ghost hides = { true };
 
     fn failures(&self) -> u64 {
         self.failures
@@ -148,13 +174,37 @@ impl<F: Folder> Folder for FoundFolder<F> {
         with_count(&mut self.failures, found)
     }
 
-    fn create(&mut self, name: &str) -> Result<(), FolderFault> {
+    fn take_turn(&mut self) -> Result<(), FolderFault> {
+        let taken = self.inner.take_turn();
+        with_count(&mut self.failures, taken)
+    }
+
+    /// A database that was bad when it was read is to be set aside.
+    fn look(&mut self, name: &str) -> Result<Old, FolderFault>
+        ensures past { (es : List Event) → IsPast F.past self.old es → IsPast F.past self.new es }
+        ensures honest { IsTrue (F.honest (inner_of self.new) && agrees self.new) → IsTrue (F.honest (inner_of self.old) && agrees self.old) }
+        ensures turn { F.holds_turn (inner_of self.new) ≡ F.holds_turn (inner_of self.old) }
+        ensures only { OnErr result (IsErrOf result FolderFault.Device) }
+        ensures cause { HasCause (failures_of self.old) (failures_of self.new) result }
+        // A bad one is never replaced without; and where the inner folder asks for nothing, only a bad one is set aside.
+        ensures aside { IfOk result (λ old. IsSetAside old → (F.hides ≡ true) ⊎ (is_bad (lost_of self.old) name.now ≡ true)) }
+        ensures stays { IfOk result (λ old. IsReplaced old → is_bad (lost_of self.old) name.now ≡ false) }
+    {
+        let is_bad = is_bad(&self.bad, name);
+        let found = match self.inner.look(name) {
+            Ok(old) => Ok(if_bad(old, is_bad)),
+            Err(fault) => Err(fault),
+        };
+        with_count(&mut self.failures, found)
+    }
+
+    fn create(&mut self, alloc: Global, name: &str, bits: u32) -> Result<(), FolderFault> {
         self.is_written = true;
         self.own = None;
         let Ok(own) = String::from_str(self.alloc, name) else {
             return with_count(&mut self.failures, Err(FolderFault::Device));
         };
-        let made = self.inner.create(name);
+        let made = self.inner.create(alloc, name, bits);
         self.own = if_made(&made, own);
         with_count(&mut self.failures, made)
     }
@@ -168,13 +218,20 @@ impl<F: Folder> Folder for FoundFolder<F> {
         with_count(&mut self.failures, appended)
     }
 
-    fn sync(&mut self, name: &str) -> Result<(), FolderFault> {
+    fn sync(&mut self, name: &str, bits: Option<u32>) -> Result<(), FolderFault> {
         self.is_written = true;
         if !is_name(&self.own, name) {
             return with_count(&mut self.failures, Err(FolderFault::Device));
         }
-        let synced = self.inner.sync(name);
+        let synced = self.inner.sync(name, bits);
         with_count(&mut self.failures, synced)
+    }
+
+    /// Its other name is in the inner folder alone.
+    fn set_aside(&mut self, alloc: Global, name: &str) -> Result<(), FolderFault> {
+        self.is_written = true;
+        let done = self.inner.set_aside(alloc, name);
+        with_count(&mut self.failures, done)
     }
 
     fn rename(&mut self, from: &str, to: &str) -> Result<(), FolderFault> {

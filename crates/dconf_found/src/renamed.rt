@@ -2,7 +2,7 @@
 ghost use Rattle.std.specs.Prelude.{◌≡◌, IfOk};
 ghost use Rattle.dconf_found.specs.Renamed.{held_name, names_of, no_names, swapped, users_names};
 
-use dconf_folders::{Folder, FolderFault};
+use dconf_folders::{Folder, FolderFault, Old};
 use std::alloc::{AllocError, Global};
 
 /// The names that a file has for who reads the folder, and those that it has in it.
@@ -92,6 +92,8 @@ impl<F: Folder> Folder for RenamedFolder<F> {
 
     ghost failed = { λ folder. F.failed (renamed_inner folder) };
 
+    ghost hides = { F.hides };
+
     fn failures(&self) -> u64 {
         self.inner.failures()
     }
@@ -100,16 +102,28 @@ impl<F: Folder> Folder for RenamedFolder<F> {
         self.inner.read(alloc, self.names.held(name))
     }
 
-    fn create(&mut self, name: &str) -> Result<(), FolderFault> {
-        self.inner.create(self.names.held(name))
+    fn take_turn(&mut self) -> Result<(), FolderFault> {
+        self.inner.take_turn()
+    }
+
+    fn look(&mut self, name: &str) -> Result<Old, FolderFault> {
+        self.inner.look(self.names.held(name))
+    }
+
+    fn create(&mut self, alloc: Global, name: &str, bits: u32) -> Result<(), FolderFault> {
+        self.inner.create(alloc, self.names.held(name), bits)
     }
 
     fn append(&mut self, name: &str, bytes: &[u8]) -> Result<(), FolderFault> {
         self.inner.append(self.names.held(name), bytes)
     }
 
-    fn sync(&mut self, name: &str) -> Result<(), FolderFault> {
-        self.inner.sync(self.names.held(name))
+    fn sync(&mut self, name: &str, bits: Option<u32>) -> Result<(), FolderFault> {
+        self.inner.sync(self.names.held(name), bits)
+    }
+
+    fn set_aside(&mut self, alloc: Global, name: &str) -> Result<(), FolderFault> {
+        self.inner.set_aside(alloc, self.names.held(name))
     }
 
     fn rename(&mut self, from: &str, to: &str) -> Result<(), FolderFault> {

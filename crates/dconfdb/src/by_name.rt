@@ -7,8 +7,9 @@ use crate::sources::{Unread, source_folder};
 use crate::updates::{Making, update_in, update_machines};
 use dconf_args::{Command, Place};
 use dconf_by_name::{
-    Asked, Verb, asked, compile_of_folder, dconfs_sentence, directory_of, ignored, is_wrong_value,
-    list_of, locks_of, offers, refusal, usage,
+    Asked, Verb, asked, compile_of_folder, dconfs_sentence, directory_of, doubles, ignored,
+    in_dconfs_order, is_ignored, is_wrong_value, list_of, locks_of, offers, refusal, usage,
+    warning_of,
 };
 use dconf_words::Heard;
 use std::fs;
@@ -37,6 +38,8 @@ pub(crate) fn dconf(rt: &HostRuntime, words: &[String]) -> u8 {
     };
     match of {
         Asked::Run(command) => run(rt, command),
+        Asked::Dump(command) => dump(rt, command),
+        Asked::Reset { command, key } => reset(rt, command, key),
         Asked::Load { command, directory } => load(rt, command, directory),
         Asked::Update(None) => update_machines(rt, Making::AsDconf),
         Asked::Update(Some(folder)) => update_in(rt, folder, Making::AsDconf),
@@ -67,18 +70,56 @@ pub(crate) fn dconf(rt: &HostRuntime, words: &[String]) -> u8 {
 /// Runs a command on the user's own store.
 fn run(rt: &HostRuntime, command: Command) -> u8 {
     let alloc = rt.alloc();
-    let is_dump = matches!(&command, Command::Dump { .. });
-    let out = Heard::new(alloc, rt.stdout());
-    let mut session = Session::on(alloc, rt.stdin(), out, rt.stderr());
+    let mut session = Session::on(alloc, rt.stdin(), rt.stdout(), rt.stderr());
     session.leaves_made = true;
     let status = run_at(rt, command, USERS, &mut session);
+    say_more(rt, status, session.err.get_ref().text())
+}
+
+/// Runs `dump DIR`, and prints its groups in dconf's order.
+fn dump(rt: &HostRuntime, command: Command) -> u8 {
+    let alloc = rt.alloc();
+    let mut session = Session::on(alloc, rt.stdin(), Vec::new(alloc), rt.stderr());
+    let status = run_at(rt, command, USERS, &mut session);
+    let dumped = str::from_utf8(session.out.get_ref().as_slice()).unwrap_or("");
     // Comments in the first lines name what a dump leaves out.
-    if is_dump && session.out.get_ref().text().starts_with(b"# ") {
+    if dumped.starts_with('#') {
         let _ = eprintln!(rt;
             "warning: a double has no text: the first lines name the keys that are left out"
         );
     }
-    say_more(rt, status, session.err.get_ref().text())
+    match in_dconfs_order(alloc, dumped) {
+        Ok(text) => status | status_of(print!(rt; "{text}")),
+        Err(_) => refuse_memory(rt),
+    }
+}
+
+/// Runs `reset KEY`. A locked key stays as it is, and is named.
+fn reset(rt: &HostRuntime, command: Command, key: &str) -> u8 {
+    let alloc = rt.alloc();
+    let Some(locks) = locks(rt) else {
+        return run(rt, command);
+    };
+    if !matches!(is_ignored(alloc, locks.as_str(), key), Ok(true)) {
+        return run(rt, command);
+    }
+    if let Ok(warning) = warning_of(alloc, key) {
+        let _ = eprint!(rt; "{warning}");
+    }
+    0
+}
+
+/// What `list-locks /` prints; nothing where it is refused, of which nothing is said.
+fn locks(rt: &HostRuntime) -> Option<String> {
+    let alloc = rt.alloc();
+    let command = locks_of(alloc).ok()?;
+    let mut session = Session::on(alloc, rt.stdin(), Vec::new(alloc), Vec::new(alloc));
+    session.warns = false;
+    if run_at(rt, command, USERS, &mut session) != 0 {
+        return None;
+    }
+    let listed = str::from_utf8(session.out.get_ref().as_slice()).ok()?;
+    String::from_str(alloc, listed).ok()
 }
 
 /// Says what dconf says of a refusal whose line is this, and gives the status.
@@ -93,19 +134,19 @@ fn say_more(rt: &HostRuntime, status: u8, line: &[u8]) -> u8 {
     USAGE
 }
 
-/// Runs `load -f DIR`, and names what it left out.
+/// Runs `load [-f] DIR`, and names what it left out.
 fn load(rt: &HostRuntime, command: Command, directory: &str) -> u8 {
     let alloc = rt.alloc();
+    let is_forced = matches!(&command, Command::Load { force: true, .. });
     let input = Heard::new(alloc, rt.stdin());
     let mut session = Session::on(alloc, input, Vec::new(alloc), rt.stderr());
     let status = run_at(rt, command, USERS, &mut session);
-    let doubles = str::from_utf8(session.out.get_ref().as_slice()).unwrap_or("");
-    if !doubles.is_empty() {
-        let _ = eprint!(rt;
-            "warning: a double's text is not read: these keys are left as they were:\n{doubles}"
-        );
+    let left_out = str::from_utf8(session.out.get_ref().as_slice()).unwrap_or("");
+    // Without memory nothing is said.
+    if let Ok(text) = doubles(alloc, left_out) {
+        let _ = eprint!(rt; "{text}");
     }
-    if status == 0 {
+    if status == 0 && is_forced {
         say_ignored(rt, directory, session.input.get_ref().text());
     }
     say_more(rt, status, session.err.get_ref().text())
@@ -114,16 +155,10 @@ fn load(rt: &HostRuntime, command: Command, directory: &str) -> u8 {
 /// Names the locked keys among those of a keyfile that was loaded. Without memory for it nothing is said.
 fn say_ignored(rt: &HostRuntime, directory: &str, keyfile: &[u8]) {
     let alloc = rt.alloc();
-    let Ok(command) = locks_of(alloc) else {
+    let Some(locks) = locks(rt) else {
         return;
     };
-    let mut session = Session::on(alloc, rt.stdin(), Vec::new(alloc), Vec::new(alloc));
-    session.warns = false;
-    if run_at(rt, command, USERS, &mut session) != 0 {
-        return;
-    }
-    let locks = str::from_utf8(session.out.get_ref().as_slice()).unwrap_or("");
-    if let Ok(text) = ignored(alloc, locks, directory, keyfile) {
+    if let Ok(text) = ignored(alloc, locks.as_str(), directory, keyfile) {
         let _ = eprint!(rt; "{text}");
     }
 }

@@ -4,7 +4,6 @@
 
 mod by_name;
 mod explain;
-mod keep;
 mod marks;
 mod messages;
 mod named;

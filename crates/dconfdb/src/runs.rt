@@ -12,14 +12,12 @@ ghost use Rattle.dconf_found.specs.FoundFolders.{IsPast, agrees, inner_of};
 ghost use Rattle.dconf_found.specs.Renamed.{IsRenamed, renamed_inner};
 
 use crate::explain::{Given, explain};
-use crate::keep::{forget, keep};
-use crate::marks::set_flag;
-use crate::messages::{REFUSED, refuse, refuse_device, refuse_memory, refuse_place, warn_of_bad};
+use crate::messages::{REFUSED, refuse, refuse_memory, refuse_place, warn_of_bad};
 use crate::named::{first_file, warn_of_missing_ones};
 use crate::session::Session;
 use dconf_args::{Command, Place, Replaced, user_file};
 use dconf_cli::{Counted, is_made, run};
-use dconf_disk::{Folder, FolderFault, FolderLock, LockFault, StdFolder, folder_of};
+use dconf_disk::{Folder, FolderLock, LockFault, StdFolder, folder_of};
 use dconf_found::{BadDatabase, FoundFolder, RenamedFolder};
 use dconf_places::EVERYONES_FOLDER;
 use dconf_surroundings::{Found, NotFound, enter};
@@ -83,7 +81,10 @@ fn run_found<I: Read, O: Write, E: Write>(
         return read_found(rt, asked, StdFolder::read_only(rt), &found, session);
     }
     match FolderLock::take(rt, rt.alloc(), ".") {
-        Ok(lock) => change_found(rt, asked, in_turn(rt, lock, &found), &found, session),
+        Ok(lock) => match in_turn(rt, lock, &found) {
+            Ok(folder) => read_found(rt, asked, folder, &found, session),
+            Err(_) => refuse_memory(rt),
+        },
         Err(LockFault::Busy) => match users_path(rt, &found) {
             Ok(path) => refuse_busy_file(rt, path.as_str()),
             Err(_) => refuse_memory(rt),
@@ -107,17 +108,11 @@ fn read_found<I: Read, O: Write, E: Write>(
         return refuse_memory(rt);
     };
     let is_explained = matches!(&asked, Command::Explain { .. });
-    let is_change = asked.replaced().is_some();
-    let is_idle = session.leaves_made && changes_nothing(rt, &asked, found);
-    let status = if is_idle {
+    let status = if session.leaves_made && changes_nothing(rt, &asked, found) {
         0
     } else {
         run_within(rt, asked, found, &mut folder, session)
     };
-    if is_change && !is_idle {
-        // In the turn, and whatever became of it: who reads looks again, and that is all.
-        set_flag(rt, found.flag.as_str());
-    }
     let told = if is_explained && status == 0 {
         print!(rt; "{}", found.kind.as_str())
     } else {
@@ -150,13 +145,23 @@ fn changes_nothing(rt: &HostRuntime, asked: &Command, found: &Found) -> bool {
     }
 }
 
-/// A folder in which files are replaced. Where dconf has the user's database, a new one is open to its owner alone, as dconf makes it.
-fn in_turn<'a>(rt: &'a HostRuntime, lock: FolderLock, found: &Found) -> StdFolder<&'a HostRuntime> {
-    if found.is_dconfs {
+/// A folder in which files are replaced. Where dconf has the user's database, a new one is open to its owner alone, as dconf makes it, and dconf's
+/// readers are told.
+fn in_turn<'a>(
+    rt: &'a HostRuntime,
+    lock: FolderLock,
+    found: &Found,
+) -> Result<StdFolder<&'a HostRuntime>, AllocError> {
+    let folder = if found.is_dconfs {
         StdFolder::in_private_turn(rt, lock)
     } else {
         StdFolder::in_turn(rt, lock)
+    };
+    if found.flag.is_empty() {
+        return Ok(folder);
     }
+    let flag = String::from_str(rt.alloc(), found.flag.as_str())?;
+    Ok(folder.with_flag(flag))
 }
 
 /// Says what nobody would learn from the status alone. What can't be said is a refusal.
@@ -203,40 +208,6 @@ fn found_folder<'a>(
         found.is_everyones(),
         found.has_folder,
     ))
-}
-
-/// The same of a command that changes the user's file, which is kept under another name if it is bad.
-fn change_found<I: Read, O: Write, E: Write>(
-    rt: &HostRuntime,
-    asked: Command,
-    folder: StdFolder<&HostRuntime>,
-    found: &Found,
-    session: &mut Session<I, O, E>,
-) -> u8 {
-    let Ok(name) = users_file(rt, found) else {
-        return refuse_memory(rt);
-    };
-    if name == found.profile.path {
-        return read_found(rt, asked, folder, found, session);
-    }
-    let Ok(name) = found.held(rt, name.as_str()) else {
-        return refuse_memory(rt);
-    };
-    let kept = match keep(rt, name.as_str()) {
-        Ok(kept) => kept,
-        Err(FolderFault::Memory) => return refuse_memory(rt),
-        Err(_) => {
-            return match users_path(rt, found) {
-                Ok(path) => refuse_device(rt, path.as_str()),
-                Err(_) => refuse_memory(rt),
-            };
-        }
-    };
-    let status = read_found(rt, asked, folder, found, session);
-    if let Some(other) = kept {
-        forget(rt, name.as_str(), other.as_str());
-    }
-    status
 }
 
 /// The whole path of the user's file.

@@ -20,10 +20,11 @@ const FILES: [(&str, &str); 5] = [
 /// databases by hand. A crash leaves all of them.
 pub(crate) fn store(alloc: Global) -> Result<MemoryFolder, Fail> {
     let mut folder = two_layers(alloc, "/x\n")?;
-    put(&mut folder, "v", b"\x01\0\0\0\x02\0\0\0")?;
-    put_all(&mut folder, &FILES)?;
-    put(&mut folder, "hash", &words(alloc, "%plain 60=190")?)?;
+    put(alloc, &mut folder, "v", b"\x01\0\0\0\x02\0\0\0")?;
+    put_all(alloc, &mut folder, &FILES)?;
+    put(alloc, &mut folder, "hash", &words(alloc, "%plain 60=190")?)?;
     put(
+        alloc,
         &mut folder,
         "empty",
         &words(alloc, "%plain :32 20=32 27=40 28=0")?,

@@ -22,7 +22,12 @@ pub(crate) fn two_layers(alloc: Global, locks: &str) -> Result<MemoryFolder, Fai
         ("late", "system-db:bad\nsystem-db:site\n"),
     ];
     let mut folder = folder_of(alloc, &files)?;
-    put(&mut folder, "bad.db", &bytes_of(alloc, "%plain :23")?)?;
+    put(
+        alloc,
+        &mut folder,
+        "bad.db",
+        &bytes_of(alloc, "%plain :23")?,
+    )?;
     runs(alloc, MADE, &mut folder)?;
     settle(&mut folder, &files)?;
     settle(&mut folder, &[("bad.db", "")])?;
@@ -32,7 +37,7 @@ pub(crate) fn two_layers(alloc: Global, locks: &str) -> Result<MemoryFolder, Fai
 /// Syncs these files and the folder, so that a crash leaves them.
 pub(crate) fn settle(folder: &mut MemoryFolder, files: &[(&str, &str)]) -> Result<(), Fail> {
     for (name, _) in files {
-        folder.sync(name)?;
+        folder.sync(name, None)?;
     }
     folder.sync_folder()?;
     Ok(())

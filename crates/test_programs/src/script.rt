@@ -85,16 +85,25 @@ pub(crate) fn add_line(left: &str, found: &mut String) -> Result<(), AllocError>
     Ok(())
 }
 
-pub(crate) fn put(folder: &mut MemoryFolder, name: &str, bytes: &[u8]) -> Result<(), Fail> {
-    folder.create(name)?;
+pub(crate) fn put(
+    alloc: Global,
+    folder: &mut MemoryFolder,
+    name: &str,
+    bytes: &[u8],
+) -> Result<(), Fail> {
+    folder.create(alloc, name, 0o666)?;
     folder.append(name, bytes)?;
     Ok(())
 }
 
 /// Puts files of these texts into the folder.
-pub(crate) fn put_all(folder: &mut MemoryFolder, files: &[(&str, &str)]) -> Result<(), Fail> {
+pub(crate) fn put_all(
+    alloc: Global,
+    folder: &mut MemoryFolder,
+    files: &[(&str, &str)],
+) -> Result<(), Fail> {
     for (name, text) in files {
-        put(folder, name, text.as_bytes())?;
+        put(alloc, folder, name, text.as_bytes())?;
     }
     Ok(())
 }
@@ -102,7 +111,7 @@ pub(crate) fn put_all(folder: &mut MemoryFolder, files: &[(&str, &str)]) -> Resu
 /// A folder with files of these texts.
 pub(crate) fn folder_of(alloc: Global, files: &[(&str, &str)]) -> Result<MemoryFolder, Fail> {
     let mut folder = MemoryFolder::new(alloc);
-    put_all(&mut folder, files)?;
+    put_all(alloc, &mut folder, files)?;
     Ok(folder)
 }
 

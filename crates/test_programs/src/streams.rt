@@ -1,6 +1,6 @@
 //! The streams of a run, which fail at a call that is named, and a folder that refuses every read.
 use dconf_cli::Counted;
-use dconf_folders::{Folder, FolderFault};
+use dconf_folders::{Folder, FolderFault, Old};
 use std::alloc::Global;
 use std::io;
 use std::io::{Error, ErrorKind, Read, Write};
@@ -146,6 +146,8 @@ impl Folder for Refusing {
 
     ghost failed = { λ _. 0 };
 
+    ghost hides = { false };
+
     fn failures(&self) -> u64 {
         0
     }
@@ -157,7 +159,19 @@ impl Folder for Refusing {
         }
     }
 
-    fn create(&mut self, _name: &str) -> Result<(), FolderFault> {
+    fn take_turn(&mut self) -> Result<(), FolderFault> {
+        Ok(())
+    }
+
+    fn look(&mut self, _name: &str) -> Result<Old, FolderFault> {
+        Ok(Old::Absent)
+    }
+
+    fn create(&mut self, _alloc: Global, _name: &str, _bits: u32) -> Result<(), FolderFault> {
+        Ok(())
+    }
+
+    fn set_aside(&mut self, _alloc: Global, _name: &str) -> Result<(), FolderFault> {
         Ok(())
     }
 
@@ -165,7 +179,7 @@ impl Folder for Refusing {
         Ok(())
     }
 
-    fn sync(&mut self, _name: &str) -> Result<(), FolderFault> {
+    fn sync(&mut self, _name: &str, _bits: Option<u32>) -> Result<(), FolderFault> {
         Ok(())
     }
 

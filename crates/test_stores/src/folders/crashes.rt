@@ -13,6 +13,7 @@ fn calls_of(name: &str) -> &'static str {
         }
         "unsynced" => "create me.user, append me.user abc, settle",
         "renamed" => "create a, append a x, sync a, settle, rename a b",
+        "aside" => "create a, append a x, sync a, settle, aside a",
         _ => "",
     }
 }
@@ -95,6 +96,8 @@ unsynced 3 2000: done read me.user \0; done read me.user \0 | Some([true, false,
 unsynced 3 2000: done read me.user ff; done read me.user ff | Some([true, false, false, true])
 -- each name is old or new, after a rename
 renamed 5 16: done read a x; done read b x | Some([true, true, true, true])
+-- what is set aside keeps its name, and may have another one
+aside 5 16: done read a x; done read a~1 x | Some([false, false, true, true])
 -- a file that no sync of the folder saw may be gone
 renamed 3 16: missing read a x; done read a x | Some([false, true, true, false])
 ";

@@ -27,6 +27,11 @@ read store_tests_gone | missing
 remove store_tests_gone | device
 create store_tests_linked | done
 append store_tests_linked old | done
+aside store_tests_linked | done
+aside store_tests_linked | done
+read store_tests_linked~1 old | done
+read store_tests_linked~2 | missing
+remove store_tests_linked~1 | done
 replace store_tests_folder/second new | done
 read store_tests_folder/second new | done
 read store_tests_folder/second.new | missing
@@ -60,12 +65,13 @@ rename /dev/null store_tests_unmade | device
 remove store_tests_linked | device
 append store_tests_linked x | device
 sync store_tests_linked | device
+aside store_tests_linked | device
 settle | device
 read store_tests_linked old | done
 replace store_tests_unmade x | device
 read store_tests_unmade | missing
 read /dev/null | done
-failures 6 | done
+failures 7 | done
 ";
 
 const MADE: &str = "

@@ -52,10 +52,11 @@ pub(crate) fn answered<'a, F: Folder>(alloc: Global, folder: &mut F, call: &'a s
     let (word, rest) = call.split_once(' ').unwrap_or((call, ""));
     let (name, other) = rest.split_once(' ').unwrap_or((rest, ""));
     answer_of(match word {
-        "create" => folder.create(name),
+        "create" => folder.create(alloc, name, 0o666),
         "append" => folder.append(name, other.as_bytes()),
-        "sync" => folder.sync(name),
+        "sync" => folder.sync(name, None),
         "rename" => folder.rename(name, other),
+        "aside" => folder.set_aside(alloc, name),
         "settle" => folder.sync_folder(),
         "replace" => replace(alloc, folder, name, other.as_bytes()),
         "remove" => return if folder.remove(name) {

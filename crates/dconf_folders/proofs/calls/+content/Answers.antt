@@ -2,7 +2,7 @@ use Rattle.std.proofs.Common.{◌≡◌, ◌-◌, ◌++◌, ℕ, List, length, t
 use Rattle.std.specs.String.{string_bytes}
 use Rattle.dconf_model.specs.Folders.{file_of, is_file, content}
 use Rattle.dconf_folders.specs.MemoryFolders.{events_of}
-use Rattle.dconf_folders.proofs.CallLemmas.{content_append, content_create, content_rename, content_sync, content_touch, content_remove, content_sync_folder, by_true, by_false}
+use Rattle.dconf_folders.proofs.CallLemmas.{content_append, content_create, content_rename, content_sync, content_touch, content_remove, content_sync_folder, content_link, by_true, by_false}
 use Rattle.dconf_folders.proofs.calls.+content.Goals as goal
 
 pub returns-then-is_file : goal.returns-then-is_file
@@ -38,3 +38,6 @@ returns-in-Touch t c = c.in_ok-bytes.ensures ∙ sym (content_touch c.args.calls
 
 pub returns-in-Remove : goal.returns-in-Remove
 returns-in-Remove t c = c.in_ok-bytes.ensures ∙ sym (content_remove c.args.calls.now _ c.args.file c.last-item.result (omega arith) c.last-item.is c.in-Remove.is)
+
+pub returns-in-Link : goal.returns-in-Link
+returns-in-Link t c = c.in_ok-bytes.ensures ∙ sym (content_link c.args.calls.now _ _ c.args.file c.last-item.result (omega arith) c.last-item.is c.in-Link.is)

@@ -2,7 +2,7 @@ use Rattle.std.proofs.Common.{ℕ, Some, ◌-◌, length, take, sym, ap, ◌∙�
 use Rattle.std.specs.Str.{bytes_eq}
 use Rattle.dconf_model.specs.Folders.{file_of}
 use Rattle.dconf_folders.specs.MemoryFolders.{events_of}
-use Rattle.dconf_folders.proofs.CallLemmas.{newest_create, newest_rename, newest_append, newest_sync, newest_touch, newest_remove, newest_sync_folder, by_true, by_false}
+use Rattle.dconf_folders.proofs.CallLemmas.{newest_create, newest_rename, newest_append, newest_sync, newest_touch, newest_remove, newest_sync_folder, newest_link, by_true, by_false}
 use Rattle.dconf_folders.proofs.calls.+file_of.Goals as goal
 
 pub returns-then-eq : goal.returns-then-eq
@@ -54,3 +54,13 @@ pub returns-else-eq-4 : goal.returns-else-eq-4
 returns-else-eq-4 t c =
     c.file_of-in-Remove.ensures ∙ by_false _ _ _ _ (newest_remove c.args.calls.now c.in-Remove.gone c.args.name.now c.last-item.result (omega arith) c.last-item.is c.in-Remove.is)
     (ap (bytes_eq c.args.name.now) (sym c.as_str-in-Remove.ensures.value) ∙ (sym c.eq-in-Remove.ensures ∙ c.if-eq-4.false))
+
+pub returns-then-eq-5 : goal.returns-then-eq-5
+returns-then-eq-5 t c =
+    c.file_of-then-eq-5.ensures ∙ ap (file_of (events_of (take (length c.args.calls.now - 1) c.args.calls.now))) c.as_str-then-eq-5.ensures.value
+    ∙ by_true _ _ _ _ (newest_link c.args.calls.now c.in-Link.from c.in-Link.to c.args.name.now c.last-item.result (omega arith) c.last-item.is c.in-Link.is) (ap (bytes_eq c.args.name.now) (sym c.as_str-in-Link.ensures.value) ∙ (sym c.eq-in-Link.ensures ∙ c.if-eq-5.true))
+
+pub returns-else-eq-5 : goal.returns-else-eq-5
+returns-else-eq-5 t c =
+    c.file_of-in-Link.ensures ∙ by_false _ _ _ _ (newest_link c.args.calls.now c.in-Link.from c.in-Link.to c.args.name.now c.last-item.result (omega arith) c.last-item.is c.in-Link.is)
+    (ap (bytes_eq c.args.name.now) (sym c.as_str-in-Link.ensures.value) ∙ (sym c.eq-in-Link.ensures ∙ c.if-eq-5.false))

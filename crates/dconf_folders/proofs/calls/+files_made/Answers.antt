@@ -22,3 +22,6 @@ returns-in-SyncFolder-clause-is t c = c.files_made-before.ensures.is ∙ sym (ma
 
 pub returns-in-Remove-clause-is : goal.returns-in-Remove-clause-is
 returns-in-Remove-clause-is t c = c.files_made-before.ensures.is ∙ sym (made_by c.args.calls.now c.last-item.result _ (omega arith) c.last-item.is c.in-Remove.is)
+
+pub returns-in-Link-clause-is : goal.returns-in-Link-clause-is
+returns-in-Link-clause-is t c = c.files_made-before.ensures.is ∙ sym (made_by c.args.calls.now c.last-item.result _ (omega arith) c.last-item.is c.in-Link.is)

@@ -70,3 +70,6 @@ returns-in-SyncFolder t c = c.is_synced-in-SyncFolder.ensures ∙ sym (synced_by
 
 pub returns-in-Remove : goal.returns-in-Remove
 returns-in-Remove t c = c.is_synced-in-Remove.ensures ∙ sym (synced_by c.args.calls.now c.last-item.result _ c.args.file (omega arith) c.last-item.is c.in-Remove.is)
+
+pub returns-in-Link : goal.returns-in-Link
+returns-in-Link t c = c.is_synced-in-Link.ensures ∙ sym (synced_by c.args.calls.now c.last-item.result _ c.args.file (omega arith) c.last-item.is c.in-Link.is)

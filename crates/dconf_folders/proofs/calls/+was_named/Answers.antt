@@ -52,3 +52,19 @@ returns-in-SyncFolder t c = c.was_named-in-SyncFolder.ensures ∙ sym (named_by 
 
 pub returns-in-Remove : goal.returns-in-Remove
 returns-in-Remove t c = c.was_named-in-Remove.ensures ∙ sym (named_by c.args.calls.now c.last-item.result _ c.args.name.now (omega arith) c.last-item.is c.in-Remove.is)
+
+pub returns-then-eq-3 : goal.returns-then-eq-3
+returns-then-eq-3 t c =
+    let earlier = events_of (take (length c.args.calls.now - 1) c.args.calls.now) in
+    let test : bytes_eq c.args.name.now (string_bytes c.in-Link.to) ≡ c.eq-in-Link.result =
+    sym (c.eq-in-Link.ensures ∙ ap (bytes_eq c.args.name.now) c.as_str-in-Link.ensures.value) in
+    by_true (bytes_eq c.args.name.now (string_bytes c.in-Link.to)) true (was_named earlier c.args.name.now) _
+    (named_by c.args.calls.now c.last-item.result _ c.args.name.now (omega arith) c.last-item.is c.in-Link.is) (test ∙ c.if-eq-3.true)
+
+pub returns-else-eq-3 : goal.returns-else-eq-3
+returns-else-eq-3 t c =
+    let earlier = events_of (take (length c.args.calls.now - 1) c.args.calls.now) in
+    let test : bytes_eq c.args.name.now (string_bytes c.in-Link.to) ≡ c.eq-in-Link.result =
+    sym (c.eq-in-Link.ensures ∙ ap (bytes_eq c.args.name.now) c.as_str-in-Link.ensures.value) in
+    c.was_named-in-Link.ensures ∙ by_false (bytes_eq c.args.name.now (string_bytes c.in-Link.to)) true (was_named earlier c.args.name.now) _
+    (named_by c.args.calls.now c.last-item.result _ c.args.name.now (omega arith) c.last-item.is c.in-Link.is) (test ∙ c.if-eq-3.false)

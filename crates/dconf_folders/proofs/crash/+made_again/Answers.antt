@@ -6,7 +6,7 @@ use Rattle.dconf_model.specs.Folders.Event.{create}
 use Rattle.dconf_folders.specs.MemoryFolders.{events_of}
 use Rattle.dconf_folders.specs.Crashes.{AreMadeAgain}
 use Rattle.dconf_folders.proofs.CallLemmas.{newest}
-use Rattle.dconf_folders.proofs.MadeAgain.{by_rename}
+use Rattle.dconf_folders.proofs.MadeAgain.{by_link, by_rename}
 use Rattle.dconf_folders.proofs.crash.+made_again.Goals as goal
 
 pub returns-in-Create : goal.returns-in-Create
@@ -55,3 +55,12 @@ returns-in-Remove t c =
     let a = c.in_ok-left.ensures in
     subst (λ (es : List Event). AreMadeAgain es (events_of c.args.all.now) (events_of c.in_ok-left.left.items)) (sym (newest c.args.calls.now c.last-item.result _ (omega arith) c.last-item.is c.in-Remove.is))
     (record { synced = a.synced; named = a.named; others = a.others })
+
+pub returns-in-Link : goal.returns-in-Link
+returns-in-Link t c =
+    let given = events_of (take (length c.args.calls.now - 1) c.args.calls.now) in
+    let all = events_of c.args.all.now in
+    IfOk-weaker c.make_again-in-Link.result (λ made. AreMadeAgain (create c.as_str-in-Link.result.now ∷ given) all (events_of made.items)) (λ made. AreMadeAgain (events_of c.args.calls.now) all (events_of made.items))
+    (λ made a. subst (λ (es : List Event). AreMadeAgain es all (events_of made.items)) (sym (newest c.args.calls.now c.last-item.result _ (omega arith) c.last-item.is c.in-Link.is))
+    (by_link given all (events_of made.items) (string_bytes c.in-Link.field-0) (string_bytes c.in-Link.name)
+    (subst (λ (n : List ℕ). AreMadeAgain (create n ∷ given) all (events_of made.items)) c.as_str-in-Link.ensures.value a))) c.make_again-in-Link.ensures

@@ -58,3 +58,13 @@ pub returns-else-eq-4 : goal.returns-else-eq-4
 returns-else-eq-4 t c =
     subst (λ es. StoodFor es c.args.name.now c.stood_for-in-Remove.result) (sym (newest c.args.calls.now c.last-item.result _ (omega arith) c.last-item.is c.in-Remove.is))
     (inr c.stood_for-in-Remove.ensures)
+
+pub returns-then-pick-eq0-5 : goal.returns-then-pick-eq0-5
+returns-then-pick-eq0-5 t c =
+    subst (λ es. StoodFor es c.args.name.now c.file_of-then-pick-eq0-5.result) (sym (newest c.args.calls.now c.last-item.result _ (omega arith) c.last-item.is c.in-Link.is))
+    (inl (same_text _ _ _ _ c.eq-in-Link.ensures c.as_str-in-Link.ensures.value c.if-eq-5.true, c.file_of-then-pick-eq0-5.ensures ∙ ap (file_of (events_of (take (length c.args.calls.now - 1) c.args.calls.now))) c.as_str-then-pick-eq0-5.ensures.value))
+
+pub returns-else-eq-5 : goal.returns-else-eq-5
+returns-else-eq-5 t c =
+    subst (λ es. StoodFor es c.args.name.now c.stood_for-in-Link.result) (sym (newest c.args.calls.now c.last-item.result _ (omega arith) c.last-item.is c.in-Link.is))
+    (inr c.stood_for-in-Link.ensures)

@@ -1,7 +1,7 @@
 use Rattle.std.proofs.Common.{◌++◌, inl, inr, refl}
 use Rattle.dconf_folders.proofs.Results.{always_err}
 use Rattle.dconf_model.specs.Folders.Event.{append, touch}
-use Rattle.dconf_found.specs.FoundFolders.{held_of}
+use Rattle.dconf_found.specs.FoundFolders.{held_by, held_of}
 use Rattle.dconf_found.proofs.PastLaws.{did, err_from, ok_from, refused}
 use Rattle.dconf_found.proofs.found.FoundFolderFolder.append.Goals as goal
 
@@ -10,12 +10,12 @@ returns-then-not-is_name-clause-err g c turn es past = always_err c.with_count.r
 
 pub returns-clause-ok : goal.returns-clause-ok
 returns-clause-ok g c es past =
-    ok_from c.with_count-2.result c.append-appended.result _ _ c.with_count-2.ensures.same (c.append-appended.ensures.ok (past.done ++ held_of c.args.self.now) past.inner)
+    ok_from c.with_count-2.result c.append-appended.result _ _ c.with_count-2.ensures.same (c.append-appended.ensures.ok (held_by past.deeds ++ held_of c.args.self.now) past.inner)
     (λ inner. did g.F.Folder.past c.args.self.now _ es (record { lookup = refl; shown = refl; held = refl }) past (append c.args.name.now c.args.bytes.now) inner refl past.own)
 
 pub returns-clause-err : goal.returns-clause-err
 returns-clause-err g c turn es past =
-    err_from c.with_count-2.result c.append-appended.result _ _ c.with_count-2.ensures.same (c.append-appended.ensures.err turn (past.done ++ held_of c.args.self.now) past.inner)
+    err_from c.with_count-2.result c.append-appended.result _ _ c.with_count-2.ensures.same (c.append-appended.ensures.err turn (held_by past.deeds ++ held_of c.args.self.now) past.inner)
     (λ either. elim either [
       | inl inner ↦ inl (did g.F.Folder.past c.args.self.now _ es (record { lookup = refl; shown = refl; held = refl }) past (touch c.args.name.now) inner refl past.own)
       | inr inner ↦ inr (did g.F.Folder.past c.args.self.now _ es (record { lookup = refl; shown = refl; held = refl }) past (append c.args.name.now c.args.bytes.now) inner refl past.own)
