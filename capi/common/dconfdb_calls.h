@@ -1847,33 +1847,73 @@ enum {
     DCONFDB_READ_UNREAD,    /* `update` doesn't read it */
     DCONFDB_READ_NO_SOURCE, /* it is a database among sources */
     DCONFDB_READ_TOO_BIG,
-    DCONFDB_READ_NEITHER
+    DCONFDB_READ_NEITHER,
+    DCONFDB_READ_BESIDE, /* and from here on in a site: as a profile or a database, if its text is one; it is read, and asked again */
+    DCONFDB_READ_MADE,   /* .. and as a database it is one that `update` makes */
+    DCONFDB_READ_SOURCE_FOLDER, /* what is in the folder NAME.d is asked for, */
+    DCONFDB_READ_LOCK_FOLDER,   /* .. in its `locks`, */
+    DCONFDB_READ_PROFILE_FOLDER,
+    DCONFDB_READ_HIDDEN_FOLDER, /* .. in a hidden NAME.d, which `update` lists, and then leaves out; */
+    DCONFDB_READ_HIDDEN_LOCKS,  /* .. in its `locks` */
+    DCONFDB_READ_ODD,           /* nobody reads it: it is no file, */
+    DCONFDB_READ_STRAY,         /* .. or lies beside the folders of sources; */
+    DCONFDB_READ_NOT_UTF8,      /* `update` doesn't list its folder */
+    DCONFDB_READ_BARRED         /* it is in the way of a file that `update` writes */
 };
 
-/* Of a file of so many bytes, of which these are there: all that a text has, or the first of another file. It has that name in the last of these
- * folders, the first of which is in the root. `is_one_read`: of the files that are asked for, `update` reads one of the same folder NAME.d.
- * Before anything is read of it, its place alone says whether it is to be. `sources` is how many of the folders there are up to the last
- * NAME.d, with that, or 0; and `is_source`, whether `update` reads the file there. */
-uint32_t dconfdb_read_as(const DconfdbBytes *folders, size_t count, const uint8_t *name, size_t name_len, bool is_one_read, uint64_t size,
-                         const uint8_t *text, size_t len, size_t *sources, bool *is_source);
+/* In which folder of a site something lies, and what it is: what a link leads to. */
+enum {
+    DCONFDB_WITHIN_NONE, /* it is a file that is asked for, wherever */
+    DCONFDB_WITHIN_SITE,
+    DCONFDB_WITHIN_SOURCES,
+    DCONFDB_WITHIN_LOCKS,
+    DCONFDB_WITHIN_PROFILES
+};
+
+enum {
+    DCONFDB_KIND_FILE,
+    DCONFDB_KIND_FOLDER,
+    DCONFDB_KIND_OTHER,
+    DCONFDB_KIND_UNSEEN /* it can't be looked at */
+};
+
+typedef struct {
+    uint32_t within, kind;
+    bool is_hidden;   /* it lies in a NAME.d that is */
+    bool is_link;
+    bool is_made;     /* `update` makes the database that has the stem of its name */
+    bool is_one_read; /* of the files that are asked for `update` reads one of the same NAME.d */
+    bool is_read;     /* its text is there */
+    bool is_store;    /* it is a folder with a profile */
+} DconfdbEntry;
+
+/* Of a file of so many bytes, of which these are there: all that a text has, or the first of another file. Before anything is read of it,
+ * its place alone says whether it is to be. In no site it has that name in the last of these folders, the first of which is in the root;
+ * `sources` is how many of them there are up to the last NAME.d, with that, or 0; and `is_source`, whether `update` reads the file there. In a
+ * site the folders count for these two alone, and `stem` is how much of the name is that of its database. */
+uint32_t dconfdb_read_as(const DconfdbEntry *entry, const DconfdbBytes *folders, size_t count, const uint8_t *name, size_t name_len, uint64_t size,
+                         const uint8_t *text, size_t len, size_t *sources, size_t *stem, bool *is_source);
 
 /* A key that is set, or a lock, and what the installed schemas have of it. */
 typedef struct {
     uint32_t what;
-    bool is_known;         /* one has the key, or a key below the directory */
+    bool is_known;         /* one has the key, or a key below the directory; or it is set already, or set at all */
     bool has_schemas;      /* one is at the key's directory */
     bool may_be_elsewhere; /* one without a path has a key of that name; of a directory, there is one */
     bool has_value;        /* it is set to a value */
-    bool is_taken;         /* .. which one of the keys takes */
+    bool is_taken;         /* .. which one of the keys takes; or nothing else is wrong with the lock */
     bool is_of_type;       /* .. and that is of the first one's type */
-    bool is_system;        /* a database is the system's */
+    bool is_system;        /* a database is the system's; or it is a value of a source of `update` */
 } DconfdbFinding;
 
 enum {
     DCONFDB_OF_KEY,
     DCONFDB_OF_LOCKED_KEY,
     DCONFDB_OF_LOCKED_DIRECTORY,
-    DCONFDB_OF_DATABASE /* that a profile names: `is_known`, it has its file, or nobody can say */
+    DCONFDB_OF_DATABASE, /* that a profile names: `is_known`, it has its file, or nobody can say */
+    DCONFDB_OF_KEY_AGAIN,  /* `is_known`: an earlier line of the same database sets it */
+    DCONFDB_OF_LOCK_ALONE, /* `is_known`: a keyfile of the site sets the key of the lock */
+    DCONFDB_OF_DOUBLE      /* a text whose value has a double */
 };
 
 /* What is found wrong with it. */
@@ -1884,11 +1924,14 @@ enum {
     DCONFDB_FINDING_NO_LOCKED_DIRECTORY,
     DCONFDB_FINDING_OTHER_TYPE,
     DCONFDB_FINDING_NOT_TAKEN,
-    DCONFDB_FINDING_NO_DATABASE
+    DCONFDB_FINDING_NO_DATABASE,
+    DCONFDB_FINDING_SET_TWICE,
+    DCONFDB_FINDING_NOT_SET,
+    DCONFDB_FINDING_DOUBLE
 };
 
 /* What a schema without a path may have is passed over, but where the directory is a slip away from one of these, where schemas have such a key: a
- * letter is more, less or otherwise, or two have changed places. Of a database it is the name of the profile's file. */
+ * letter is more, less or otherwise, or two have changed places. Of a database it is the name of the profile's file, and of a lock its path. */
 uint32_t dconfdb_finding(const DconfdbFinding *known, const uint8_t *directory, size_t directory_len, const DconfdbBytes *others, size_t count);
 
 /* Where the name is looked for that is the nearest to one that is missing, one place after the other. */
@@ -1946,7 +1989,8 @@ enum {
     DCONFDB_SAID_EXCLUDED,
     DCONFDB_SAID_TOO_MANY,
     DCONFDB_SAID_LACKING,
-    DCONFDB_SAID_NO_NAME
+    DCONFDB_SAID_NO_NAME,
+    DCONFDB_SAID_JSON /* the findings are wanted as JSON */
 };
 
 /* The next word, or the end of all. What it has begins at `from`. */

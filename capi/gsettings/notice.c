@@ -130,7 +130,7 @@ static void send_writable(const void *it, DconfdbTelling *telling, const char *p
     telling->has_path = true;
     for (const char *at = paths; telling->has_path; at += strlen(at) + 1) {
         telling->has_path = *at != 0;
-        telling->is_listened = is_listened(self, at);
+        telling->is_listened = telling->has_path && is_listened(self, at);
         uint32_t next = dconfdb_tell_next(telling);
         if (next == DCONFDB_TELL_ALL)
             send_writable_of(self, "/");

@@ -76,10 +76,8 @@ static void meet_others(DconfdbBackend *self, Wait *wait)
 
 static Wait *wait_new(DconfdbBackend *self, bool is_worker)
 {
-    Wait *wait = g_new0(Wait, 1);
-    wait->backend = self;
-    wait->known.is_thread = is_worker;
-    wait->fault = EWOULDBLOCK;
+    Wait *wait = g_new(Wait, 1);
+    *wait = (Wait){.backend = self, .known = {.is_thread = is_worker}, .fault = EWOULDBLOCK};
     return wait;
 }
 

@@ -6,6 +6,8 @@
 
 bool dconfdb_line(bool is_of_locks, void *cursor, void *line);
 uint32_t dconfdb_is_nearer(void *nearing, bool is_end, const char *name, size_t name_len, const char *other, size_t other_len);
+uint32_t dconfdb_read_as(const void *entry, const void *folders, size_t count, const char *name, size_t name_len, uint64_t size, const char *text, size_t len,
+                         size_t *sources, size_t *stem, bool *is_source);
 uint32_t dconfdb_option(void *read, bool is_end, const char *word, size_t len, size_t *from);
 uint32_t dconfdb_finding(const void *known, const char *directory, size_t directory_len, const void *others, size_t count);
 
@@ -72,6 +74,42 @@ static void finds_nearing(void)
     printf("TAKES(DconfdbNearing, %d);\n", NEARING);
 }
 
+enum { ENTRY_WITHIN = 0, ENTRY_KIND = 4, ENTRY_IS_HIDDEN = 8, ENTRY_IS_LINK = 9, ENTRY_IS_MADE = 10, ENTRY_IS_ONE_READ = 11, ENTRY_IS_READ = 12, ENTRY_IS_STORE = 13, ENTRY = 16 };
+
+/* What lies within that folder of a site, or in NAME.d where it isn't in one, is of that kind, and has just the flag at that place (0: none). */
+static bool is_taken(uint32_t within, uint32_t kind, size_t flag, const char *name, uint32_t as)
+{
+    static const char text[] = "/a\n";
+    _Alignas(16) uint8_t entry[ENTRY] = {0}, folder[LENT];
+    size_t sources, stem;
+    bool is_source;
+    lends(folder, "a.d", 3);
+    memcpy(entry + ENTRY_WITHIN, &within, NUMBER);
+    memcpy(entry + ENTRY_KIND, &kind, NUMBER);
+    if (flag != 0)
+        entry[flag] = true;
+    uint32_t is = dconfdb_read_as(entry, folder, 1, name, strlen(name), sizeof text - 1, text, sizeof text - 1, &sources, &stem, &is_source);
+    return is == as && sources == 1;
+}
+
+static void finds_entry(void)
+{
+    is_so(is_taken(2, 0, 0, "k", 0) && is_taken(3, 0, 0, "k", 1) && is_taken(2, 1, 0, "k", 5) && is_taken(2, 2, 0, "k", 16), "DconfdbEntry");
+    is_so(is_taken(2, 0, ENTRY_IS_HIDDEN, "k", 4) && is_taken(1, 0, 0, "k", 9) && is_taken(1, 0, ENTRY_IS_READ, "k", 17), "DconfdbEntry");
+    is_so(is_taken(1, 0, ENTRY_IS_MADE, "k", 10) && is_taken(0, 0, 0, "k", 1) && is_taken(0, 0, ENTRY_IS_ONE_READ, "k", 0), "DconfdbEntry");
+    is_so(is_taken(1, 0, 0, ".lock", 4) && is_taken(1, 0, ENTRY_IS_LINK, ".lock", 19), "DconfdbEntry");
+    is_so(is_taken(1, 1, 0, "k", 17) && is_taken(1, 1, ENTRY_IS_STORE, "k", 4), "DconfdbEntry");
+    lies("DconfdbEntry", "within", ENTRY_WITHIN, NUMBER);
+    lies("DconfdbEntry", "kind", ENTRY_KIND, NUMBER);
+    lies("DconfdbEntry", "is_hidden", ENTRY_IS_HIDDEN, FLAG);
+    lies("DconfdbEntry", "is_link", ENTRY_IS_LINK, FLAG);
+    lies("DconfdbEntry", "is_made", ENTRY_IS_MADE, FLAG);
+    lies("DconfdbEntry", "is_one_read", ENTRY_IS_ONE_READ, FLAG);
+    lies("DconfdbEntry", "is_read", ENTRY_IS_READ, FLAG);
+    lies("DconfdbEntry", "is_store", ENTRY_IS_STORE, FLAG);
+    printf("TAKES(DconfdbEntry, %d);\n", ENTRY);
+}
+
 enum { WORDS_WANTS = 0, WORDS_IS_LINT = 4, WORDS_IS_OVER = 5, WORDS_HAS_FOLDER = 6, WORDS_IS_USER = 7, WORDS_HAS_NAME = 8, WORDS = 12 };
 
 /* A word after those that say just the byte at that place; it says the byte at another one. */
@@ -122,5 +160,6 @@ void finds_lines(void)
     ends(&line);
     finds_finding();
     finds_nearing();
+    finds_entry();
     finds_words();
 }

@@ -55,7 +55,7 @@ static void check_layer(const Lint *lint, Place at, const DconfdbLayer *layers)
 {
     char *keys = listed(lists_keys, layers), *locks = listed(lists_locks, layers);
     if (!keys || !locks)
-        find(at, "no memory is left");
+        find(UNSOUND, at, "no memory is left");
     for (const char *path = keys; path && *path; path += strlen(path) + 1) {
         GVariant *value = value_of(&layers[1], path);
         check_row(lint, at, path, value);
@@ -80,17 +80,17 @@ static void find_fault(Place at, uint32_t number, const DconfdbUnsound *broken)
     dconfdb_sentence(&met, &sentence);
     switch (sentence.says) {
     case DCONFDB_SAYS_RULE_AT:
-        find(at, "unsound: S%u item %u; what 'repair' keeps is looked at", (unsigned)broken->rule, (unsigned)broken->item);
+        find(UNSOUND, at, "unsound: S%u item %u; what 'repair' keeps is looked at", (unsigned)broken->rule, (unsigned)broken->item);
         break;
-    case DCONFDB_SAYS_RULE: find(at, "unsound: S%u; what 'repair' keeps is looked at", (unsigned)broken->rule); break;
-    case DCONFDB_SAYS_TEXT: find(at, "%.*s", (int)text.len, (const char *)text.at); break;
-    default: find(at, "fault %u", (unsigned)number);
+    case DCONFDB_SAYS_RULE: find(UNSOUND, at, "unsound: S%u; what 'repair' keeps is looked at", (unsigned)broken->rule); break;
+    case DCONFDB_SAYS_TEXT: find(UNSOUND, at, "%.*s", (int)text.len, (const char *)text.at); break;
+    default: find(UNSOUND, at, "fault %u", (unsigned)number);
     }
 }
 
 void check_database(const Lint *lint, const char *file, FileBytes *bytes)
 {
-    const Lint alone = {lint->schemas, NULL};
+    const Lint alone = {lint->schemas, NULL, lint->site};
     DconfdbLayer layers[2] = {DCONFDB_EMPTY_LAYER, DCONFDB_EMPTY_LAYER};
     DconfdbUnsound broken = {0, 0, false}, nothing = {0, 0, false};
     FileBytes mended = {NULL, 0, false};

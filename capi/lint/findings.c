@@ -1,11 +1,28 @@
-/* What `dconfdb lint` prints. */
+/* What `dconfdb lint` prints: a line for each finding, or an object of JSON. */
 #include "lint.h"
 
 #include <stdarg.h>
 #include <stdio.h>
 #include <string.h>
 
+static const char *const kinds[] = {
+    [NO_KEY] = "no-key",         [NO_LOCKED_KEY] = "no-locked-key", [NO_LOCKED_DIRECTORY] = "no-locked-directory",
+    [OTHER_TYPE] = "type",       [NOT_TAKEN] = "range",             [NO_VALUE] = "no-value",
+    [DOUBLE] = "double",         [SET_TWICE] = "set-twice",         [NOT_SET] = "not-set",
+    [LINE] = "line",             [UNREAD] = "unread",               [NO_SOURCE] = "no-source",
+    [NO_FILE] = "file",          [NAME] = "name",                   [IN_THE_WAY] = "in-the-way",
+    [PROFILE_LINE] = "profile",  [NO_DATABASE] = "no-database",     [UNSOUND] = "unsound",
+};
+
 static size_t count;
+static bool is_json;
+
+void findings_as_json(void)
+{
+    is_json = true;
+}
+
+/* ---- a line */
 
 static void put(const char *text)
 {
@@ -20,18 +37,97 @@ static void put(const char *text)
     }
 }
 
-void find(Place at, const char *format, ...)
+static void put_line(const Place *at, const char *text)
+{
+    put(at->file);
+    printf(":%zu: ", at->line);
+    put(text);
+    putchar('\n');
+}
+
+/* ---- an object */
+
+/* The next character of a text, or a byte that is none of UTF-8; as JSON has it. It gives where the text goes on. */
+static const char *put_character(const char *at, size_t left)
+{
+    gunichar is = g_utf8_get_char_validated(at, (gssize)left);
+    if (is >= 0x110000) { /* the two answers that it is none */
+        fputs("\\ufffd", stdout);
+        return at + 1;
+    }
+    const char *next = g_utf8_next_char(at);
+    if (is == '"' || is == '\\')
+        printf("\\%c", (int)is);
+    else if (is < ' ')
+        printf("\\u%04x", (unsigned)is);
+    else
+        fwrite(at, 1, (size_t)(next - at), stdout);
+    return next;
+}
+
+static void put_string(const char *text)
+{
+    const char *end = text + strlen(text);
+    putchar('"');
+    while (text < end)
+        text = put_character(text, (size_t)(end - text));
+    putchar('"');
+}
+
+/* A name that is not UTF-8 has its bytes, too. */
+static void put_bytes(const char *name)
+{
+    if (g_utf8_validate(name, -1, NULL))
+        return;
+    fputs(",\"bytes\":\"", stdout);
+    for (; *name; name++)
+        printf("%02x", (unsigned)(unsigned char)*name);
+    putchar('"');
+}
+
+static void put_object(Kind kind, const Place *at, const char *text, const char *near)
+{
+    fputs("{\"file\":", stdout);
+    put_string(at->file);
+    printf(",\"line\":%zu,\"kind\":\"%s\",\"text\":", at->line, kinds[kind]);
+    put_string(text);
+    fputs(",\"nearest\":", stdout);
+    if (near)
+        put_string(near);
+    else
+        fputs("null", stdout);
+    put_bytes(at->file);
+    fputs("}\n", stdout);
+}
+
+/* ---- either */
+
+static void put_finding(Kind kind, Place at, const char *near, const char *text)
+{
+    char *whole = near ? g_strconcat(text, "; the nearest is ", near, NULL) : NULL;
+    if (is_json)
+        put_object(kind, &at, whole ? whole : text, near);
+    else
+        put_line(&at, whole ? whole : text);
+    g_free(whole);
+    count++;
+}
+
+void find(Kind kind, Place at, const char *format, ...)
 {
     va_list words;
     va_start(words, format);
     char *text = g_strdup_vprintf(format, words);
     va_end(words);
-    put(at.file);
-    printf(":%zu: ", at.line);
-    put(text);
-    putchar('\n');
+    put_finding(kind, at, NULL, text);
     g_free(text);
-    count++;
+}
+
+void find_near(Kind kind, Place at, const char *near, const char *what, const char *path)
+{
+    char *text = g_strconcat(what, " ", path, NULL);
+    put_finding(kind, at, near, text);
+    g_free(text);
 }
 
 size_t findings_count(void)

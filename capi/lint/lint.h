@@ -1,4 +1,4 @@
-/* `dconfdb lint`: keyfiles, lock files and databases, looked at beside the schemas that are installed. */
+/* `dconfdb lint`: the folder of a site, keyfiles, lock files, profiles and databases, looked at beside the schemas that are installed. */
 #ifndef LINT_H
 #define LINT_H
 
@@ -15,8 +15,36 @@ typedef struct {
     size_t line;
 } Place;
 
+/* What is found, by the word that JSON has for it. */
+typedef enum {
+    NO_KEY,
+    NO_LOCKED_KEY,
+    NO_LOCKED_DIRECTORY,
+    OTHER_TYPE,
+    NOT_TAKEN,
+    NO_VALUE,
+    DOUBLE,
+    SET_TWICE,
+    NOT_SET,
+    LINE,
+    UNREAD,
+    NO_SOURCE,
+    NO_FILE,
+    NAME,
+    IN_THE_WAY,
+    PROFILE_LINE,
+    NO_DATABASE,
+    UNSOUND
+} Kind;
+
+/* From here on findings are printed as objects of JSON, one a line. */
+void findings_as_json(void);
+
 /* Prints a finding: FILE:LINE: TEXT. Control characters are printed as `\` and three octal digits. */
-void find(Place at, const char *format, ...) G_GNUC_PRINTF(2, 3);
+void find(Kind kind, Place at, const char *format, ...) G_GNUC_PRINTF(3, 4);
+
+/* The same of a path that is missing, and of the nearest one, if any is (NULL: none is). */
+void find_near(Kind kind, Place at, const char *near, const char *what, const char *path);
 
 size_t findings_count(void);
 
@@ -80,10 +108,16 @@ void values_end(void);
 
 /* ---- rows.c: a key that is set, and a lock, wherever they stand */
 
+typedef struct Site Site;
+
 typedef struct {
     const Schemas *schemas;
     GHashTable *set; /* the keys that this folder's keyfiles set, and the first place of each; NULL in a database */
+    Site *site;      /* in which it is all looked at; NULL: files are asked for */
 } Lint;
+
+/* What is found of that alone, which has that name or path. */
+uint32_t finding_alone(const DconfdbFinding *known, const char *name);
 
 /* A key is set. Of a value that is none, NULL, the key alone is looked at. */
 void check_row(const Lint *lint, Place at, const char *path, GVariant *value);
@@ -99,11 +133,23 @@ typedef struct {
     const char *name;   /* in it */
     size_t sources_len; /* of the path, how much is that of the folder NAME.d; 0: there is none */
     bool is_source;     /* `update` reads it there */
-    bool is_one_read;   /* of those in NAME.d, `update` reads one */
+    DconfdbEntry entry; /* where it lies in a site */
 } Asked;
 
-/* As what it is looked at, DCONFDB_READ_KEYFILE and so on: of so many bytes, of which these are there. */
+/* As what it is looked at, DCONFDB_READ_KEYFILE and so on: of so many bytes, of which these are there (NULL: none is read yet). */
 uint32_t asked_read_as(const Asked *asked, uintmax_t size, const FileBytes *bytes);
+
+/* Its database is among these. */
+bool asked_is_made(const Asked *asked, GHashTable *made);
+
+/* Within what of a site its own folder is looked at: NAME.d, its `locks`, or all of it. */
+uint32_t folder_within(const char *path);
+
+/* Looks at what is in a file, and finds what is wrong with it. */
+void check_file(const Lint *lint, const Asked *asked);
+
+/* That a file, or a folder, can't be read: errno, or 0, it isn't there. */
+void find_no_file(const char *file, int fault);
 
 /* Those files, in the order in which they are taken: the folders one after another, and the names of each in byte order. */
 Asked *asked_files(char *const *files, size_t count);
@@ -122,6 +168,23 @@ char *path_of(const DconfdbPath *path);
 void check_keyfile(const Lint *lint, const char *file, const char *text, size_t len);
 void check_locks(const Lint *lint, const char *file, const char *text, size_t len);
 void check_database(const Lint *lint, const char *file, FileBytes *bytes);
-void check_profile(const Asked *asked, const char *text, size_t len);
+void check_profile(const Lint *lint, const Asked *asked, const char *text, size_t len);
+
+/* ---- sites.c: all that lies in a folder */
+
+/* Looks at a folder as `update` does that is given it. */
+void check_site(const Schemas *schemas, const char *folder);
+
+/* A key is set in the site; a lock stands there, and nothing is wrong with it, or something is. */
+void site_sets(Site *site, const char *path);
+void site_locks(Site *site, Place at, const char *path, bool is_fine);
+
+/* `update` makes the database of that name. */
+bool site_makes(const Site *site, const DconfdbBytes *name);
+
+/* ---- found.c */
+
+/* The folder that `update` takes if none is named; or NULL, and it is said why. */
+const char *found_folder(void);
 
 #endif

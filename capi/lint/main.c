@@ -1,4 +1,4 @@
-/* dconfdb lint: its words, and the files in their order. */
+/* dconfdb lint: its words, the files in their order, and the folders. */
 #define _GNU_SOURCE
 #include "lint.h"
 #include "options.h"
@@ -8,6 +8,7 @@
 #include <stdio.h>
 #include <stdlib.h>
 #include <string.h>
+#include <sys/stat.h>
 
 static const size_t largest_file = UINT32_MAX, largest_text = 16777216;
 
@@ -18,15 +19,15 @@ static const char help[] =
 
 /* ---- files */
 
-static void find_no_file(const char *file, int fault)
+void find_no_file(const char *file, int fault)
 {
     Place at = {file, 0};
     if (fault == 0)
-        find(at, "NoFile: there is no such file");
+        find(NO_FILE, at, "NoFile: there is no such file");
     else if (fault == EINVAL)
-        find(at, "Device: it is no regular file");
+        find(NO_FILE, at, "Device: it is no regular file");
     else
-        find(at, "Device: %s", g_strerror(fault));
+        find(NO_FILE, at, "Device: %s", g_strerror(fault));
 }
 
 /* What a file holds. A text past its largest size is not read, of which there are a few bytes then. */
@@ -45,22 +46,23 @@ static void check_bytes(const Lint *lint, const Asked *asked, FileBytes *bytes, 
     switch (asked_read_as(asked, size, bytes)) {
     case DCONFDB_READ_KEYFILE: check_keyfile(lint, asked->file, text, bytes->len); break;
     case DCONFDB_READ_LOCKS: check_locks(lint, asked->file, text, bytes->len); break;
-    case DCONFDB_READ_PROFILE: check_profile(asked, text, bytes->len); break;
+    case DCONFDB_READ_PROFILE: check_profile(lint, asked, text, bytes->len); break;
     case DCONFDB_READ_DATABASE: check_database(lint, asked->file, bytes); break;
-    case DCONFDB_READ_NO_SOURCE: find(at, "it is a database, and no source of one"); break;
-    case DCONFDB_READ_TOO_BIG: find(at, "TooBig: it has more than 16,777,216 bytes"); break;
-    case DCONFDB_READ_NEITHER: find(at, "it is neither a keyfile, nor a file of locks, nor a profile, nor a database"); break;
+    case DCONFDB_READ_NO_SOURCE: find(NO_SOURCE, at, "it is a database, and no source of one"); break;
+    case DCONFDB_READ_TOO_BIG: find(NO_FILE, at, "TooBig: it has more than 16,777,216 bytes"); break;
+    case DCONFDB_READ_NEITHER: find(NO_SOURCE, at, "it is neither a keyfile, nor a file of locks, nor a profile, nor a database"); break;
+    case DCONFDB_READ_STRAY: find(UNREAD, at, "nobody reads it: 'update' reads what is in folders NAME.d"); break;
     default: break;
     }
 }
 
-static void check_file(const Lint *lint, const Asked *asked)
+void check_file(const Lint *lint, const Asked *asked)
 {
     FileBytes bytes;
     FileState state;
     int fault = read_file(asked->file, &bytes, &state);
     if (fault == EOVERFLOW)
-        find((Place){asked->file, 0}, "TooBig: it has more than 4,294,967,295 bytes");
+        find(NO_FILE, (Place){asked->file, 0}, "TooBig: it has more than 4,294,967,295 bytes");
     else if (fault != 0 || !state.is_there)
         find_no_file(asked->file, fault);
     else
@@ -71,14 +73,13 @@ static void check_file(const Lint *lint, const Asked *asked)
 static void find_unread(const Asked *asked)
 {
     const char *end = asked->folder + asked->sources_len, *name = (const char *)memrchr(asked->folder, '/', asked->sources_len) + 1;
-    find((Place){asked->file, 0}, "'update' does not read it: it is in a folder inside %.*s", (int)(end - name), name);
+    find(UNREAD, (Place){asked->file, 0}, "'update' does not read it: it is in a folder inside %.*s", (int)(end - name), name);
 }
 
 /* Of what `update` doesn't read, nothing is read here. */
 static void check_asked(const Lint *lint, const Asked *asked)
 {
-    const FileBytes none = {NULL, 0, false};
-    switch (asked_read_as(asked, 0, &none)) {
+    switch (asked_read_as(asked, 0, NULL)) {
     case DCONFDB_READ_NOTHING: break;
     case DCONFDB_READ_UNREAD: find_unread(asked); break;
     default: check_file(lint, asked); break;
@@ -88,7 +89,7 @@ static void check_asked(const Lint *lint, const Asked *asked)
 /* The files of a folder are those of one database, in the order of their names. */
 static void check_files(const Schemas *schemas, char *const *files, size_t count)
 {
-    Lint lint = {schemas, NULL};
+    Lint lint = {schemas, NULL, NULL};
     Asked *asked = asked_files(files, count);
     for (size_t i = 0; i < count; i++) {
         if (i > 0 && is_same_file(&asked[i], &asked[i - 1]))
@@ -105,7 +106,7 @@ static void check_files(const Schemas *schemas, char *const *files, size_t count
 
 /* ---- words */
 
-static const char usage[] = "dconfdb lint [OPTIONS] <FILE>...";
+static const char usage[] = "dconfdb lint [OPTIONS] [FILE]...";
 
 static int finish(int status)
 {
@@ -115,8 +116,15 @@ static int finish(int status)
 /* What the words ask for. */
 typedef struct {
     const char *folder;
-    GPtrArray *placed, *files;
+    GPtrArray *placed, *files, *folders;
 } Wanted;
+
+static void keep_name(const Wanted *wanted, const char *name)
+{
+    struct stat found;
+    bool is_folder = stat(name, &found) == 0 && S_ISDIR(found.st_mode);
+    g_ptr_array_add(is_folder ? wanted->folders : wanted->files, (gpointer)name);
+}
 
 static void keep(void *it, uint32_t said, const char *text)
 {
@@ -124,7 +132,8 @@ static void keep(void *it, uint32_t said, const char *text)
     switch (said) {
     case DCONFDB_SAID_FOLDER: wanted->folder = text; break;
     case DCONFDB_SAID_SCHEMA: g_ptr_array_add(wanted->placed, (gpointer)text); break;
-    default: g_ptr_array_add(wanted->files, (gpointer)text); break;
+    case DCONFDB_SAID_JSON: findings_as_json(); break;
+    default: keep_name(wanted, text); break;
     }
 }
 
@@ -138,6 +147,20 @@ static int place_all(Schemas *schemas, const GPtrArray *placed)
     return GOES_ON;
 }
 
+/* Without a name, what `update` takes without one. */
+static int check_all(const Schemas *schemas, const Wanted *wanted)
+{
+    const char *found = wanted->files->len + wanted->folders->len == 0 ? found_folder() : NULL;
+    if (wanted->files->len + wanted->folders->len == 0 && !found)
+        return 1;
+    check_files(schemas, (char *const *)wanted->files->pdata, wanted->files->len);
+    for (guint i = 0; i < wanted->folders->len; i++)
+        check_site(schemas, g_ptr_array_index(wanted->folders, i));
+    if (found)
+        check_site(schemas, found);
+    return findings_count() > 0;
+}
+
 static int lint_with(const Wanted *wanted)
 {
     GError *error = NULL;
@@ -148,10 +171,8 @@ static int lint_with(const Wanted *wanted)
         return 1;
     }
     int status = place_all(schemas, wanted->placed);
-    if (status == GOES_ON) {
-        check_files(schemas, (char *const *)wanted->files->pdata, wanted->files->len);
-        status = findings_count() > 0;
-    }
+    if (status == GOES_ON)
+        status = check_all(schemas, wanted);
     values_end();
     schemas_close(schemas);
     return finish(status);
@@ -159,11 +180,12 @@ static int lint_with(const Wanted *wanted)
 
 int main(int count, char **words)
 {
-    Wanted wanted = {NULL, g_ptr_array_new(), g_ptr_array_new()};
+    Wanted wanted = {NULL, g_ptr_array_new(), g_ptr_array_new(), g_ptr_array_new()};
     int status = words_read(&(Words){true, help, usage, "FILE", keep, &wanted}, count, words);
     if (status == GOES_ON)
         status = lint_with(&wanted);
     g_ptr_array_unref(wanted.placed);
     g_ptr_array_unref(wanted.files);
+    g_ptr_array_unref(wanted.folders);
     return status;
 }

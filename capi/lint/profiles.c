@@ -15,10 +15,17 @@ static size_t line_of(const char *text, const uint8_t *at)
     return line;
 }
 
-/* As `update` says it, of the profile that lies in its folder: in any other one the line is of a file in each user's store. */
-static void check_named(const Asked *asked, const char *text, const DconfdbName *database)
+/* Whether its file is there, or will be, or nobody can say. */
+static bool is_there(const Lint *lint, const Asked *asked, const DconfdbName *database, const char *file)
 {
     FileState state;
+    bool is_made = lint->site && site_makes(lint->site, &database->name);
+    return is_made || asked->entry.within == DCONFDB_WITHIN_PROFILES || file_look(file, &state) != 0 || state.is_there;
+}
+
+/* As `update` says it, of the profile that lies in its folder: in any other one the line is of a file in each user's store. */
+static void check_named(const Lint *lint, const Asked *asked, const char *text, const DconfdbName *database)
+{
     Place at = {asked->file, line_of(text, database->name.at)};
     DconfdbPath path = DCONFDB_NO_PATH, flag = DCONFDB_NO_PATH;
     const DconfdbBytes nothing = DCONFDB_NOTHING, folder = {(const uint8_t *)asked->folder, strlen(asked->folder)};
@@ -26,9 +33,9 @@ static void check_named(const Asked *asked, const char *text, const DconfdbName 
     dconfdb_database_path(&place, (const uint8_t *)asked->file, strlen(asked->file), database->kind, database->name.at, database->name.len, &path, &flag);
     char *file = path_of(&path);
     const DconfdbFinding known = {
-        .what = DCONFDB_OF_DATABASE, .is_known = file_look(file, &state) != 0 || state.is_there, .is_system = database->kind == SYSTEMS};
-    if (dconfdb_finding(&known, (const uint8_t *)asked->name, strlen(asked->name), &nothing, 0) == DCONFDB_FINDING_NO_DATABASE)
-        find(at, "it names system-db:%.*s, and there is no %s", (int)database->name.len, (const char *)database->name.at, file);
+        .what = DCONFDB_OF_DATABASE, .is_known = is_there(lint, asked, database, file), .is_system = database->kind == SYSTEMS};
+    if (finding_alone(&known, asked->name) == DCONFDB_FINDING_NO_DATABASE)
+        find(NO_DATABASE, at, "it names system-db:%.*s, and there is no %s", (int)database->name.len, (const char *)database->name.at, file);
     g_free(file);
 }
 
@@ -36,10 +43,10 @@ static void find_fault(const Asked *asked, uint32_t fault, size_t line)
 {
     DconfdbBytes said = DCONFDB_NOTHING;
     if (fault != DCONFDB_OK && dconfdb_fault_text(fault, &said))
-        find((Place){asked->file, line}, "%.*s", (int)said.len, (const char *)said.at);
+        find(PROFILE_LINE, (Place){asked->file, line}, "%.*s", (int)said.len, (const char *)said.at);
 }
 
-void check_profile(const Asked *asked, const char *text, size_t len)
+void check_profile(const Lint *lint, const Asked *asked, const char *text, size_t len)
 {
     DconfdbName names[MOST_DATABASES];
     uint32_t fault = DCONFDB_OK;
@@ -49,6 +56,6 @@ void check_profile(const Asked *asked, const char *text, size_t len)
     if (dconfdb_profile(DCONFDB_PROFILE_COUNTS, (const uint8_t *)text, len, true, false, names, MOST_DATABASES, &count, &fault, &line) == DCONFDB_TELLING_REFUSES)
         g_error("no memory is left");
     for (size_t i = 0; i < count; i++)
-        check_named(asked, text, &names[i]);
+        check_named(lint, asked, text, &names[i]);
     find_fault(asked, fault, line);
 }

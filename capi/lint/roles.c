@@ -1,4 +1,4 @@
-/* As what `update` reads a file. */
+/* As what `update` reads a file, or a folder. */
 #define _GNU_SOURCE
 #include "lint.h"
 
@@ -30,19 +30,21 @@ static size_t len_of(const GArray *parts, size_t count)
 /* What is said of the file by its place: how much of its folder's path is that of the last NAME.d, and whether `update` reads it there. */
 typedef struct {
     uint32_t as;
-    size_t sources_len;
+    size_t sources_len, stem_len;
     bool is_source;
 } Standing;
 
 static Standing standing_of(const Asked *asked, uintmax_t size, const FileBytes *bytes)
 {
-    Standing standing = {0, 0, false};
+    Standing standing = {0, 0, 0, false};
+    DconfdbEntry entry = asked->entry;
     const DconfdbBytes nothing = DCONFDB_NOTHING;
-    g_autoptr(GArray) parts = parts_of(asked->folder);
+    g_autoptr(GArray) parts = parts_of(asked->entry.within == DCONFDB_WITHIN_NONE ? asked->folder : "");
     size_t sources = 0;
-    standing.as = dconfdb_read_as(parts->len > 0 ? (const DconfdbBytes *)(gpointer)parts->data : &nothing, parts->len, (const uint8_t *)asked->name,
-                                  strlen(asked->name), asked->is_one_read, size, bytes->len > 0 ? bytes->at : (const uint8_t *)"", bytes->len,
-                                  &sources, &standing.is_source);
+    entry.is_read = bytes != NULL;
+    standing.as = dconfdb_read_as(&entry, parts->len > 0 ? (const DconfdbBytes *)(gpointer)parts->data : &nothing, parts->len,
+                                  (const uint8_t *)asked->name, strlen(asked->name), size, bytes && bytes->len > 0 ? bytes->at : (const uint8_t *)"",
+                                  bytes ? bytes->len : 0, &sources, &standing.stem_len, &standing.is_source);
     standing.sources_len = len_of(parts, sources);
     return standing;
 }
@@ -56,13 +58,31 @@ static Asked asked_file(const char *file)
 {
     char *path = g_canonicalize_filename(file, NULL);
     char *end = strrchr(path, '/');
-    const FileBytes none = {NULL, 0, false};
-    Asked asked = {file, path, end + 1, 0, false, false};
+    Asked asked = {.file = file, .folder = path, .name = end + 1};
     *end = 0;
-    Standing standing = standing_of(&asked, 0, &none);
+    Standing standing = standing_of(&asked, 0, NULL);
     asked.sources_len = standing.sources_len;
     asked.is_source = standing.is_source;
     return asked;
+}
+
+bool asked_is_made(const Asked *asked, GHashTable *made)
+{
+    char *stem = g_strndup(asked->name, standing_of(asked, 0, NULL).stem_len);
+    bool is = g_hash_table_contains(made, stem);
+    g_free(stem);
+    return is;
+}
+
+uint32_t folder_within(const char *path)
+{
+    char folder[] = "", *whole = g_canonicalize_filename(path, NULL);
+    Asked asked = {.file = path, .folder = whole[1] ? whole : folder, .name = "file", .entry = {.is_one_read = true}};
+    Standing standing = standing_of(&asked, 0, NULL);
+    g_free(whole);
+    if (!standing.is_source)
+        return DCONFDB_WITHIN_SITE;
+    return standing.as == DCONFDB_READ_LOCKS ? DCONFDB_WITHIN_LOCKS : DCONFDB_WITHIN_SOURCES;
 }
 
 static char *sources_of(const Asked *asked)
@@ -79,7 +99,7 @@ static void find_read(Asked *asked, size_t count)
             g_hash_table_add(read, sources_of(&asked[i]));
     for (size_t i = 0; i < count; i++) {
         char *sources = sources_of(&asked[i]);
-        asked[i].is_one_read = g_hash_table_contains(read, sources);
+        asked[i].entry.is_one_read = g_hash_table_contains(read, sources);
         g_free(sources);
     }
     g_hash_table_unref(read);

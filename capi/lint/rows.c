@@ -3,10 +3,16 @@
 
 #include <string.h>
 
-static void find_missing(const Lint *lint, Place at, const char *what, const char *path)
+uint32_t finding_alone(const DconfdbFinding *known, const char *name)
+{
+    const DconfdbBytes nothing = DCONFDB_NOTHING;
+    return dconfdb_finding(known, (const uint8_t *)name, strlen(name), &nothing, 0);
+}
+
+static void find_missing(const Lint *lint, Kind kind, Place at, const char *what, const char *path)
 {
     char *near = schemas_nearest(lint->schemas, path);
-    find(at, "%s %s%s%s", what, path, near ? "; the nearest is " : "", near ? near : "");
+    find_near(kind, at, near, what, path);
     g_free(near);
 }
 
@@ -16,24 +22,28 @@ static void check_first(const Lint *lint, Place at, const char *path)
     if (!lint->set)
         return;
     const Place *first = g_hash_table_lookup(lint->set, path);
-    if (first) {
-        find(at, "%s is set already, at %s:%zu", path, first->file, first->line);
+    const DconfdbFinding known = {.what = DCONFDB_OF_KEY_AGAIN, .is_known = first != NULL};
+    if (finding_alone(&known, path) == DCONFDB_FINDING_SET_TWICE)
+        find(SET_TWICE, at, "%s is set already, at %s:%zu", path, first ? first->file : "", first ? first->line : 0);
+    if (first)
         return;
-    }
     Place *kept = g_new(Place, 1);
     *kept = at;
     g_hash_table_insert(lint->set, g_strdup(path), kept);
 }
 
-static void find_it(const Lint *lint, Place at, const char *path, const DconfdbFinding *known, const GPtrArray *keys, GVariant *value)
+/* Finds what is wrong with it. Gives whether nothing is. */
+static bool find_it(const Lint *lint, Place at, const char *path, const DconfdbFinding *known, const GPtrArray *keys, GVariant *value)
 {
     switch (schemas_finding(lint->schemas, path, known)) {
-    case DCONFDB_FINDING_NO_KEY: find_missing(lint, at, "no schema has the key", path); break;
-    case DCONFDB_FINDING_NO_LOCKED_KEY: find_missing(lint, at, "no schema has the locked key", path); break;
-    case DCONFDB_FINDING_NO_LOCKED_DIRECTORY: find_missing(lint, at, "no schema has a key below the locked directory", path); break;
-    case DCONFDB_FINDING_OTHER_TYPE: find_other_type(at, path, keys, value); break;
-    case DCONFDB_FINDING_NOT_TAKEN: find_not_taken(at, path, keys, value); break;
-    default: break;
+    case DCONFDB_FINDING_NO_KEY: find_missing(lint, NO_KEY, at, "no schema has the key", path); return false;
+    case DCONFDB_FINDING_NO_LOCKED_KEY: find_missing(lint, NO_LOCKED_KEY, at, "no schema has the locked key", path); return false;
+    case DCONFDB_FINDING_NO_LOCKED_DIRECTORY:
+        find_missing(lint, NO_LOCKED_DIRECTORY, at, "no schema has a key below the locked directory", path);
+        return false;
+    case DCONFDB_FINDING_OTHER_TYPE: find_other_type(at, path, keys, value); return false;
+    case DCONFDB_FINDING_NOT_TAKEN: find_not_taken(at, path, keys, value); return false;
+    default: return true;
     }
 }
 
@@ -45,6 +55,8 @@ void check_row(const Lint *lint, Place at, const char *path, GVariant *value)
         judge_value(path, keys, value, &known);
     find_it(lint, at, path, &known, keys, value);
     check_first(lint, at, path);
+    if (lint->site)
+        site_sets(lint->site, path);
 }
 
 void check_lock(const Lint *lint, Place at, const char *path)
@@ -52,5 +64,7 @@ void check_lock(const Lint *lint, Place at, const char *path)
     const GPtrArray *keys = NULL;
     bool is_directory = g_str_has_suffix(path, "/");
     DconfdbFinding known = is_directory ? schemas_directory(lint->schemas, path) : schemas_key(lint->schemas, path, DCONFDB_OF_LOCKED_KEY, &keys);
-    find_it(lint, at, path, &known, NULL, NULL);
+    bool is_fine = find_it(lint, at, path, &known, NULL, NULL);
+    if (lint->site)
+        site_locks(lint->site, at, path, is_fine);
 }

@@ -14,11 +14,11 @@ static void find_no_value(Place at, const char *path, uint32_t number, size_t st
     DconfdbBytes said = DCONFDB_NOTHING;
     dconfdb_sentence(&met, &sentence);
     switch (sentence.says) {
-    case DCONFDB_SAYS_NO_VALUE: find(at, "%s: the text is no value: %s", path, text_cause(number)); break;
-    case DCONFDB_SAYS_NO_VALUE_AT: find(at, "%s: the text is no value: %s at %zu..%zu", path, text_cause(number), start, end); break;
+    case DCONFDB_SAYS_NO_VALUE: find(NO_VALUE, at, "%s: the text is no value: %s", path, text_cause(number)); break;
+    case DCONFDB_SAYS_NO_VALUE_AT: find(NO_VALUE, at, "%s: the text is no value: %s at %zu..%zu", path, text_cause(number), start, end); break;
     default:
         dconfdb_fault_text(number, &said);
-        find(at, "%s: the text is no value: %.*s", path, (int)said.len, (const char *)said.at);
+        find(NO_VALUE, at, "%s: the text is no value: %.*s", path, (int)said.len, (const char *)said.at);
     }
 }
 
@@ -28,14 +28,21 @@ static GVariant *glibs_value(Place at, const char *path, const DconfdbBytes *tex
     GError *error = NULL;
     GVariant *value = g_variant_parse(NULL, (const char *)text->at, (const char *)text->at + text->len, NULL, &error);
     if (!value) {
-        find(at, "%s: the text is no value: %s", path, error->message);
+        find(NO_VALUE, at, "%s: the text is no value: %s", path, error->message);
         g_error_free(error);
     }
     return value;
 }
 
+static void check_double(const Lint *lint, Place at, const char *path, size_t start, size_t end)
+{
+    const DconfdbFinding known = {.what = DCONFDB_OF_DOUBLE, .is_system = lint->site != NULL};
+    if (finding_alone(&known, path) == DCONFDB_FINDING_DOUBLE)
+        find(DOUBLE, at, "%s: DoubleText at %zu..%zu: 'update' refuses a double", path, start, end);
+}
+
 /* NULL: it is no value, and then it is said why; or none of GLib's. */
-static GVariant *value_of(Place at, const char *path, const DconfdbBytes *text)
+static GVariant *value_of(const Lint *lint, Place at, const char *path, const DconfdbBytes *text)
 {
     size_t len = 64 + 2 * text->len, room_len, size = 0, start = 0, end = 0;
     uint32_t number;
@@ -52,6 +59,8 @@ static GVariant *value_of(Place at, const char *path, const DconfdbBytes *text)
         value = glibs_value(at, path, text);
     else
         find_no_value(at, path, number, start, end);
+    if (number == DCONFDB_DOUBLE_TEXT && value)
+        check_double(lint, at, path, start, end);
     g_free(room);
     return value;
 }
@@ -69,7 +78,7 @@ char *path_of(const DconfdbPath *path)
 
 static void check_set(const Lint *lint, Place at, const char *path, const DconfdbBytes *text)
 {
-    GVariant *value = value_of(at, path, text);
+    GVariant *value = value_of(lint, at, path, text);
     check_row(lint, at, path, value);
     if (value)
         g_variant_unref(value);
@@ -81,7 +90,7 @@ static void check_line(const Lint *lint, Place at, const DconfdbLine *line)
     switch (line->kind) {
     case DCONFDB_LINE_SETS: check_set(lint, at, path, &line->text); break;
     case DCONFDB_LINE_LOCKS: check_lock(lint, at, path); break;
-    case DCONFDB_LINE_WRONG: find(at, "%.*s", (int)line->text.len, (const char *)line->text.at); break;
+    case DCONFDB_LINE_WRONG: find(LINE, at, "%.*s", (int)line->text.len, (const char *)line->text.at); break;
     default: break;
     }
     g_free(path);

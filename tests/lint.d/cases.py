@@ -1,4 +1,4 @@
-"""Small files, and all that `dconfdb lint` says of them."""
+"""Small files, and folders, and all that `dconfdb lint` says of them."""
 
 DESK = '[org/example/desk]\n'
 NO_KEY = 'no schema has the key '
@@ -91,4 +91,52 @@ CASES = {
     'a profile that is not of this folder': ({'profiles/kiosk': 'user-db:kiosk\nsystem-db:gone\n'}, []),
     'neither': ({'x': 'hello\n'}, [('x:0', 'it is neither a keyfile, nor a file of locks, nor a profile, nor a database')]),
     'a control character in a name of a file': ({'k\n1': DESK + 'onn=1\n'}, [('k\\0121:2', f'{NO_KEY}/org/example/desk/onn{NEAR}on')]),
+}
+
+ON = '/org/example/desk/on'
+UNREAD = "nobody reads it: 'update' reads what is in folders NAME.d"
+NO_LOCK = "the line locks nothing: it doesn't start with '/'"
+
+# What lies in the folder of a site, and what is said of it; each path begins with it.
+FOLDERS = {
+    'nothing': ({}, []),
+    'all is right': ({'site.d/00': DESK + "name='x'\non=true\n", 'site.d/locks/l': f'# x\n{ON}\n/org/example/desk/\n', 'profile': 'user-db:user\nsystem-db:site\n',
+                      'profiles/kiosk': 'user-db:kiosk\nsystem-db:gone\n', 'other': 'user-db:other\n', '.lock': '', 'store': 'dconf\n', '.git/config': 'x\n', 'site.d/.00.swp': 'b0VIM\n'}, []),
+    'twice, in the order of the names': ({'site.d/a': DESK + 'on=true\n', 'site.d/b': '\n' + DESK + 'on=false\n', 'lab.d/c': DESK + 'on=true\n'},
+                                         [('site.d/b:3', f'{ON} is set already, at ./site.d/a:2')]),
+    'a double': ({'site.d/00': DESK + 'scale=1.5\n'}, [('site.d/00:2', "/org/example/desk/scale: DoubleText at 0..3: 'update' refuses a double")]),
+    'a double among others, of another type': ({'site.d/00': DESK + "name=(1.5, 'x')\n"}, [
+        ('site.d/00:2', "/org/example/desk/name: DoubleText at 1..4: 'update' refuses a double"),
+        ('site.d/00:2', '/org/example/desk/name: the value is of type (ds), and the key of type s')]),
+    'locked and not set': ({'site.d/00': DESK + "name='x'\n", 'site.d/locks/l': f'{ON}\n/org/example/desk/name\n/org/example/desk/\n'},
+                           [('site.d/locks/l:1', f'{ON} is locked, and nothing here sets it')]),
+    'locked by one database and set by another': ({'a.d/locks/l': ON + '\n', 'b.d/00': DESK + 'on=true\n'}, []),
+    'locked, and nobody has the key': ({'a.d/locks/l': ON + 'n\n'}, [('a.d/locks/l:1', f'no schema has the locked key {ON}n{NEAR}on')]),
+    'a file of locks among keyfiles, and a keyfile among locks': ({'a.d/00': ON + '\n', 'a.d/locks/l': DESK + 'on=true\n'}, [
+        ('a.d/00:1', "BadLine: the line is no 'key=value'"), ('a.d/locks/l:1', NO_LOCK), ('a.d/locks/l:2', NO_LOCK)]),
+    'a file called locks': ({'a.d/locks': DESK + 'on=true\n'}, []),
+    'folders in folders': ({'a.d/b.d/00': 'oops\n', 'a.d/locks/b/00': 'oops\n', 'a.d/old/00': 'oops\n', 'old/00': 'oops\n', 'old/a.d/00': 'oops\n', 'profiles/a/b': 'oops\n'}, [
+        ('a.d/b.d:0', "'update' does not read it: it is a folder inside ./a.d"), ('a.d/locks/b:0', "'update' does not read it: it is a folder inside ./a.d/locks"),
+        ('a.d/old:0', "'update' does not read it: it is a folder inside ./a.d"), ('old:0', UNREAD), ('profiles/a:0', "'update' does not read it: it is a folder inside ./profiles")]),
+    'beside them': ({'README': 'hello\n', 'site.keys': DESK + 'onn=true\n', 'site.locks': ON + '\n', 'site.d': DESK}, [(f'{it}:0', UNREAD) for it in ('README', 'site.d', 'site.keys', 'site.locks')]),
+    'a profile whose database is made': ({'profile': 'user-db:user\nsystem-db:site\nsystem-db:gone\noops\n', 'site.d/00': ''}, [
+        ('profile:3', 'it names system-db:gone, and there is no {made}/gone.db'), ('profile:4', 'a line of the profile names no database')]),
+    'wrong profiles': ({'profile': {'folder': True}, 'profiles/a': 'oops\n', 'profiles/b': {'link': 'b'}}, [
+        ('profile:0', 'Device: Is a directory'), ('profiles/a:1', 'a line of the profile names no database'), ('profiles/b:0', 'Device: Too many levels of symbolic links')]),
+    'no files': ({'a.d/pipe': {'pipe': True}, 'a.d/null': {'link': '/dev/null'}, 'a.d/gone': {'link': 'x'}, 'a.d/loop': {'link': 'loop'}, 'a.d/locks/up': {'link': '..'},
+                  'b.d': {'link': 'b.d'}, 'c': {'pipe': True}, 'd': {'link': 'x'}}, [
+        ('a.d/gone:0', 'NoFile: there is no such file'), ('a.d/locks/up:0', "'update' does not read it: it is a folder inside ./a.d/locks"),
+        ('a.d/loop:0', 'Device: Too many levels of symbolic links'), ('a.d/null:0', "'update' does not read it: it is no regular file"),
+        ('a.d/pipe:0', "'update' does not read it: it is no regular file"), ('b.d:0', UNREAD), ('c:0', UNREAD), ('d:0', UNREAD)]),
+    'links to files and folders': ({'files/00': DESK + 'onn=1\n', 'a.d': {'link': 'files'}, 'b.d/00': {'link': '../files/00'}, 'b.d/locks': {'link': '../c.d'}, 'c.d/l': '# x\n'}, [
+        (f'{it}/00:2', f'{NO_KEY}{ON}n{NEAR}on') for it in ('a.d', 'b.d')] + [('files:0', UNREAD)]),
+    'databases': ({'site.d/00': DESK + 'on=true\n', 'site.db': {'database': DESK + 'onn=true\n'}, 'site': {'database': DESK + 'onn=true\n'}, 'me.user': {'database': DESK + 'onn=true\n'},
+                   'lab.db': {'database': DESK + 'name=5\n'}, 'site.db.new': 'x'}, [
+        ('lab.db:0', '/org/example/desk/name: the value is of type i, and the key of type s'), ('me.user:0', f'{NO_KEY}{ON}n{NEAR}on')]),
+    'damaged databases': ({'me.user': '', 'lab.db': 'GVa'}, [(f'{it}:0', "the file is shorter than a database's header") for it in ('lab.db', 'me.user')]),
+    'a hidden database': ({'.a.d/00': 'oops\n', '.a.d/locks/l': '/a//b\n', '.a.d/old/00': 'oops\n', '.d/00': 'oops\n'}, []),
+    'a store of its own': ({'kiosk/profile': 'user-db:kiosk\n', 'kiosk/site.d/00': 'oops\n', 'site/00': 'oops\n'}, [('site:0', UNREAD)]),
+    'in the way': ({'site.d/00': '', 'site.db': {'folder': True}, 'site.db.new': {'folder': True}, '.lock': {'link': 'x'}},
+                   [(f'{it}:0', "it is in the way of a file that 'update' writes") for it in ('.lock', 'site.db', 'site.db.new')]),
+    'not in the way': ({'lab.d/00': '', 'site.db': {'folder': True}, '.new': {'folder': True}}, [('site.db:0', UNREAD)]),
 }

@@ -1,4 +1,4 @@
-"""The keyfiles that Debian's packages ship, and what GSettings sees of each row over a database that the real dconf made of it."""
+"""The keyfiles that packages of Debian and Ubuntu ship, and what GSettings sees of each row over a database that the real dconf made of it."""
 import json
 import os
 import re
@@ -16,14 +16,38 @@ FOLDERS = {'ibus': {'00-upstream-settings': 'etc/dconf/db/ibus.d/00-upstream-set
                    '95-debian-edu-settings': 'usr/share/gdm/dconf/95-debian-edu-settings'},
            'edu': {'50-proxy': 'usr/share/debian-edu-config/tools/update-proxy-from-wpad'}}
 LOCKS = ['usr/share/gdm/dconf/locks/00-upstream-settings-locks']
+# Where each distribution's packages come from: of Debian as the machine has it. The files are looked at, and nothing is run of them.
+DISTRIBUTIONS = {'debian': None, 'ubuntu': 'deb [trusted=yes arch=amd64] https://archive.ubuntu.com/ubuntu noble main universe'}
+OF_DEBIAN_ALONE = ['debian-edu-artwork', 'debian-edu-config']
+QUIET = {'stdout': subprocess.DEVNULL, 'stderr': subprocess.DEVNULL}
 
 
-def unpacked(folder):
-    """Those files, and a folder of compiled schemas."""
+def apt_of(folder, source):
+    """The words of apt-get for such a source: it has lists of its own, and nothing of the machine's is changed."""
+    words = ['apt-get', '-o', 'APT::Sandbox::User=root']
+    if source is None:
+        return words
+    state = folder / 'apt'
+    (state / 'lists' / 'partial').mkdir(parents=True)
+    (state / 'sources.list').write_text(source + '\n', encoding='utf-8')
+    (state / 'status').write_text('', encoding='utf-8')
+    words += ['-o', f'Dir::Etc::sourcelist={state}/sources.list', '-o', 'Dir::Etc::sourceparts=/dev/null', '-o', f'Dir::State::lists={state}/lists',
+              '-o', f'Dir::State::status={state}/status', '-o', f'Dir::Cache={state}', '-o', 'APT::Architecture=amd64', '-o', 'APT::Architectures::=amd64']
+    if subprocess.run([*words, 'update'], check=False, **QUIET).returncode:
+        return None
+    return words
+
+
+def unpacked(folder, name='debian'):
+    """The files of a distribution's packages, and a folder of compiled schemas; or nothing."""
+    folder = folder / name
+    folder.mkdir()
     debs, root, schemas = folder / 'debs', folder / 'root', folder / 'shipped'
     debs.mkdir()
-    quiet = {'stdout': subprocess.DEVNULL, 'stderr': subprocess.DEVNULL}
-    if subprocess.run(['apt-get', '-o', 'APT::Sandbox::User=root', 'download', *PACKAGES], cwd=debs, check=False, **quiet).returncode:
+    quiet = QUIET
+    apt = apt_of(folder, DISTRIBUTIONS[name])
+    wanted = [it for it in PACKAGES if name == 'debian' or it not in OF_DEBIAN_ALONE]
+    if not apt or subprocess.run([*apt, 'download', *wanted], cwd=debs, check=False, **quiet).returncode:
         return None, None
     for deb in debs.glob('*.deb'):
         subprocess.run(['dpkg-deb', '-x', deb, root], check=True)
@@ -67,12 +91,33 @@ def seen(files):
 
 
 def site(folder, root, name):
-    """The folder of that name, with its keyfiles."""
+    """The folder of that name, with its keyfiles; or None, if none is there."""
+    files = {file: root / of for file, of in FOLDERS[name].items() if (root / of).exists()}
+    if not files:
+        return None
     made = folder / f'{name}.d'
     made.mkdir()
-    for file, of in FOLDERS[name].items():
-        (made / file).write_text(written(root / of), encoding='utf-8')
+    for file, of in files.items():
+        (made / file).write_text(written(of), encoding='utf-8')
     return made
+
+
+def whole_site(folder, root):
+    """A folder with all of that, its locks and a profile: as a site has it."""
+    made = folder / 'whole'
+    made.mkdir()
+    there = [name for name in FOLDERS if site(made, root, name)]
+    for lock in (root / it for it in LOCKS):
+        if lock.exists():
+            (made / 'gdm.d' / 'locks').mkdir()
+            (made / 'gdm.d' / 'locks' / lock.name).write_bytes(lock.read_bytes())
+    (made / 'profile').write_text('user-db:user\n' + ''.join(f'system-db:{it}\n' for it in there), encoding='utf-8')
+    return made
+
+
+def has_double(text):
+    """Whether GLib reads a double in the text of a value."""
+    return bool(re.search(r'(?<![\w\'"])-?\d+\.\d', re.sub(r"'(?:[^'\\\\]|\\\\.)*'|\"(?:[^\"\\\\]|\\\\.)*\"", "''", text)))
 
 
 def written(file):

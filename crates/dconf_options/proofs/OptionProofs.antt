@@ -90,6 +90,7 @@ word_no_name r Word.Folder n e = folder_no_name r r.has_folder r.is_user _ folde
 word_no_name r Word.WantsSchema n e = nothing_no_name e
 word_no_name r Word.Schema n e = let bad : Said.Schema ≡ Said.Name = e in cc
 word_no_name r Word.User n e = user_no_name r r.is_user r.has_folder _ nothing_no_name e
+word_no_name r Word.Json n e = let bad : Said.Json ≡ Said.Name = e in cc
 word_no_name r Word.Unknown n e = let bad : Said.Unknown ≡ Said.Name = e in cc
 
 watch_no_name : (a b c : Bool) → (if a then Word.WantsFolder else if b then Word.Folder else if c then Word.User else Word.Unknown) ≢ Word.Name
@@ -98,13 +99,14 @@ watch_no_name false true c e = let bad : Word.Folder ≡ Word.Name = e in cc
 watch_no_name false false true e = let bad : Word.User ≡ Word.Name = e in cc
 watch_no_name false false false e = let bad : Word.Unknown ≡ Word.Name = e in cc
 
-lint_no_name : (a b c d : Bool) →
-    (if a then Word.WantsFolder else if b then Word.Folder else if c then Word.WantsSchema else if d then Word.Schema else Word.Unknown) ≢ Word.Name
-lint_no_name true b c d e = let bad : Word.WantsFolder ≡ Word.Name = e in cc
-lint_no_name false true c d e = let bad : Word.Folder ≡ Word.Name = e in cc
-lint_no_name false false true d e = let bad : Word.WantsSchema ≡ Word.Name = e in cc
-lint_no_name false false false true e = let bad : Word.Schema ≡ Word.Name = e in cc
-lint_no_name false false false false e = let bad : Word.Unknown ≡ Word.Name = e in cc
+lint_no_name : (a b c d f : Bool) →
+    (if a then Word.WantsFolder else if b then Word.Folder else if c then Word.WantsSchema else if d then Word.Schema else if f then Word.Json else Word.Unknown) ≢ Word.Name
+lint_no_name true b c d f e = let bad : Word.WantsFolder ≡ Word.Name = e in cc
+lint_no_name false true c d f e = let bad : Word.Folder ≡ Word.Name = e in cc
+lint_no_name false false true d f e = let bad : Word.WantsSchema ≡ Word.Name = e in cc
+lint_no_name false false false true f e = let bad : Word.Schema ≡ Word.Name = e in cc
+lint_no_name false false false false true e = let bad : Word.Json ≡ Word.Name = e in cc
+lint_no_name false false false false false e = let bad : Word.Unknown ≡ Word.Name = e in cc
 
 of_no_name : (h d l : Bool) (x y : Word) → x ≢ Word.Name → y ≢ Word.Name → (if h then Word.Help else if d then Word.Divider else if l then x else y) ≢ Word.Name
 of_no_name true d l x y n m e = let bad : Word.Help ≡ Word.Name = e in cc
@@ -114,7 +116,7 @@ of_no_name false false false x y n m e = m e
 
 word_of_no_name : (is_lint : Bool) (word : List ℕ) → is_name word ≡ false → word_of is_lint word ≢ Word.Name
 word_of_no_name is_lint word n e =
-    of_no_name _ _ is_lint (lint_option word) (watch_option word) (lint_no_name _ _ _ _) (watch_no_name _ _ _) (sym (second (is_name word) _ _ n) ∙ e)
+    of_no_name _ _ is_lint (lint_option word) (watch_option word) (lint_no_name _ _ _ _ _) (watch_no_name _ _ _) (sym (second (is_name word) _ _ n) ∙ e)
 
 option : (r : OptionsRead) (word : List ℕ) → r.wants ≡ 0 → r.is_over ≡ false → is_name word ≡ false → (option_after r word).said ≢ Said.Name
 option r word e o n s = word_no_name r (word_of r.is_lint word) (word_of_no_name r.is_lint word n) (ap (λ t. t.said) (sym (by_word r word e o)) ∙ s)
@@ -145,6 +147,7 @@ word_unnamed r Word.Folder l h e = folder_no_name r r.has_folder r.is_user _ fol
 word_unnamed r Word.WantsSchema l h e = nothing_no_name e
 word_unnamed r Word.Schema l h e = let bad : Said.Schema ≡ Said.Name = e in cc
 word_unnamed r Word.User l h e = user_no_name r r.is_user r.has_folder _ nothing_no_name e
+word_unnamed r Word.Json l h e = let bad : Said.Json ≡ Said.Name = e in cc
 word_unnamed r Word.Unknown l h e = let bad : Said.Unknown ≡ Said.Name = e in cc
 
 of_four : (a b c : Bool) (w x y z : Taken) → w.said ≢ Said.Name → x.said ≢ Said.Name → y.said ≢ Said.Name → z.said ≢ Said.Name →
@@ -162,13 +165,21 @@ one r word l h = of_four (r.wants == 1) (r.wants == 2) r.is_over _ _ _ _ folder_
 
 -- ---- at the end
 
-done_by : (is has : Bool) → (if not is then Said.Lacking else if not has then Said.NoName else Said.Nothing) ≡ Said.Nothing → (is ≡ true) × (has ≡ true)
-done_by false has e = absurd (let bad : Said.Lacking ≡ Said.Nothing = e in cc)
-done_by true false e = absurd (let bad : Said.NoName ≡ Said.Nothing = e in cc)
-done_by true true e = (refl, refl)
+abbrev end_by : Bool → Bool → Bool → Said
+end_by is lint has = if not is then Said.Lacking else if not lint && not has then Said.NoName else Said.Nothing
 
-done : (r : OptionsRead) → options_end r ≡ Said.Nothing → (r.wants ≡ 0) × (r.has_name ≡ true)
-done r e = let both : ((r.wants == 0) ≡ true) × (r.has_name ≡ true) = done_by (r.wants == 0) r.has_name e in (zero_if r.wants both.0, both.1)
+done_by : (is lint has : Bool) → end_by is lint has ≡ Said.Nothing → is ≡ true
+done_by false lint has e = absurd (let bad : Said.Lacking ≡ Said.Nothing = e in cc)
+done_by true lint has e = refl
+
+named_by : (is lint has : Bool) → end_by is lint has ≡ Said.Nothing → lint ≡ false → has ≡ true
+named_by is lint true e l = refl
+named_by is true false e l = absurd (let bad : true ≡ false = l in cc)
+named_by false false false e l = absurd (let bad : Said.Lacking ≡ Said.Nothing = e in cc)
+named_by true false false e l = absurd (let bad : Said.NoName ≡ Said.Nothing = e in cc)
+
+done : (r : OptionsRead) → options_end r ≡ Said.Nothing → r.wants ≡ 0
+done r e = zero_if r.wants (done_by (r.wants == 0) r.is_lint r.has_name e)
 
 pub no_word_is_lost : NoWordIsLost
 no_word_is_lost r word argument = record {
@@ -178,4 +189,5 @@ no_word_is_lost r word argument = record {
   name = name r word;
   one = one r word;
   done = done r;
+  named = named_by (r.wants == 0) r.is_lint r.has_name;
 }

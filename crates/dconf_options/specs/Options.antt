@@ -5,7 +5,7 @@ use Rattle.dconf_options.specs.declared.words.Word.{Word}
 use Rattle.dconf_options.specs.declared.options.OptionsRead.{OptionsRead}
 use Rattle.dconf_options.specs.declared.options.Taken.{Taken}
 use Rattle.dconf_options.specs.declared.options.Said.{Said}
-use Rattle.dconf_options.specs.declared.options.Said.TheVariants.{Nothing, Folder, Schema, Name, Help, Unknown, Twice, Excluded, TooMany, Lacking, NoName}
+use Rattle.dconf_options.specs.declared.options.Said.TheVariants.{Nothing, Folder, Schema, Name, Help, Unknown, Twice, Excluded, TooMany, Lacking, NoName, Json}
 
 abbrev pub read_with : OptionsRead → ℕ → Bool → Bool → Bool → Bool → OptionsRead
 read_with r wants over folder user name =
@@ -46,6 +46,7 @@ as_word r Word.Folder = as_folder r 0 Folder (begins_at r.is_lint)
 as_word r Word.WantsSchema = saying (read_with r 2 r.is_over r.has_folder r.is_user r.has_name) Nothing
 as_word r Word.Schema = record { read = r; said = Schema; from = 9 }
 as_word r Word.User = as_user r
+as_word r Word.Json = saying r Json
 as_word r Word.Unknown = saying r Unknown
 
 abbrev pub option_after : OptionsRead → List ℕ → Taken
@@ -53,9 +54,9 @@ option_after r word =
     if r.wants == 1 then of_argument r Folder else if r.wants == 2 then of_argument r Schema else
     if r.is_over then as_name r else as_word r (word_of r.is_lint word)
 
--- when there is no further word
+-- when there is no further word; without a name `lint` looks at what `update` would make
 abbrev pub options_end : OptionsRead → Said
-options_end r = if not (r.wants == 0) then Lacking else if not r.has_name then NoName else Nothing
+options_end r = if not (r.wants == 0) then Lacking else if not r.is_lint && not r.has_name then NoName else Nothing
 
 abbrev pub said_number : Said → ℕ
 said_number Nothing = 0
@@ -69,3 +70,4 @@ said_number Excluded = 7
 said_number TooMany = 8
 said_number Lacking = 9
 said_number NoName = 10
+said_number Json = 11

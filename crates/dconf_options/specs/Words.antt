@@ -1,9 +1,9 @@
--- What a word of `watch` or `lint` is by itself. docs/MANUAL.md, "watch PATH" and "lint FILE..".
+-- What a word of `watch` or `lint` is by itself. docs/MANUAL.md, "watch PATH" and "lint [FILE]..".
 use Rattle.std.specs.Prelude.{ℕ, List, Bool, codes, not, ◌||◌, nat_eq, if◌then◌else◌}
 use Rattle.std.specs.List.{starts_with}
 use Rattle.std.specs.Str.{bytes_eq}
 use Rattle.dconf_options.specs.declared.words.Word.{Word}
-use Rattle.dconf_options.specs.declared.words.Word.TheVariants.{Name, Help, Divider, WantsFolder, Folder, WantsSchema, Schema, User, Unknown}
+use Rattle.dconf_options.specs.declared.words.Word.TheVariants.{Name, Help, Divider, WantsFolder, Folder, WantsSchema, Schema, User, Json, Unknown}
 
 -- a minus sign alone is one
 abbrev pub is_name : List ℕ → Bool
@@ -20,7 +20,8 @@ watch_option word =
 abbrev pub lint_option : List ℕ → Word
 lint_option word =
     if bytes_eq word (codes "--schemas") then WantsFolder else if starts_with nat_eq word (codes "--schemas=") then Folder else
-    if bytes_eq word (codes "--schema") then WantsSchema else if starts_with nat_eq word (codes "--schema=") then Schema else Unknown
+    if bytes_eq word (codes "--schema") then WantsSchema else if starts_with nat_eq word (codes "--schema=") then Schema else
+    if bytes_eq word (codes "--json") then Json else Unknown
 
 abbrev pub word_of : Bool → List ℕ → Word
 word_of is_lint word =

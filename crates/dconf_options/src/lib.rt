@@ -10,8 +10,7 @@ mod words;
 
 pub use options::{OptionsRead, Said, Taken, option_after, options_end, said_number};
 
-/// `--store FOLDER` is `--store=FOLDER`, a word behind `--` is a name, and one that begins as an option never is; and what is asked for has
-/// as many names as it needs, and each option once.
+/// `--store FOLDER` is `--store=FOLDER`, a word behind `--` is a name, and one that begins as an option never is; and `watch` has one name.
 pub fn no_word_is_lost()
     ensures { NoWordIsLost }
 {}

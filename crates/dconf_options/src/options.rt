@@ -45,8 +45,10 @@ pub enum Said {
     TooMany,
     /// An option has no argument.
     Lacking,
-    /// No PATH is given, or no FILE.
+    /// No PATH is given.
     NoName,
+    /// Findings are to be written as JSON.
+    Json,
 }
 
 /// What is said of a word, and what the words up to it say.
@@ -70,20 +72,20 @@ pub fn option_after(read: &OptionsRead, word: &[u8]) -> Taken
     }
 }
 
-/// What is said once there is no further word.
+/// What is said once there is no further word: without a name `lint` looks at what `update` would make.
 pub fn options_end(read: &OptionsRead) -> Said
     ensures { result ≡ options_end read.now }
 {
     if read.wants != 0 {
         return Said::Lacking;
     }
-    if !read.has_name {
+    if !read.is_lint && !read.has_name {
         return Said::NoName;
     }
     Said::Nothing
 }
 
-/// The same as a number: 0 nothing, 1 a folder, 2 a schema, 3 a name, 4 help, 5 unknown, 6 twice, 7 excluded, 8 too many, 9 lacking, 10 no name.
+/// The same as a number: 0 nothing, 1 a folder, 2 a schema, 3 a name, 4 help, 5 unknown, 6 twice, 7 excluded, 8 too many, 9 lacking, 10 no name, 11 JSON.
 pub fn said_number(said: Said) -> u32
     ensures { result ≡ said_number said }
 {
@@ -99,6 +101,7 @@ pub fn said_number(said: Said) -> u32
         Said::TooMany => 8,
         Said::Lacking => 9,
         Said::NoName => 10,
+        Said::Json => 11,
     }
 }
 
@@ -141,6 +144,7 @@ fn as_word(read: &OptionsRead, word: Word) -> Taken
             from: 9,
         },
         Word::User => as_user(read),
+        Word::Json => saying(read, Said::Json),
         Word::Unknown => saying(read, Said::Unknown),
     }
 }

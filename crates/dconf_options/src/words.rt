@@ -18,6 +18,8 @@ pub(crate) enum Word {
     Schema,
     /// `--user`.
     User,
+    /// `--json`.
+    Json,
     Unknown,
 }
 
@@ -81,6 +83,9 @@ fn lint_option(word: &[u8]) -> Word
     }
     if word.starts_with(b"--schema=") {
         return Word::Schema;
+    }
+    if word == "--json".as_bytes() {
+        return Word::Json;
     }
     Word::Unknown
 }

@@ -3,8 +3,8 @@ use Rattle.std.proofs.Common.{ℕ, ◌≡◌, ◌⊎◌, inl, inr, Bool, true, f
 use Rattle.std.specs.Prelude.{◌&&◌, ◌||◌, if◌then◌else◌, codes}
 use Rattle.std.specs.Str.{bytes_eq}
 use Rattle.dconf_roles.specs.declared.findings.Finding.{Finding}
-use Rattle.dconf_roles.specs.declared.findings.Finding.TheVariants.{Nothing, NotTaken, OtherType, NoDatabase}
-use Rattle.dconf_roles.specs.Findings.{NoAlarmIsFalse, may_be_there, missing}
+use Rattle.dconf_roles.specs.declared.findings.Finding.TheVariants.{Nothing, NotTaken, OtherType, NoDatabase, SetTwice, NotSet}
+use Rattle.dconf_roles.specs.Findings.{NoAlarmIsFalse, is_key, may_be_there, missing}
 
 -- by whether it is known, has a value, that is taken, is of the type; whether it may be there, and what is missing else
 abbrev by : Bool → Bool → Bool → Bool → Bool → Finding → Finding
@@ -52,6 +52,28 @@ database_by false true false a b c = absurd (let bad : false ≡ true = c in cc)
 database_by false false own a b c = absurd (let bad : false ≡ true = b in cc)
 database_by true system own a b c = absurd (let bad : true ≡ false = a in cc)
 
+again_by : (known : Bool) → (if known then SetTwice else Nothing) ≡ SetTwice → known ≡ true
+again_by true e = refl
+again_by false e = absurd (let bad : Nothing ≡ SetTwice = e in cc)
+
+first_by : (known : Bool) → known ≡ false → (if known then SetTwice else Nothing) ≡ Nothing
+first_by false e = refl
+first_by true e = absurd (let bad : true ≡ false = e in cc)
+
+-- by whether it is set, nothing else is wrong, and it is a key
+abbrev unset_if : Bool → Bool → Bool → Finding
+unset_if known fine key = if not known && (fine && key) then NotSet else Nothing
+
+set_by : (known fine key : Bool) → known ≡ true → unset_if known fine key ≡ Nothing
+set_by true fine key e = refl
+set_by false fine key e = absurd (let bad : false ≡ true = e in cc)
+
+not_set_by : (known fine key : Bool) → known ≡ false → fine ≡ true → key ≡ true → unset_if known fine key ≡ NotSet
+not_set_by false true true a b c = refl
+not_set_by false true false a b c = absurd (let bad : false ≡ true = c in cc)
+not_set_by false false key a b c = absurd (let bad : false ≡ true = b in cc)
+not_set_by true fine key a b c = absurd (let bad : true ≡ false = a in cc)
+
 pub no_alarm_is_false : NoAlarmIsFalse
 no_alarm_is_false k slip = record {
   taken = taken_by k.is_known k.has_value k.is_taken k.is_of_type (may_be_there k slip) (missing k.what);
@@ -59,6 +81,10 @@ no_alarm_is_false k slip = record {
   untaken = untaken_by k.is_known k.has_value k.is_taken k.is_of_type (may_be_there k slip) (missing k.what);
   unknown = unknown_by k.is_known k.has_value k.is_taken k.is_of_type (may_be_there k slip) (missing k.what);
   elsewhere = elsewhere_by k.is_known k.has_value k.is_taken k.is_of_type (may_be_there k slip) (missing k.what);
+  again = again_by k.is_known;
+  first = first_by k.is_known;
+  set = λ path. set_by k.is_known k.is_taken (is_key path);
+  not_set = λ path. not_set_by k.is_known k.is_taken (is_key path);
   there = λ file. there_by k.is_known k.is_system (bytes_eq file (codes "profile"));
   database = λ file. database_by k.is_known k.is_system (bytes_eq file (codes "profile"));
 }

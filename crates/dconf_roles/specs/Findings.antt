@@ -1,8 +1,9 @@
--- What is found wrong with a key that is set, and with a lock. docs/MANUAL.md, "lint FILE..".
-use Rattle.std.specs.Prelude.{ℕ, ◌≡◌, ◌⊎◌, Bool, true, false, not, ◌&&◌, ◌||◌, if◌then◌else◌, ◌==◌, List, codes}
+-- What is found wrong with a key that is set, and with a lock. docs/MANUAL.md, "lint [FILE]..".
+use Rattle.std.specs.Prelude.{ℕ, ◌≡◌, ◌⊎◌, Bool, true, false, not, ◌&&◌, ◌||◌, if◌then◌else◌, ◌==◌, List, codes, nat_eq}
+use Rattle.std.specs.List.{ends_with}
 use Rattle.std.specs.Str.{bytes_eq}
 use Rattle.dconf_roles.specs.declared.findings.Finding.{Finding}
-use Rattle.dconf_roles.specs.declared.findings.Finding.TheVariants.{Nothing, NoKey, NoLockedKey, NoLockedDirectory, OtherType, NotTaken, NoDatabase}
+use Rattle.dconf_roles.specs.declared.findings.Finding.TheVariants.{Nothing, NoKey, NoLockedKey, NoLockedDirectory, OtherType, NotTaken, NoDatabase, SetTwice, NotSet, Double}
 use Rattle.dconf_roles.specs.declared.findings.FindingKnown.{FindingKnown}
 
 -- no schema is at its directory, one without a path may have it, and it is no slip
@@ -23,8 +24,25 @@ finding_of k slip = if k.is_known then of_value k else if may_be_there k slip th
 abbrev pub of_database : FindingKnown → List ℕ → Finding
 of_database k file = if k.is_known || not (k.is_system && bytes_eq file (codes "profile")) then Nothing else NoDatabase
 
+-- set by an earlier line of the same database
+abbrev pub of_again : FindingKnown → Finding
+of_again k = if k.is_known then SetTwice else Nothing
+
+abbrev pub is_key : List ℕ → Bool
+is_key path = not (ends_with nat_eq path (codes "/"))
+
+-- a key that is locked, and that no keyfile of the site sets: it has the schema's default for good
+abbrev pub of_unset : FindingKnown → List ℕ → Finding
+of_unset k path = if not k.is_known && (k.is_taken && is_key path) then NotSet else Nothing
+
+-- a value with a double, in a source of `update`, which refuses it
+abbrev pub of_double : FindingKnown → Finding
+of_double k = if k.is_system then Double else Nothing
+
 abbrev pub finding_for : FindingKnown → List ℕ → Bool → Finding
-finding_for k name slip = if k.what == 3 then of_database k name else finding_of k slip
+finding_for k name slip =
+    if k.what == 3 then of_database k name else if k.what == 4 then of_again k else if k.what == 5 then of_unset k name
+    else if k.what == 6 then of_double k else finding_of k slip
 
 abbrev pub finding_number : Finding → ℕ
 finding_number Nothing = 0
@@ -34,6 +52,9 @@ finding_number NoLockedDirectory = 3
 finding_number OtherType = 4
 finding_number NotTaken = 5
 finding_number NoDatabase = 6
+finding_number SetTwice = 7
+finding_number NotSet = 8
+finding_number Double = 9
 
 -- ---- the law
 
@@ -48,6 +69,11 @@ pub record IsNoFalseAlarm (k : FindingKnown) (slip : Bool) : Type 0 where
   pub elsewhere : k.is_known ≡ false → may_be_there k slip ≡ true → finding_of k slip ≡ Nothing
   -- a database of the system that isn't there is found, in the profile of a folder alone
   pub there : (file : List ℕ) → k.is_known ≡ true → of_database k file ≡ Nothing
+  -- a key is set twice only after an earlier line, and locked without a value only if no keyfile has one, and nothing else is wrong
+  pub again : of_again k ≡ SetTwice → k.is_known ≡ true
+  pub first : k.is_known ≡ false → of_again k ≡ Nothing
+  pub set : (path : List ℕ) → k.is_known ≡ true → of_unset k path ≡ Nothing
+  pub not_set : (path : List ℕ) → k.is_known ≡ false → k.is_taken ≡ true → is_key path ≡ true → of_unset k path ≡ NotSet
   pub database : (file : List ℕ) → k.is_known ≡ false → k.is_system ≡ true → bytes_eq file (codes "profile") ≡ true → of_database k file ≡ NoDatabase
 
 abbrev pub NoAlarmIsFalse : Type 0

@@ -6,3 +6,4 @@ pub mod Slips
 pub mod Folders
 pub mod Nearness
 pub mod Places
+pub mod Sites

@@ -1,4 +1,4 @@
--- Where the name is looked for that is the nearest to one that is missing, one place after the other. docs/MANUAL.md, "lint FILE..".
+-- Where the name is looked for that is the nearest to one that is missing, one place after the other. docs/MANUAL.md, "lint [FILE]..".
 use Rattle.std.specs.Prelude.{ℕ, ◌≡◌, ◌≢◌, Bool, true, false, not, if◌then◌else◌, ◌==◌, nat_lt}
 use Rattle.dconf_roles.specs.declared.nearness.Nearing.{Nearing}
 use Rattle.dconf_roles.specs.declared.places.Place.{Place}

@@ -1,4 +1,4 @@
--- As what a file is looked at: by what stands in it, and in a folder of sources by that. docs/MANUAL.md, "lint FILE..".
+-- As what a file is looked at: by what stands in it, and in a folder of sources by that. docs/MANUAL.md, "lint [FILE]..".
 use Rattle.std.specs.Prelude.{ℕ, List, Bool, true, codes, map, nat_eq, nat_lt, if◌then◌else◌}
 use Rattle.std.specs.List.{starts_with}
 use Rattle.dconf_model.specs.Lines.{lines_of}
@@ -6,6 +6,7 @@ use Rattle.dconf_model.specs.Paths.{has_zero_byte}
 use Rattle.keyfile_lines.specs.Kinds.{kind_from, sign_of}
 use Rattle.keyfile_lines.specs.declared.kinds.TextKind.{TextKind}
 use Rattle.dconf_roles.specs.declared.roles.Role.{Role}
+use Rattle.dconf_roles.specs.declared.sites.Part.{Part}
 use Rattle.dconf_roles.specs.declared.readings.ReadAs.{ReadAs}
 
 -- a file that begins by a database's signature
@@ -57,3 +58,29 @@ reading role size text =
     if is_database text then of_database role
     else if nat_lt most size then too_big role
     else of_text role text
+
+-- ---- of what is read of a site
+
+abbrev pub within_most : ℕ → ReadAs → ReadAs
+within_most size it = if nat_lt most size then ReadAs.TooBig else it
+
+abbrev pub profile_or_none : TextKind → ReadAs
+profile_or_none TextKind.Profile = ReadAs.Profile
+profile_or_none kind = ReadAs.Stray
+
+abbrev pub text_beside : ℕ → List ℕ → ReadAs
+text_beside size text = if nat_lt most size then ReadAs.Stray else profile_or_none (kind_of text)
+
+-- a database, or a profile of another name, lies there by right; no keyfile does, nor any other text
+abbrev pub beside : ReadAs → ℕ → List ℕ → ReadAs
+beside database size text = if is_database text then database else text_beside size text
+
+-- the sources are what they are below NAME.d; a database that `update` makes says no more than they do
+abbrev pub reading_of_part : Part → ℕ → List ℕ → ReadAs
+reading_of_part Part.Keyfile size text = reading Role.Keyfile size text
+reading_of_part Part.Locks size text = reading Role.Locks size text
+reading_of_part Part.Profile size text = within_most size ReadAs.Profile
+reading_of_part Part.Database size text = ReadAs.Database
+reading_of_part Part.Beside size text = beside ReadAs.Database size text
+reading_of_part Part.Made size text = beside ReadAs.LeftOut size text
+reading_of_part part size text = ReadAs.LeftOut

@@ -1,4 +1,4 @@
--- As what `update` takes a file, by the folders that it is in. dconf(1), "update"; docs/MANUAL.md, "lint FILE..".
+-- As what `update` takes a file, by the folders that it is in. dconf(1), "update"; docs/MANUAL.md, "lint [FILE]..".
 use Rattle.std.specs.Prelude.{ℕ, List, Bool, true, false, ◌≡◌, ◌++◌, ◌∷◌, [], ◌&&◌, codes, length, nat_eq, nat_lt, if◌then◌else◌}
 use Rattle.std.specs.List.{ends_with}
 use Rattle.std.specs.Str.{bytes_eq}

@@ -1,4 +1,4 @@
--- Whether a name is a slip of the pen away from another one. docs/MANUAL.md, "lint FILE..".
+-- Whether a name is a slip of the pen away from another one. docs/MANUAL.md, "lint [FILE]..".
 use Rattle.std.specs.Prelude.{ℕ, List, Bool, ◌&&◌, ◌||◌, drop, nat_eq, take}
 use Rattle.std.specs.List.{common_prefix_len}
 use Rattle.std.specs.Str.{bytes_eq}

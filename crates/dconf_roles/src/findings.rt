@@ -1,7 +1,7 @@
 //! What is found wrong with a key that is set, and with a lock.
 ghost use Rattle.std.specs.Prelude.{◌≡◌, map};
 ghost use Rattle.std.specs.List.{list_any};
-ghost use Rattle.dconf_roles.specs.Findings.{finding_for, finding_of, finding_number, may_be_there, missing, of_database, of_value};
+ghost use Rattle.dconf_roles.specs.Findings.{finding_for, finding_of, finding_number, is_key, may_be_there, missing, of_again, of_database, of_double, of_unset, of_value};
 ghost use Rattle.dconf_roles.specs.Slips.{is_slip};
 
 use crate::slips::{Name, has_slip};
@@ -22,15 +22,23 @@ pub enum Finding {
     NotTaken,
     /// There is no file of the database.
     NoDatabase,
+    /// The key is set already.
+    SetTwice,
+    /// The key is locked, and nothing sets it.
+    NotSet,
+    /// The value has a double, which `update` refuses.
+    Double,
 }
 
 /// What is known of it.
 #[repr(C)]
 #[derive(Clone, Copy)]
 pub struct FindingKnown {
-    /// What it is: 0 a key that is set, 1 a lock of a key, 3 a database that a profile names, else a lock of a directory.
+    /// What it is: 0 a key that is set, 1 a lock of a key, 3 a database that a profile names, 4 a key that may be set already, 5 a lock whose key
+    /// may not be set, 6 a value with a double, else a lock of a directory.
     pub what: u32,
-    /// A schema has the key, or one below the directory; or the database has its file, as far as can be said.
+    /// A schema has the key, or one below the directory; or the database has its file, as far as can be said; or an earlier line of the same
+    /// database sets the key; or a keyfile of the site does.
     pub is_known: bool,
     /// A schema is at the key's directory.
     pub has_schemas: bool,
@@ -38,11 +46,11 @@ pub struct FindingKnown {
     pub may_be_elsewhere: bool,
     /// It is set to a value.
     pub has_value: bool,
-    /// One of the keys takes the value.
+    /// One of the keys takes the value; or nothing else is wrong with the lock.
     pub is_taken: bool,
     /// The value is of the first one's type.
     pub is_of_type: bool,
-    /// The database is the system's.
+    /// The database is the system's; or the value is one of a source of `update`.
     pub is_system: bool,
 }
 
@@ -60,18 +68,21 @@ pub fn finding_of(known: &FindingKnown, directory: &[u8], others: &[Name<'_>]) -
     missing(known.what)
 }
 
-/// The same, and of a database that a profile names, which is a file of that name.
+/// The same, and of a database that a profile names, which is a file of that name; of what is set twice, or locked and not set; and of doubles.
 pub fn finding_for(known: &FindingKnown, name: &[u8], others: &[Name<'_>]) -> Finding
     ensures { result ≡ finding_for known.now name.now (list_any (λ other. is_slip name.now other.text.now) others.now) }
 {
-    if known.what == 3 {
-        return of_database(known, name);
+    match known.what {
+        3 => of_database(known, name),
+        4 => of_again(known),
+        5 => of_unset(known, name),
+        6 => of_double(known),
+        _ => finding_of(known, name, others),
     }
-    finding_of(known, name, others)
 }
 
 /// The same as a number: 0 nothing, 1 no schema has the key, 2 the locked key, 3 a key below the locked directory, 4 the value is of another
-/// type, 5 the key doesn't take it, 6 the database has no file.
+/// type, 5 the key doesn't take it, 6 the database has no file, 7 the key is set already, 8 it is locked and not set, 9 the value has a double.
 pub fn finding_number(known: &FindingKnown, name: &[u8], others: &[Name<'_>]) -> u32
     ensures { result ≡ finding_number (finding_for known.now name.now (list_any (λ other. is_slip name.now other.text.now) others.now)) }
 {
@@ -83,6 +94,9 @@ pub fn finding_number(known: &FindingKnown, name: &[u8], others: &[Name<'_>]) ->
         Finding::OtherType => 4,
         Finding::NotTaken => 5,
         Finding::NoDatabase => 6,
+        Finding::SetTwice => 7,
+        Finding::NotSet => 8,
+        Finding::Double => 9,
     }
 }
 
@@ -94,6 +108,41 @@ fn of_database(known: &FindingKnown, file: &[u8]) -> Finding
         return Finding::Nothing;
     }
     Finding::NoDatabase
+}
+
+fn of_again(known: &FindingKnown) -> Finding
+    ensures { result ≡ of_again known.now }
+{
+    if known.is_known {
+        return Finding::SetTwice;
+    }
+    Finding::Nothing
+}
+
+/// A lock of a directory is of whatever comes below it.
+fn of_unset(known: &FindingKnown, path: &[u8]) -> Finding
+    ensures { result ≡ of_unset known.now path.now }
+{
+    if !known.is_known && (known.is_taken && is_key(path)) {
+        return Finding::NotSet;
+    }
+    Finding::Nothing
+}
+
+fn is_key(path: &[u8]) -> bool
+    ensures { result ≡ is_key path.now }
+{
+    !path.ends_with(b"/")
+}
+
+/// What dconf's own command makes a database of may have doubles.
+fn of_double(known: &FindingKnown) -> Finding
+    ensures { result ≡ of_double known.now }
+{
+    if known.is_system {
+        return Finding::Double;
+    }
+    Finding::Nothing
 }
 
 fn may_be_there(known: &FindingKnown, is_slip: bool) -> bool

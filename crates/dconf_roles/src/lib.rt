@@ -7,6 +7,7 @@
 ghost use Rattle.dconf_roles.specs.Findings.{NoAlarmIsFalse};
 ghost use Rattle.dconf_roles.specs.Places.{EachPlaceComesOnce};
 ghost use Rattle.dconf_roles.specs.Roles.{WhatUpdateReadsIsRead};
+ghost use Rattle.dconf_roles.specs.Sites.{WhatUpdateCompilesIsTaken};
 
 mod findings;
 mod folders;
@@ -15,20 +16,27 @@ mod numbers;
 mod places;
 mod readings;
 mod roles;
+mod sites;
 mod slips;
 
 pub use findings::{Finding, FindingKnown, finding_for, finding_number, finding_of};
 pub use folders::{is_read, role_of, sources_in};
 pub use nearness::{Nearing, is_nearer};
-pub use numbers::reading_number;
+pub use numbers::{entry_number, reading_number};
 pub use places::{Place, is_over, next_place};
-pub use readings::{ReadAs, reading};
+pub use readings::{ReadAs, reading, reading_of_part};
 pub use roles::{Role, role_among};
+pub use sites::{EntryKnown, Kind, Part, Within, part_of, stem_len};
 pub use slips::{Name, has_slip};
 
 /// A file in a folder NAME.d, or in its folder `locks`, is a keyfile, or one of locks, if `update` reads it, and else it is hidden.
 pub fn what_update_reads_is_read()
     ensures { WhatUpdateReadsIsRead }
+{}
+
+/// In the folder of a site the files that are taken for keyfiles and for locks are those that `update` compiles, in its order.
+pub fn what_update_compiles_is_taken()
+    ensures { WhatUpdateCompilesIsTaken }
 {}
 
 /// What no schema has is found, unless one without a path may have it; and so is a value that no key takes, and a database of the system that isn't

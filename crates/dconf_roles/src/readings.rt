@@ -1,8 +1,9 @@
 //! As what a file is looked at, by its role and by what stands in it.
 ghost use Rattle.std.specs.Prelude.{◌≡◌};
-ghost use Rattle.dconf_roles.specs.Readings.{as_source, by_its_text, is_database, kind_of, of_database, of_text, reading, too_big};
+ghost use Rattle.dconf_roles.specs.Readings.{as_source, beside, by_its_text, is_database, kind_of, of_database, of_text, profile_or_none, reading, reading_of_part, text_beside, too_big, within_most};
 
 use crate::roles::Role;
+use crate::sites::Part;
 use keyfile_lines::TextKind;
 
 /// A text of more bytes is not read.
@@ -24,6 +25,8 @@ pub enum ReadAs {
     TooBig,
     /// None of these.
     Neither,
+    /// It lies beside the folders of sources of a site, and is none of its files.
+    Stray,
 }
 
 /// As what a file of so many bytes is looked at, of which these are there: all that a text has, or the first of another file.
@@ -36,6 +39,54 @@ pub fn reading(role: Role, size: u64, text: &[u8]) -> ReadAs
         too_big(role)
     } else {
         of_text(role, text)
+    }
+}
+
+/// The same of what is read of a site.
+pub fn reading_of_part(part: Part, size: u64, text: &[u8]) -> ReadAs
+    ensures { result ≡ reading_of_part part size text.now }
+{
+    match part {
+        Part::Keyfile => reading(Role::Keyfile, size, text),
+        Part::Locks => reading(Role::Locks, size, text),
+        Part::Profile => within_most(size, ReadAs::Profile),
+        Part::Database => ReadAs::Database,
+        Part::Beside => beside(ReadAs::Database, size, text),
+        Part::Made => beside(ReadAs::LeftOut, size, text),
+        _ => ReadAs::LeftOut,
+    }
+}
+
+fn within_most(size: u64, it: ReadAs) -> ReadAs
+    ensures { result ≡ within_most size it }
+{
+    if size > MOST { ReadAs::TooBig } else { it }
+}
+
+fn beside(database: ReadAs, size: u64, text: &[u8]) -> ReadAs
+    ensures { result ≡ beside database size text.now }
+{
+    if !is_database(text) {
+        return text_beside(size, text);
+    }
+    database
+}
+
+fn text_beside(size: u64, text: &[u8]) -> ReadAs
+    ensures { result ≡ text_beside size text.now }
+{
+    if size > MOST {
+        return ReadAs::Stray;
+    }
+    profile_or_none(kind_of(text))
+}
+
+fn profile_or_none(kind: TextKind) -> ReadAs
+    ensures { result ≡ profile_or_none kind }
+{
+    match kind {
+        TextKind::Profile => ReadAs::Profile,
+        _ => ReadAs::Stray,
     }
 }
 

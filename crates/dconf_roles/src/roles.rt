@@ -70,7 +70,7 @@ pub(crate) fn is_sources(name: &[u8]) -> bool
     is_shown(name) && (name.len() > 2 && name.ends_with(b".d"))
 }
 
-fn is_shown(name: &[u8]) -> bool
+pub(crate) fn is_shown(name: &[u8]) -> bool
     ensures { result ≡ is_shown name.now }
 {
     !name.starts_with(b".")

@@ -1,6 +1,7 @@
 pub mod SeeingLaws
 pub mod TellingLaws
 pub mod OthersLaws
+pub mod TwinsLaws
 pub mod SearchLaws
 pub mod RelockedLaws
 pub mod ChangedLaws

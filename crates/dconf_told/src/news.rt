@@ -1,17 +1,23 @@
 //! Who is told of what: the keys that are seen otherwise than before.
+ghost use Rattle.std.specs.FinMap.{empty};
 ghost use Rattle.std.specs.Prelude.{◌≡◌, ◌≤◌, [], ◌∷◌, ◌++◌, ℕ, List, false, IfOk, OnOk, drop, filter, length, map, string_bytes};
+ghost use Rattle.dconf_differences.specs.Differing.{AreAsked};
+ghost use Rattle.dconf_differences.proofs.TwinLaws.{AreTwins};
+ghost use Rattle.dconf_layers.specs.Entries.{entries_left, entry_row};
+ghost use Rattle.dconf_layers.specs.LayerRows.{AreOf, paths_of};
 ghost use Rattle.dconf_layers.specs.LayerSettings.{settings_of, seen_in};
 ghost use Rattle.dconf_layers.specs.TextSets.{with_texts};
 ghost use Rattle.dconf_model.specs.Order.{listing};
 ghost use Rattle.dconf_told.specs.Seeing.{layers_in};
-ghost use Rattle.dconf_told.specs.Telling.{AreTold, HasAllOthers, after_first, any_name, any_names, asked_otherwise, before_in, ended, named_otherwise, shown_otherwise};
+ghost use Rattle.dconf_told.specs.Telling.{AreTold, HasAllOthers, LeavesOut, after_first, any_name, any_names, asked_otherwise, before_in, ended, named_otherwise, shown_otherwise};
 
 use crate::alike::are_seen_alike;
 use crate::seen::{DconfdbView, DconfdbWaits};
 use crate::texts::{has_text, texts_of};
-use dconf_differences::{differing, differing_first};
-use dconf_layers::{Layer, LentLayers, Texts};
+use dconf_differences::differing;
+use dconf_layers::{Entries, Entry, Layer, LentLayers, Texts};
 use dconf_path::KeyPath;
+use gvdb_alike::differing_items;
 use std::alloc::{AllocError, Global};
 
 /// A key that is asked for by itself: what waited of it, and what waits, for who asks for that type; an empty text asks for any.
@@ -36,8 +42,9 @@ struct Telling<'a, 'l> {
 /// what the layers show. A value in other bytes is the same one. They are in the order of their bytes, once each. Where `same_others`,
 /// the layers before but for the first count as those after.
 ///
-/// An error comes where a growth is refused. It asks what [`differing`] asks, or [`differing_first`] where the others are the same, and
-/// once more of what differs, which is searched for by halving among the keys that are asked for.
+/// An error comes where a growth is refused. It asks what [`differing`] asks, and once more of what differs. Where the others are the
+/// same, it asks the keys of the two first layers alone, and of these none that both are seen to have alike. Each is searched for by
+/// halving among the keys that are asked for.
 pub fn told<'a, 'l>(
     alloc: Global,
     before: LentLayers<'a, 'l>,
@@ -85,14 +92,17 @@ fn told_of_first<'a, 'l>(
 ) -> Result<Vec<String>, AllocError>
     ensures { IfOk result (λ paths. AreTold (after_first was_writable (settings_of first.entry) (seen_in after.entry)) (seen_in after.entry) asked.now (map string_bytes paths.items)) }
 {
-    let others = differing_first(alloc, after, first)?;
     let layers = with_first(alloc, after, first)?;
+    let before = LentLayers::new(was_writable, &layers);
+    let Some((newer, _)) = after.layers.split_first() else {
+        return told_of_all(alloc, before, after, asked);
+    };
     let telling = Telling {
-        before: LentLayers::new(was_writable, &layers),
+        before,
         after,
         asked,
     };
-    telling.list(alloc, others.as_slice())
+    telling.list_of_first(alloc, first, *newer)
 }
 
 /// The same, as they are handed out: a zero byte after each.
@@ -115,11 +125,70 @@ impl<'a> Telling<'a, '_> {
         requires { HasAllOthers (seen_in self.before) (seen_in self.after) (map string_bytes others.now) }
         ensures { IfOk result (λ paths. AreTold (seen_in self.entry.before) (seen_in self.entry.after) self.entry.asked.now (map string_bytes paths.items)) }
     {
-        let mut paths = Texts::new(alloc);
-        self.add_asked(alloc, &mut paths)?;
+        let mut paths = self.asked_otherwise(alloc)?;
         let any = self.asked_of_any(alloc)?;
         self.add_others(alloc, others, any.as_slice(), &mut paths)?;
         paths.list()
+    }
+
+    /// The keys that are told, where the layers are the same but for these two, the first before and the first after.
+    fn list_of_first(
+        self,
+        alloc: Global,
+        older: Layer<'_>,
+        newer: Layer<'_>,
+    ) -> Result<Vec<String>, AllocError>
+        requires { AreTwins (seen_in self.before) (seen_in self.after) (settings_of older) (settings_of newer) }
+        ensures { IfOk result (λ paths. AreTold (seen_in self.entry.before) (seen_in self.entry.after) self.entry.asked.now (map string_bytes paths.items)) }
+    {
+        let mut paths = self.asked_otherwise(alloc)?;
+        let any = self.asked_of_any(alloc)?;
+        let (gone, come) = entries_apart(older, newer);
+        self.add_entries(alloc, gone, newer, any.as_slice(), &mut paths)?;
+        self.add_entries(alloc, come, older, any.as_slice(), &mut paths)?;
+        paths.list()
+    }
+
+    /// Adds those of a layer's entries that are shown otherwise, and nobody asks for of any type. None is that the other layer has as
+    /// it is there.
+    fn add_entries(
+        self,
+        alloc: Global,
+        entries: Entries<'_>,
+        other: Layer<'_>,
+        any: &[String],
+        paths: &mut Texts,
+    ) -> Result<(), AllocError>
+        requires any { map string_bytes any.now ≡ listing (any_names self.asked.now) }
+        requires alike { LeavesOut (shown_otherwise (seen_in self.before) (seen_in self.after) self.asked.now) (settings_of other) (entries_left entries) }
+        ensures { OnOk result (paths.new ≡ with_texts (filter (shown_otherwise (seen_in self.entry.before) (seen_in self.entry.after) self.entry.asked.now)
+            (paths_of (entries_left entries.entry))) paths.old) }
+    {
+        for entry in entries {
+            if !entry.is_in(other) {
+                self.add_entry(alloc, entry, any, paths)?;
+            }
+        }
+        Ok(())
+    }
+
+    /// Adds one of them, if it is.
+    fn add_entry(
+        self,
+        alloc: Global,
+        entry: Entry<'_>,
+        any: &[String],
+        paths: &mut Texts,
+    ) -> Result<(), AllocError>
+        requires { map string_bytes any.now ≡ listing (any_names self.asked.now) }
+        ensures { OnOk result (paths.new ≡ with_texts (filter (shown_otherwise (seen_in self.entry.before) (seen_in self.entry.after) self.entry.asked.now)
+            ((entry_row entry.entry).0 ∷ [])) paths.old) }
+    {
+        let path = entry.path(alloc)?;
+        if !self.is_shown_otherwise(alloc, any, path.as_str())? {
+            return Ok(());
+        }
+        paths.add(path.as_str())
     }
 
     /// The keys that are asked for of any type, in the order of their bytes.
@@ -131,6 +200,15 @@ impl<'a> Telling<'a, '_> {
             add_if_any(*key, &mut paths)?;
         }
         paths.list()
+    }
+
+    /// The keys that are asked for by themselves, and are seen otherwise.
+    fn asked_otherwise(self, alloc: Global) -> Result<Texts, AllocError>
+        ensures { IfOk result (λ paths. paths ≡ with_texts (named_otherwise (seen_in self.entry.before) (seen_in self.entry.after) self.entry.asked.now) empty) }
+    {
+        let mut paths = Texts::new(alloc);
+        self.add_asked(alloc, &mut paths)?;
+        Ok(paths)
     }
 
     /// Adds the keys that are asked for by themselves, and are seen otherwise.
@@ -205,6 +283,22 @@ impl<'a> Telling<'a, '_> {
         let alike = are_seen_alike(alloc, before, after, key.path, key.type_text)?;
         Ok(!alike)
     }
+}
+
+/// The entries of each of two layers that the other one may have otherwise. It looks at the items of both once, as [`differing_items`]
+/// says.
+fn entries_apart<'a>(one: Layer<'a>, other: Layer<'a>) -> (Entries<'a>, Entries<'a>)
+    ensures of_one { AreOf one.entry (entries_left result.0) }
+    ensures one { AreAsked one.entry other.entry (entries_left result.0) }
+    ensures of_other { AreOf other.entry (entries_left result.1) }
+    ensures other { AreAsked other.entry one.entry (entries_left result.1) }
+{
+    let Some(items) = differing_items(one.table(), other.table()) else {
+        return (one.entries(), other.entries());
+    };
+    let ones = one.entries_in(items.first, items.end);
+    let others = other.entries_in(items.first, items.end);
+    (ones, others)
 }
 
 /// How many layers there are, before or after, whichever are more.

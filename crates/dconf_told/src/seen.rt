@@ -1,12 +1,12 @@
 //! What is seen at a key's path through layers, and beside an edit that waits.
-ghost use Rattle.std.specs.Prelude.{◌≡◌, ◌↔◌, IfSome, IsSome, option_map};
+ghost use Rattle.std.specs.Prelude.{◌≡◌, ◌↔◌, ◌&&◌, IfSome, IsSome, option_map};
 ghost use Rattle.gv_model.specs.TypeText.{type_at};
 ghost use Rattle.gv_view.specs.Views.{value, view_bytes, view_ty};
 ghost use Rattle.dconf_model.specs.Layers.{visible, without_user};
 ghost use Rattle.dconf_path.specs.Paths.{key_text};
 ghost use Rattle.dconf_layers.specs.LayerSettings.{seen_in};
 ghost use Rattle.dconf_seen.specs.Waiting.{fits_all, may_write, word_numbered};
-ghost use Rattle.dconf_told.specs.Types.{SpellsType, value_there};
+ghost use Rattle.dconf_told.specs.Types.{SpellsType, stored_for, value_for};
 
 use dconf_layers::{Layer, LentLayers};
 use dconf_path::KeyPath;
@@ -56,32 +56,46 @@ impl<'a> DconfdbView<'a, '_> {
         ensures { option_map value result ≡ shown_to type_text.now self.entry (key_text path.entry) }
     {
         let layers = LentLayers::new(self.writable, self.layers);
-        let stored = layers.read(path);
         let edit = self.edit.view();
         let word = word_of(self.edit.waits, edit.is_some());
-        let may = may_write(layers, path);
-        let edit_fits = fits(type_text, edit);
-        let stored_fits = fits(type_text, stored);
-        let shown = shown_as(word, may, edit_fits, stored_fits);
-        found_at(shown, layers, path, stored, edit)
+        let counts = counts(self.edit.waits, layers, path);
+        let shown = shown_as(word, counts, fits(type_text, edit), true);
+        found_at(shown, type_text, layers, path, edit)
     }
 }
 
-/// The value that is found there.
+ghost use Rattle.dconf_told.specs.Seeing.{is_of};
+
+/// The value that is found there. One that is stored is looked up only if it is seen: if it is of another type, it counts as none.
 fn found_at<'a>(
     shown: Shown,
+    type_text: &[u8],
     layers: LentLayers<'a, '_>,
     path: KeyPath<'_>,
-    stored: Option<View<'a>>,
     edit: Option<View<'a>>,
 ) -> Option<View<'a>>
-    ensures { option_map value result ≡ value_there shown (seen_in layers.entry) (key_text path.entry) (option_map value stored.entry) (option_map value edit.entry) }
+    ensures { option_map value result ≡ value_for (is_of type_text.now) shown (seen_in layers.entry) (key_text path.entry) (option_map value edit.entry) }
 {
     match shown {
-        Shown::Stored => stored,
+        Shown::Stored => stored_for(type_text, layers, path),
         Shown::Default => default_view(layers, path),
         Shown::Edit => edit,
     }
+}
+
+/// The value that the layers show, or, if it is of another type, what is seen without the user's.
+fn stored_for<'a>(
+    type_text: &[u8],
+    layers: LentLayers<'a, '_>,
+    path: KeyPath<'_>,
+) -> Option<View<'a>>
+    ensures { option_map value result ≡ stored_for (is_of type_text.now) (seen_in layers.entry) (key_text path.entry) }
+{
+    let stored = layers.read(path);
+    if fits(type_text, stored) {
+        return stored;
+    }
+    default_view(layers, path)
 }
 
 /// The bytes at the type that the text spells, if it spells one.
@@ -95,11 +109,11 @@ fn view_of<'a>(of: &'a [u8], bytes: &'a [u8]) -> Option<View<'a>>
     Some(View::new(type_str, bytes))
 }
 
-/// Whether a key may be written.
-fn may_write(layers: LentLayers<'_, '_>, path: KeyPath<'_>) -> bool
-    ensures { result ≡ may_write (seen_in layers.entry) (key_text path.entry) }
+/// Whether what waits of a key counts: something does, and the key may be written.
+fn counts(waits: bool, layers: LentLayers<'_, '_>, path: KeyPath<'_>) -> bool
+    ensures { result ≡ waits && may_write (seen_in layers.entry) (key_text path.entry) }
 {
-    layers.writable && !layers.is_locked(path)
+    waits && layers.writable && !layers.is_locked(path)
 }
 
 /// What is seen without the user's value.
@@ -119,8 +133,6 @@ fn word_of(waits: bool, sets: bool) -> Word
         (false, _) => Word::Silent,
     }
 }
-
-ghost use Rattle.dconf_told.specs.Seeing.{is_of};
 
 /// Whether a value is of that type, or there is none.
 fn fits(type_text: &[u8], view: Option<View<'_>>) -> bool

@@ -1,5 +1,6 @@
 //! The line in which changes wait to be written: what was set first is written first.
-ghost use Rattle.std.specs.Prelude.{◌≡◌, ◌≤◌, filter, length, map, take};
+ghost use Rattle.std.specs.Prelude.{◌≡◌, ◌≤◌, ◌<◌, filter, length, map, take};
+ghost use Rattle.std.specs.List.{SwappedAt};
 ghost use Rattle.std.specs.List.Sorted.{IsPermutation};
 ghost use Rattle.dconf_waiting.specs.Fates.{IsInTurn, IsStillWaiting, marked, more, so_many, tallied, waits};
 
@@ -46,17 +47,7 @@ fn mark(line: &mut [Waiter], is_written: bool)
     ensures { line.new ≡ map (marked is_written) line.old }
 {
     for waiter in line.iter_mut() {
-        *waiter = marked(is_written, *waiter);
-    }
-}
-
-/// A change with what becomes of it.
-fn marked(is_written: bool, waiter: Waiter) -> Waiter
-    ensures { result ≡ marked is_written waiter }
-{
-    Waiter {
-        fate: fate_number(is_written, &waiter),
-        ..waiter
+        waiter.fate = fate_number(is_written, waiter);
     }
 }
 
@@ -69,11 +60,23 @@ fn gather(line: &mut [Waiter]) -> usize
     let mut count = 0;
     for at in 0..line.len() {
         if line[at].fate == 0 {
-            line.swap(count, at);
+            exchange(line, count, at);
             count += 1;
         }
     }
     count
+}
+
+/// Swaps two of a line, which mostly are one and the same.
+fn exchange(line: &mut [Waiter], one: usize, other: usize)
+    requires one { one < length line.now }
+    requires other { other < length line.now }
+    ensures by_index { SwappedAt line.old line.new one other }
+    ensures all { IsPermutation line.old line.new }
+{
+    if one != other {
+        line.swap(one, other);
+    }
 }
 
 /// The tally after those fates.

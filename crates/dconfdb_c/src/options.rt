@@ -6,7 +6,7 @@ use dconf_options::{OptionsRead, option_after, options_end, said_number};
 
 /// What is said of the next word, or at the end of all: 0 nothing, 1 a folder is given, 2 a schema, 3 a name, 4 the help is asked for; or why it is
 /// refused: 5 there is no such option, 6 it is given twice, 7 two exclude each other, 8 there is a name too many, 9 an option has no argument, 10
-/// no name is given. What is given begins so many bytes behind the start of the word.
+/// no name is given; 11 the findings are wanted as JSON. What is given begins so many bytes behind the start of the word.
 #[unsafe(no_mangle)]
 pub extern "C" fn dconfdb_option(
     read: &mut OptionsRead,

@@ -4,45 +4,55 @@ ghost use Rattle.std.specs.List.{list_any};
 ghost use Rattle.dconf_roles.specs.Folders.{is_read, role_of, sources_in};
 ghost use Rattle.dconf_roles.specs.Findings.{finding_for, finding_number};
 ghost use Rattle.dconf_roles.specs.Nearness.{is_nearer, nearing_after};
-ghost use Rattle.dconf_roles.specs.Numbers.{reading_number};
+ghost use Rattle.dconf_roles.specs.Numbers.{entry_number, reading_number};
 ghost use Rattle.dconf_roles.specs.Places.{is_over, next_place};
 ghost use Rattle.dconf_roles.specs.Readings.{reading};
 ghost use Rattle.dconf_roles.specs.Roles.{role_among};
+ghost use Rattle.dconf_roles.specs.Sites.{stem_len};
 ghost use Rattle.dconf_roles.specs.Slips.{is_slip};
 
 use dconf_roles::{
-    FindingKnown, Name, Nearing, finding_number, is_nearer, is_over, is_read, next_place,
-    reading_number, role_of, sources_in,
+    EntryKnown, FindingKnown, Name, Nearing, entry_number, finding_number, is_nearer, is_over,
+    is_read, next_place, reading_number, role_of, sources_in, stem_len,
 };
 use std::alloc::Global;
 
 /// As what a file of so many bytes is looked at, of which these are there: 0 a keyfile, 1 locks, 2 a profile, 3 a database; or not at
 /// all: 4 it is left out in silence, 5 it is not read, 6 it is a database among sources, 7 it is too big, 8 it is none of these. It has that
-/// name in the last of these folders, the first of which is in the root; `is_one_read`: of the files that are asked for `update` reads one of
-/// its folder NAME.d. `sources` is how many of the folders there are up to the last NAME.d, or 0, and `is_read` whether `update` reads the file.
+/// name in the last of these folders, the first of which is in the root. `sources` is how many of the folders there are up to the last NAME.d,
+/// or 0, and `is_source` whether `update` reads the file. In a site, the numbers of [`entry_number`]; and `stem` is how much of the name is that
+/// of its database.
 #[unsafe(no_mangle)]
 pub extern "C" fn dconfdb_read_as(
+    entry: &EntryKnown,
     folders: &[Name<'_>],
     name: &[u8],
-    is_one_read: bool,
     size: u64,
     text: &[u8],
     sources: &mut usize,
+    stem: &mut usize,
     is_source: &mut bool,
 ) -> u32
-    ensures reading { result ≡ reading_number (reading (role_among (role_of (map (λ f. f.text.now) folders.now) name.now) is_one_read) size text.now) }
+    ensures reading { entry.now.within ≡ 0 → result ≡ reading_number (reading (role_among (role_of (map (λ f. f.text.now) folders.now) name.now) entry.now.is_one_read) size text.now) }
+    ensures site { entry.now.within ≢ 0 → result ≡ entry_number entry.now name.now size text.now }
+    ensures stem { stem.new ≡ stem_len name.now }
     ensures sources { sources.new ≡ sources_in (map (λ f. f.text.now) folders.now) }
     ensures is_source { is_source.new ≡ is_read (role_of (map (λ f. f.text.now) folders.now) name.now) }
 {
     let role = role_of(folders, name);
     *sources = sources_in(folders);
+    *stem = stem_len(name);
     *is_source = is_read(role);
-    reading_number(role, is_one_read, size, text)
+    if entry.within != 0 {
+        return entry_number(entry, name, size, text);
+    }
+    reading_number(role, entry.is_one_read, size, text)
 }
 
 /// What is found of a key that is set, or of a lock, by what the schemas have: 0 nothing, 1 no schema has the key, 2 the locked key, 3 a key
 /// below the locked directory, 4 the value is of another type, 5 the key doesn't take it. Beside these other directories its own may be a slip. Of a
-/// database that a profile of that name names 6: it has no file.
+/// database that a profile of that name names 6: it has no file. Of a key that is set 7: an earlier line sets it, too; of a lock of that path 8:
+/// nothing sets the key; and of a value in a source 9: it has a double.
 #[unsafe(no_mangle)]
 pub extern "C" fn dconfdb_finding(known: &FindingKnown, name: &[u8], others: &[Name<'_>]) -> u32
     ensures { result ≡ finding_number (finding_for known.now name.now (list_any (λ other. is_slip name.now other.text.now) others.now)) }

@@ -60,6 +60,11 @@ fn watch_refuses_the_others() -> bool {
 
 fn lint_takes_its_words() -> bool {
     said(LINT, &["k", "l"]) == 0
+        && said(LINT, &[]) == 0
+        && said(LINT, &["--schemas"]) == 9
+        && said(LINT, &["--json"]) == 11
+        && said(LINT, &["--json=x"]) == 5
+        && said(WATCH, &["--json", "/"]) == 5
         && said(
             LINT,
             &["--schema", "a", "--schema=b", "--schemas", "c", "k"],

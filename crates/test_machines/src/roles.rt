@@ -1,7 +1,7 @@
 //! As what the files of a site are looked at, and what is found there.
 use dconf_roles::{
-    FindingKnown, Name, Nearing, Role, finding_number, is_nearer, is_over, is_read, next_place,
-    reading_number, role_of, sources_in,
+    EntryKnown, FindingKnown, Name, Nearing, Role, entry_number, finding_number, is_nearer,
+    is_over, is_read, next_place, reading_number, role_of, sources_in, stem_len,
 };
 use std::alloc::{AllocError, Global};
 use std::test::Fail;
@@ -110,6 +110,155 @@ fn sources_are_read_as_update_reads_them(rt: HostRuntime) -> Result<(), Fail> {
     Ok(())
 }
 
+const ENTRY: EntryKnown = EntryKnown {
+    within: 1,
+    kind: 0,
+    is_hidden: false,
+    is_link: false,
+    is_made: false,
+    is_one_read: false,
+    is_read: false,
+    is_store: false,
+};
+
+/// As what that is taken which is known so.
+fn taken(known: EntryKnown, name: &str) -> u32 {
+    entry_number(&known, name.as_bytes(), 0, "".as_bytes())
+}
+
+/// A file, 0, a folder, 1, something else, 2, or what can't be looked at, in a folder of a site.
+fn lying(within: u32, kind: u32, name: &str) -> u32 {
+    taken(
+        EntryKnown {
+            within,
+            kind,
+            ..ENTRY
+        },
+        name,
+    )
+}
+
+fn what_lies_in_a_site_is_known() -> bool {
+    lying(1, 1, "site.d") == 11
+        && lying(1, 1, ".site.d") == 14
+        && lying(1, 1, ".d") == 4
+        && lying(1, 1, "profiles") == 13
+        && lying(1, 1, "old") == 17
+        && lying(1, 0, "site.d") == 9
+        && lying(1, 0, "site.db") == 3
+        && lying(1, 0, "store") == 4
+        && lying(1, 0, "profile") == 2
+        && lying(1, 1, "profile") == 2
+        && lying(1, 3, "profile") == 2
+        && lying(1, 0, ".lock") == 4
+        && lying(1, 1, ".lock") == 19
+        && lying(1, 2, ".lock") == 19
+        && lying(1, 3, "site.d") == 17
+}
+
+fn what_lies_in_sources_is_known() -> bool {
+    lying(2, 0, "00-site") == 0
+        && lying(2, 3, "00-site") == 0
+        && lying(2, 2, "00-site") == 16
+        && lying(2, 0, "locks") == 0
+        && lying(2, 1, "locks") == 12
+        && lying(2, 1, "old.d") == 5
+        && lying(2, 0, ".00-site.swp") == 4
+        && lying(3, 0, "00-site") == 1
+        && lying(3, 1, "locks") == 5
+        && lying(3, 2, "00-site") == 16
+        && lying(4, 0, "kiosk") == 2
+        && lying(4, 1, "kiosk") == 5
+}
+
+fn what_update_makes_is_known() -> bool {
+    let made = EntryKnown {
+        is_made: true,
+        ..ENTRY
+    };
+    let folder = EntryKnown { kind: 1, ..made };
+    taken(made, "site.db") == 4
+        && taken(made, "site") == 10
+        && taken(folder, "site.db") == 19
+        && taken(folder, "site.db.new") == 19
+        && taken(folder, "site") == 17
+        && taken(
+            EntryKnown {
+                is_store: true,
+                ..folder
+            },
+            "site",
+        ) == 4
+        && taken(
+            EntryKnown {
+                is_link: true,
+                ..folder
+            },
+            "site.db",
+        ) == 17
+        && taken(
+            EntryKnown {
+                is_link: true,
+                ..ENTRY
+            },
+            ".lock",
+        ) == 19
+}
+
+fn what_is_hidden_is_left_out() -> bool {
+    let hidden = EntryKnown {
+        within: 2,
+        is_hidden: true,
+        ..ENTRY
+    };
+    taken(hidden, "00-site") == 4
+        && taken(EntryKnown { kind: 1, ..hidden }, "locks") == 15
+        && taken(EntryKnown { kind: 1, ..hidden }, "old") == 4
+}
+
+fn stems_are_found() -> bool {
+    stem_len("site.db".as_bytes()) == 4
+        && stem_len("site.db.new".as_bytes()) == 4
+        && stem_len("site".as_bytes()) == 4
+        && stem_len(".db".as_bytes()) == 0
+}
+
+/// As what that is looked at whose text is known.
+fn looked_at(within: u32, is_made: bool, name: &str, text: &str) -> u32 {
+    let known = EntryKnown {
+        within,
+        is_made,
+        is_read: true,
+        ..ENTRY
+    };
+    entry_number(&known, name.as_bytes(), 100, text.as_bytes())
+}
+
+fn texts_of_a_site_are_read() -> bool {
+    looked_at(1, false, "me.user", "GVariant") == 3
+        && looked_at(1, false, "me.user", "GVa") == 3
+        && looked_at(1, true, "site", "GVariant") == 4
+        && looked_at(1, false, "kiosk", "user-db:kiosk\n") == 2
+        && looked_at(1, false, "site.keys", "[a]\nk=1\n") == 17
+        && looked_at(1, false, "README", "hello\n") == 17
+        && looked_at(1, false, "profile", "hello\n") == 2
+        && looked_at(2, false, "00-site", "/a/k\n") == 0
+        && looked_at(2, false, "00-site", "GVariant") == 6
+        && looked_at(3, false, "00-site", "[a]\n") == 1
+        && looked_at(4, false, "kiosk", "[a]\n") == 2
+}
+
+#[test]
+fn a_site_is_looked_at_as_update_looks_at_it(rt: HostRuntime) -> Result<(), Fail> {
+    let name = [255];
+    let bad = EntryKnown { within: 2, ..ENTRY };
+    assert!(rt; what_lies_in_a_site_is_known() && what_lies_in_sources_is_known());
+    assert!(rt; what_update_makes_is_known() && what_is_hidden_is_left_out() && stems_are_found());
+    assert!(rt; texts_of_a_site_are_read());
+    assert!(rt; entry_number(&bad, &name, 0, &name) == 18);
+    Ok(())
+}
+
 /// A key of a schema, set to a value that it takes.
 const FINE: FindingKnown = FindingKnown {
     what: 0,
@@ -197,9 +346,37 @@ fn databases_are_looked_for() -> bool {
         && named_in("site", false, true) == 0
 }
 
+/// Of a key that may be set already, 4, of a lock whose key may not be set, 5, or of a double, 6.
+fn alone(what: u32, is_so: bool, path: &str) -> u32 {
+    let known = FindingKnown {
+        what,
+        is_known: is_so,
+        is_system: is_so,
+        ..FINE
+    };
+    finding_number(&known, path.as_bytes(), &[])
+}
+
+fn what_is_set_is_judged() -> bool {
+    let wrong = FindingKnown {
+        what: 5,
+        is_taken: false,
+        ..UNKNOWN
+    };
+    alone(4, true, "/a/k") == 7
+        && alone(4, false, "/a/k") == 0
+        && alone(5, false, "/a/k") == 8
+        && alone(5, false, "/a/") == 0
+        && alone(5, true, "/a/k") == 0
+        && finding_number(&wrong, "/a/k".as_bytes(), &[]) == 0
+        && alone(6, true, "/a/k") == 9
+        && alone(6, false, "/a/k") == 0
+}
+
 #[test]
 fn what_schemas_lack_is_found(rt: HostRuntime) -> Result<(), Fail> {
     assert!(rt; values_are_judged() && names_are_judged() && databases_are_looked_for());
+    assert!(rt; what_is_set_is_judged());
     Ok(())
 }
 

@@ -119,5 +119,6 @@ complete -c dconfdb -n '__fish_seen_subcommand_from watch' -s h -l help -f -d 'P
 complete -c dconfdb -n '__fish_seen_subcommand_from watch' -f -a '(__dconfdb_paths key)'
 complete -c dconfdb -n '__fish_seen_subcommand_from lint' -l schemas -r -F -d 'Compare with the compiled schemas in FOLDER instead'
 complete -c dconfdb -n '__fish_seen_subcommand_from lint' -l schema -r -F -d 'The relocatable schema ID has the path PATH, too'
+complete -c dconfdb -n '__fish_seen_subcommand_from lint' -l json -f -d 'Print each mistake as an object of JSON, one a line'
 complete -c dconfdb -n '__fish_seen_subcommand_from lint' -s h -l help -f -d 'Print help'
 complete -c dconfdb -n '__fish_seen_subcommand_from help' -f -a 'read write reset list dump load origin explain list-locks compile update check repair show watch lint words NotAbsolute HasNul DoubleSlash EndsInSlash NoEndSlash TooLong BadToken Unclosed BadEscape Unexpected TooDeep DoubleText NoCommonType Ambiguous OutOfRange BadObjectPath BadSignature TooLarge Empty BadChar KeyNotBasic Trailing NoFile Device TooBig Busy NoFolder NotUtf8 BadLine ServiceDb UserNotFirst TooMany NoGroup BadGroup BadKeyName LockNotKey BadDatabase Short BadVersion BadRoot BadTable S1 S2 S3 S4 S5 S6 S7 S8 S9 S10 S11 NotWritable Locked Memory NoSchemas'

@@ -20,8 +20,8 @@ passed xs ys k i f inside other = FiltersInPlace-more_no {x = get_or ys i nobody
 pub loop-at-preserved : goal.loop-at-preserved
 loop-at-preserved c = elim c.if-line-at-eq0.branch [
   | goal.then-line-at-eq0 w ↦ rw (w.line-is, w.count-is) (
-    swapped _ _ _ _ _ c.loop-at.invariant.0 (search rules) w.if-line-at-eq0.true w.swap.ensures.by_index,
-    IsPermutation-trans _ _ _ c.loop-at.invariant.1 w.swap.ensures.permutation,
+    swapped _ _ _ _ _ c.loop-at.invariant.0 (search rules) w.if-line-at-eq0.true w.exchange.ensures.by_index,
+    IsPermutation-trans _ _ _ c.loop-at.invariant.1 w.exchange.ensures.all,
   )
   | goal.else-line-at-eq0 w ↦ rw (w.line-is, w.count-is) (
     passed _ _ _ _ c.loop-at.invariant.0 (search rules) (search rules),
