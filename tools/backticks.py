@@ -6,7 +6,8 @@ FENCE = re.compile(r"^```.*?^```", re.M | re.S)
 SPAN = re.compile(r"(?<!`)`([^`\n]+)`(?!`)")
 PATH = re.compile(r"(?:crates|capi|tests|tools|docs|bench|debian|examples|build)/[\w./+-]*\w/?")
 NAME = re.compile(r"(?:\w+(?:::|\.))*[a-zA-Z]\w*(?:\(\))?")
-WORD = re.compile(r"[^\W\d]\w*")
+# Bytes of names as they are, and all others as blanks.
+BLANKS = bytes(it if chr(it).isalnum() and it < 128 or it == ord("_") else ord(" ") for it in range(256))
 # What stands for any name, and what Rust and clap have and nothing here calls.
 ANY = re.compile(r"\b(?:NAME|CRATE|FUNCTION)\b|of_CRATE")
 OTHERS = {"try_fold", "is_sorted_by", "binary_search_by_key", "fields_of"}
@@ -25,16 +26,15 @@ def words_of_sources(top):
     found = set()
     for name in listed:
         if name and not name.endswith(".md"):
-            found.update(WORD.findall(name))
             file = top / name
-            if file.is_file():
-                found.update(WORD.findall(file.read_text(encoding="utf-8", errors="replace")))
-    return found
+            text = name.encode() + b" " + (file.read_bytes() if file.is_file() else b"")
+            found.update(text.translate(BLANKS).split())
+    return {word.decode() for word in found}
 
 
 def lost(top, documents):
     """What is said of each name that is nowhere: where it stands, and what it is."""
-    words = words_of_sources(top)
+    words = words_of_sources(top) | OTHERS
     for document in documents:
         if document == HISTORY:
             continue
@@ -46,5 +46,5 @@ def lost(top, documents):
                     continue
                 if PATH.fullmatch(span) and not (top / span).exists():
                     yield f"{document}:{number}: there is no {span}"
-                elif NAME.fullmatch(span) and looks_like_one(last) and last not in words | OTHERS:
+                elif NAME.fullmatch(span) and looks_like_one(last) and last not in words:
                     yield f"{document}:{number}: no source has the name {span}"
