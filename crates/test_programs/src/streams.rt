@@ -171,15 +171,15 @@ impl Folder for Refusing {
         Ok(())
     }
 
-    fn set_aside(&mut self, _alloc: Global, _name: &str) -> Result<(), FolderFault> {
-        Ok(())
-    }
-
     fn append(&mut self, _name: &str, _bytes: &[u8]) -> Result<(), FolderFault> {
         Ok(())
     }
 
     fn sync(&mut self, _name: &str, _bits: Option<u32>) -> Result<(), FolderFault> {
+        Ok(())
+    }
+
+    fn set_aside(&mut self, _alloc: Global, _name: &str) -> Result<(), FolderFault> {
         Ok(())
     }
 
