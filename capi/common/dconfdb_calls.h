@@ -1874,6 +1874,7 @@ enum {
     DCONFDB_KIND_FILE,
     DCONFDB_KIND_FOLDER,
     DCONFDB_KIND_OTHER,
+    DCONFDB_KIND_NOWHERE, /* a link to what isn't there */
     DCONFDB_KIND_UNSEEN /* it can't be looked at */
 };
 

@@ -65,6 +65,7 @@ typedef struct {
     GHashTable *keys; /* a set of edits, one of each key, which has the number of that, by their paths */
     GPtrArray *edits; /* all but those that are left out, by their numbers less one */
     GArray *newest;   /* of each key the number of its newest edit, as the proved calls have it */
+    const Edit *last; /* of those in `edits`; NULL if there is none */
     guint64 shown;    /* the number of the newest snapshot: how often one was handed out, and one more */
 } Waiting;
 

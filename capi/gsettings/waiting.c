@@ -1,15 +1,22 @@
 /* Changes that wait to be written: what becomes of one beside the others, which is the newest of a key, and how they are written. */
 #define _POSIX_C_SOURCE 200809L
 #include "gsettings.h"
-#include "lent_value.h"
 #include "seen.h"
 
 #include <stdlib.h>
 #include <string.h>
 
-/* The number of a key, as that edit of it has it which the set has; NO_KEY if no edit of it waits. */
+static bool are_of_one_path(const Edit *one, const Edit *other)
+{
+    return one->hash == other->hash && strcmp(one->path, other->path) == 0;
+}
+
+/* The number of a key, as an edit of it has it: the last one that was put, since a key may be set again and again, or that which the set
+ * has; NO_KEY if no edit of it waits. */
 static size_t key_of(const Waiting *waiting, const Edit *edit)
 {
+    if (waiting->last && are_of_one_path(waiting->last, edit))
+        return waiting->last->key;
     const Edit *one = g_hash_table_lookup(waiting->keys, edit);
     return one ? one->key : NO_KEY;
 }
@@ -52,10 +59,18 @@ static bool is_stored(const Edit *edit, const DconfdbSnapshot *now)
     return dconfdb_snapshot_has_edit(or_nothing(now), &edit->asked);
 }
 
+/* Whether both set one value, or reset: it is in normal form, so that it has the same bytes. */
+static bool are_same(const DconfdbEdit *one, const DconfdbEdit *other)
+{
+    if (!one->type || !other->type)
+        return one->type == other->type;
+    return one->size == other->size && strcmp(one->type, other->type) == 0 && (one->size == 0 || memcmp(one->data, other->data, one->size) == 0);
+}
+
 /* Whether an edit says what the newest one of its key says that waits, if there is one, or else what is stored, as the proved call has it. */
 static bool is_said(const Edit *edit, const Edit *waits, const DconfdbSnapshot *now)
 {
-    const DconfdbSaid said = {.says = waits != NULL, .is_same = waits && are_alike(waits->value, edit->value)};
+    const DconfdbSaid said = {.says = waits != NULL, .is_same = waits && are_same(&waits->asked, &edit->asked)};
     return dconfdb_is_said(&said, 1, !waits && is_stored(edit, now));
 }
 
@@ -118,6 +133,7 @@ void waiting_begin(Waiting *waiting)
     waiting->keys = g_hash_table_new(hash_of, are_of_one_key);
     waiting->edits = g_ptr_array_new();
     waiting->newest = g_array_sized_new(FALSE, FALSE, sizeof(size_t), 1);
+    waiting->last = NULL;
     waiting->shown = 1;
 }
 
@@ -143,6 +159,7 @@ static void put(Waiting *waiting, Edit *edit)
     g_ptr_array_add(waiting->edits, edit);
     edit->number = waiting->edits->len;
     edit->before = dconfdb_newest(numbers_of(waiting), waiting->newest->len, edit->key, true, edit->number);
+    waiting->last = edit;
 }
 
 static void put_change(Waiting *waiting, Change *change)
@@ -159,6 +176,7 @@ static void put_again(Waiting *waiting)
     g_hash_table_remove_all(waiting->keys);
     g_ptr_array_set_size(waiting->edits, 0);
     g_array_set_size(waiting->newest, 0);
+    waiting->last = NULL;
     for (guint at = 0; at < waiting->line->len; at++) {
         Change *change = change_at(waiting, at);
         for (size_t i = 0; i < change->count; i++)

@@ -40,7 +40,7 @@ static void finds_path(void)
 }
 
 enum { A_PATH = PART_OF_PATH * LENT, NAME = A_PATH, NEXT_DIR = 2 * A_PATH, STEP = 136, TELLING = 140, ERRNUM = 144, LOOKS = 148, HAS_PATH = 149, NEXT = 152 };
-enum { WHICH = 0, FAILS = 4, DIR = 8, IS_THERE = 16, IS_LENIENT = 17, HAS_KEPT = 18, LISTS = 19, PROFILE_LOOK = 24 };
+enum { WHICH = 0, FAILS = 4, DIR_AT = 8, IS_THERE = 16, IS_LENIENT = 17, HAS_KEPT = 18, LISTS = 19, PROFILE_LOOK = 24 };
 enum { MANDATORY = 8, IN_RUNTIME = 10, SYSTEM = 11, IN_DATA = 12, BEGINS = 7 };
 
 /* Whether that text lies there: it is that part of the path of the profile that is listed after such a one. */
@@ -164,9 +164,9 @@ static void tries_dir(uint8_t *place, uint8_t *look)
 {
     lends(place + DATA, "/a:/b:/c", 8);
     look[WHICH] = IN_DATA;
-    look[DIR] = 1;
+    look[DIR_AT] = 1;
     is_so(leads(place, look, IN_DATA, 2, 0), "DconfdbProfileLook");
-    lies("DconfdbProfileLook", "dir", DIR, WORD);
+    lies("DconfdbProfileLook", "dir", DIR_AT, WORD);
 }
 
 /* By EIO, which is no fault of the file's own, and by EACCES. */
@@ -220,13 +220,13 @@ static void finds_profile_next(void)
     listed[LISTS] = 1;
     dconfdb_profile_step(place, listed, other.bytes);
     listed[WHICH] = IN_DATA;
-    listed[DIR] = 1;
+    listed[DIR_AT] = 1;
     lends(place + DATA, "/a:/b:/c", 8);
     dconfdb_profile_step(place, listed, last.bytes);
     takes(&next, "dir", place_of(&last, NEXT_DIR, NEXT, &(size_t){third}, WORD), WORD);
     is_so(next.bytes[HAS_PATH] == 1 && other.bytes[HAS_PATH] == 0 && other.bytes[LOOKS] == 1, "DconfdbProfileNext");
     takes(&next, "has_path", HAS_PATH, FLAG);
-    listed[DIR] = 2;
+    listed[DIR_AT] = 2;
     dconfdb_profile_step(place, listed, last.bytes);
     is_so(next.bytes[LOOKS] == 1 && last.bytes[LOOKS] == 0, "DconfdbProfileNext");
     takes(&next, "looks", LOOKS, FLAG);

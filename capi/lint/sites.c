@@ -69,7 +69,7 @@ static uint32_t kind_of(int folder, const char *name)
 {
     struct stat found;
     if (fstatat(folder, name, &found, 0) != 0)
-        return DCONFDB_KIND_UNSEEN;
+        return errno == ENOENT ? DCONFDB_KIND_NOWHERE : DCONFDB_KIND_UNSEEN;
     if (S_ISREG(found.st_mode))
         return DCONFDB_KIND_FILE;
     return S_ISDIR(found.st_mode) ? DCONFDB_KIND_FOLDER : DCONFDB_KIND_OTHER;

@@ -137,6 +137,8 @@ FOLDERS = {
     'a hidden database': ({'.a.d/00': 'oops\n', '.a.d/locks/l': '/a//b\n', '.a.d/old/00': 'oops\n', '.d/00': 'oops\n'}, []),
     'a store of its own': ({'kiosk/profile': 'user-db:kiosk\n', 'kiosk/site.d/00': 'oops\n', 'site/00': 'oops\n'}, [('site:0', UNREAD)]),
     'in the way': ({'site.d/00': '', 'site.db': {'folder': True}, 'site.db.new': {'folder': True}, '.lock': {'link': 'x'}},
-                   [(f'{it}:0', "it is in the way of a file that 'update' writes") for it in ('.lock', 'site.db', 'site.db.new')]),
+                   [(f'{it}:0', "it is in the way of a file that 'update' writes") for it in ('.lock', 'site.db')] + [('site.db.new:0', UNREAD)]),
+    'a loop in the way': ({'site.d/00': '', 'site.db': {'link': 'site.db'}, 'lab.d/00': '', 'lab.db': {'link': 'nowhere'}, 'a.d/00': '', 'a.db': {'link': '..'}}, [
+        ('a.db:0', UNREAD), ('lab.db:0', UNREAD), ('site.db:0', "it is in the way of a file that 'update' writes")]),
     'not in the way': ({'lab.d/00': '', 'site.db': {'folder': True}, '.new': {'folder': True}}, [('site.db:0', UNREAD)]),
 }

@@ -28,7 +28,7 @@ class Site:
         self.known, self.rng = known, rng
         self.texts = {'site.d/00-first': [], 'site.d/zz-second': [], 'site.d/locks/all': [], 'profile': ['user-db:user', 'system-db:site']}
         self.others, self.mistakes, self.made = {'site.d/.00-first.swp': {'text': 'b0VIM'}, '.git/config': {'text': '[core]\n'}}, [], {}
-        self.free = rng.sample(known.keys, 60)
+        self.free = rng.sample(known.keys, len(known.keys))
         self.count = 0
 
     def row(self, key, text=None, name=None):

@@ -13,7 +13,7 @@ abbrev pub within_of : ℕ → Within
 within_of n = if n == 1 then Within.Site else if n == 2 then Within.Sources else if n == 3 then Within.Locks else Within.Profiles
 
 abbrev pub kind_of : ℕ → Kind
-kind_of n = if n == 0 then Kind.File else if n == 1 then Kind.Folder else if n == 2 then Kind.Other else Kind.Unseen
+kind_of n = if n == 0 then Kind.File else if n == 1 then Kind.Folder else if n == 2 then Kind.Other else if n == 3 then Kind.Nowhere else Kind.Unseen
 
 abbrev pub unless_hidden : List ℕ → Part → Part
 unless_hidden name part = if is_shown name then part else Part.Silent
@@ -45,9 +45,13 @@ file_of_site k name =
 abbrev pub sources_of_site : List ℕ → Part
 sources_of_site name = if is_shown name then Part.SourceFolder else Part.HiddenFolder
 
--- a folder in the place of a file that is written is in its way; a link to one gives way
+-- the file that `update` makes has this name
+abbrev pub is_made_here : EntryKnown → List ℕ → Bool
+is_made_here k name = k.is_made && ends_with nat_eq name (codes ".db")
+
+-- a folder in its place is in its way; a link to one gives way
 abbrev pub is_in_the_way : EntryKnown → List ℕ → Bool
-is_in_the_way k name = k.is_made && (not k.is_link && nat_lt (stem_len name) (length name))
+is_in_the_way k name = not k.is_link && is_made_here k name
 
 -- a profile that is a folder can't be read, and is said to be so; a folder with a profile is a store of its own
 abbrev pub folder_of_site : EntryKnown → List ℕ → Part
@@ -63,11 +67,16 @@ abbrev pub other_of_site : List ℕ → Part
 other_of_site name =
     if bytes_eq name (codes ".lock") then Part.Barred else if bytes_eq name (codes "profile") then Part.Profile else unless_hidden name Part.Stray
 
+-- what can't be looked at isn't replaced, where a link that leads nowhere is
+abbrev pub unseen_of_site : EntryKnown → List ℕ → Part
+unseen_of_site k name = if is_made_here k name then Part.Barred else other_of_site name
+
 abbrev pub in_site : EntryKnown → Kind → List ℕ → Part
 in_site k Kind.File name = file_of_site k name
 in_site k Kind.Folder name = folder_of_site k name
 in_site k Kind.Other name = other_of_site name
-in_site k Kind.Unseen name = other_of_site name
+in_site k Kind.Nowhere name = other_of_site name
+in_site k Kind.Unseen name = unseen_of_site k name
 
 -- ---- NAME.d, its `locks`, and `profiles`
 
@@ -76,18 +85,21 @@ abbrev pub in_sources : Kind → List ℕ → Part
 in_sources Kind.File name = unless_hidden name Part.Keyfile
 in_sources Kind.Folder name = if bytes_eq name (codes "locks") then Part.LockFolder else unless_hidden name Part.Nested
 in_sources Kind.Other name = unless_hidden name Part.Odd
+in_sources Kind.Nowhere name = unless_hidden name Part.Keyfile
 in_sources Kind.Unseen name = unless_hidden name Part.Keyfile
 
 abbrev pub in_locks : Kind → List ℕ → Part
 in_locks Kind.File name = unless_hidden name Part.Locks
 in_locks Kind.Folder name = unless_hidden name Part.Nested
 in_locks Kind.Other name = unless_hidden name Part.Odd
+in_locks Kind.Nowhere name = unless_hidden name Part.Locks
 in_locks Kind.Unseen name = unless_hidden name Part.Locks
 
 abbrev pub in_profiles : Kind → List ℕ → Part
 in_profiles Kind.File name = unless_hidden name Part.Profile
 in_profiles Kind.Folder name = unless_hidden name Part.Nested
 in_profiles Kind.Other name = unless_hidden name Part.Odd
+in_profiles Kind.Nowhere name = unless_hidden name Part.Profile
 in_profiles Kind.Unseen name = unless_hidden name Part.Profile
 
 -- ---- anywhere

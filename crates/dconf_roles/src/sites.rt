@@ -1,7 +1,7 @@
 //! As what `update` takes what lies in the folder of a site, and what nobody reads there.
 ghost use Rattle.std.specs.Prelude.{◌≡◌};
 ghost use Rattle.std.specs.Str.{is_utf8};
-ghost use Rattle.dconf_roles.specs.Sites.{by_its_name, file_of_site, folder_of_site, if_hidden, in_locks, in_profiles, in_site, in_sources, is_in_the_way, kind_of, left_out, other_of_site, part_in, part_of, sources_of_site, stem_len, unless_hidden, within_of};
+ghost use Rattle.dconf_roles.specs.Sites.{by_its_name, file_of_site, folder_of_site, if_hidden, in_locks, in_profiles, in_site, in_sources, is_in_the_way, is_made_here, kind_of, left_out, other_of_site, part_in, part_of, sources_of_site, stem_len, unless_hidden, unseen_of_site, within_of};
 
 use crate::roles::is_shown;
 
@@ -24,6 +24,8 @@ pub enum Kind {
     Folder,
     /// A pipe, a socket or a device.
     Other,
+    /// A link to what isn't there.
+    Nowhere,
     /// It can't be looked at.
     Unseen,
 }
@@ -67,7 +69,7 @@ pub enum Part {
 pub struct EntryKnown {
     /// 0 in none: it is a file that is asked for; 1 in the site's folder, 2 in NAME.d, 3 in NAME.d/locks, else in `profiles`.
     pub within: u32,
-    /// 0 a file, 1 a folder, 2 something else; else it can't be looked at.
+    /// 0 a file, 1 a folder, 2 something else, 3 a link that leads nowhere; else it can't be looked at.
     pub kind: u32,
     /// NAME.d is hidden.
     pub is_hidden: bool,
@@ -123,6 +125,7 @@ fn kind_of(number: u32) -> Kind
         0 => Kind::File,
         1 => Kind::Folder,
         2 => Kind::Other,
+        3 => Kind::Nowhere,
         _ => Kind::Unseen,
     }
 }
@@ -154,6 +157,7 @@ fn in_site(known: &EntryKnown, kind: Kind, name: &[u8]) -> Part
     match kind {
         Kind::File => file_of_site(known, name),
         Kind::Folder => folder_of_site(known, name),
+        Kind::Unseen => unseen_of_site(known, name),
         _ => other_of_site(name),
     }
 }
@@ -214,7 +218,24 @@ fn folder_of_site(known: &EntryKnown, name: &[u8]) -> Part
 fn is_in_the_way(known: &EntryKnown, name: &[u8]) -> bool
     ensures { result ≡ is_in_the_way known.now name.now }
 {
-    known.is_made && (!known.is_link && stem_len(name) < name.len())
+    !known.is_link && is_made_here(known, name)
+}
+
+/// The file that `update` makes has this name.
+fn is_made_here(known: &EntryKnown, name: &[u8]) -> bool
+    ensures { result ≡ is_made_here known.now name.now }
+{
+    known.is_made && name.ends_with(b".db")
+}
+
+/// What it can't look at `update` doesn't replace.
+fn unseen_of_site(known: &EntryKnown, name: &[u8]) -> Part
+    ensures { result ≡ unseen_of_site known.now name.now }
+{
+    if is_made_here(known, name) {
+        return Part::Barred;
+    }
+    other_of_site(name)
 }
 
 fn sources_of_site(name: &[u8]) -> Part

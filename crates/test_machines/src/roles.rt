@@ -159,6 +159,7 @@ fn what_lies_in_a_site_is_known() -> bool {
 fn what_lies_in_sources_is_known() -> bool {
     lying(2, 0, "00-site") == 0
         && lying(2, 3, "00-site") == 0
+        && lying(2, 4, "00-site") == 0
         && lying(2, 2, "00-site") == 16
         && lying(2, 0, "locks") == 0
         && lying(2, 1, "locks") == 12
@@ -180,7 +181,9 @@ fn what_update_makes_is_known() -> bool {
     taken(made, "site.db") == 4
         && taken(made, "site") == 10
         && taken(folder, "site.db") == 19
-        && taken(folder, "site.db.new") == 19
+        && taken(folder, "site.db.new") == 17
+        && taken(EntryKnown { kind: 3, ..made }, "site.db") == 17
+        && taken(EntryKnown { kind: 4, ..made }, "site.db") == 19
         && taken(folder, "site") == 17
         && taken(
             EntryKnown {

@@ -136,7 +136,7 @@ pub(crate) struct Refusing {
 }
 
 impl Folder for Refusing {
-    ghost use Rattle.std.specs.Prelude.{true};
+    ghost use Rattle.std.specs.Prelude.{false, true};
 
     ghost past = { λ _ _. ⊥ };
 
@@ -171,15 +171,15 @@ impl Folder for Refusing {
         Ok(())
     }
 
-    fn set_aside(&mut self, _alloc: Global, _name: &str) -> Result<(), FolderFault> {
-        Ok(())
-    }
-
     fn append(&mut self, _name: &str, _bytes: &[u8]) -> Result<(), FolderFault> {
         Ok(())
     }
 
     fn sync(&mut self, _name: &str, _bits: Option<u32>) -> Result<(), FolderFault> {
+        Ok(())
+    }
+
+    fn set_aside(&mut self, _alloc: Global, _name: &str) -> Result<(), FolderFault> {
         Ok(())
     }
 
