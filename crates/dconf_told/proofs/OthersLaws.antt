@@ -4,18 +4,19 @@ use Rattle.std.proofs.Common.{◌≡◌, ◌≢◌, ◌≤◌, ◌⊎◌, ◌∙
 use Rattle.std.specs.FinMap.{get, keys}
 use Rattle.std.specs.List.{list_any}
 use Rattle.std.specs.Str.{bytes_eq}
-use Rattle.std.proofs.lemmas.List.{take_all}
+use Rattle.std.proofs.lemmas.List.{append-nil, take_all}
 use Rattle.std.proofs.lemmas.List.Elements.{Contains-append_left, Contains-append_right}
 use Rattle.dconf_model.specs.Layers.{Layers, all_paths, first_from, level, place_or, visible}
 use Rattle.dconf_model.specs.Settings.{Settings}
 use Rattle.dconf_model.specs.Values.{held_value}
+use Rattle.dconf_model.proofs.FirstKeys.{first_keys_are_enough}
 use Rattle.dconf_model.proofs.Listings.{listing_has}
 use Rattle.dconf_model.proofs.ListingOrder.{find_text, found_text}
 use Rattle.dconf_model.proofs.PathMaps.{no_truth}
 use Rattle.dconf_model.proofs.StoreListings.{key_of}
 use Rattle.dconf_layers.proofs.PathTests.{any_passing}
-use Rattle.dconf_differences.specs.Differing.{AreDiffering, first_keys}
-use Rattle.dconf_told.specs.Telling.{HasAllOthers}
+use Rattle.dconf_differences.specs.Differing.{AreDiffering, first_keys, with_first}
+use Rattle.dconf_told.specs.Telling.{HasAllOthers, after_first}
 
 both : (a b : Bool) → a ≡ true → b ≡ true → (a && b) ≡ true
 both true b e f = f
@@ -71,6 +72,15 @@ has_all l m n paths first second d p other =
     let all : first_keys n l ++ first_keys n m ≡ all_paths l.layers ++ all_paths m.layers = (λ i. all_paths (take_all n l.layers first i) ++ all_paths (take_all n m.layers second i)) in
     of_asked l m (first_keys n l ++ first_keys n m) paths p d other (subst (λ (ps : List (List ℕ)). Contains ps p) (sym all) (there l m p other))
 
+pub first_has_all : (w : Bool) (s : Settings) (m : Layers) (paths : List (List ℕ)) → AreDiffering m (with_first m s) (first_keys 1 m ++ keys s.values) paths → HasAllOthers (after_first w s m) m paths
+first_has_all w s m paths d p other =
+    let turned : visible m p ≢ visible (with_first m s) p = λ e. other (sym e) in
+    of_asked m (with_first m s) (first_keys 1 m ++ keys s.values) paths p d turned
+    (subst (λ (ks : List (List ℕ)). Contains (first_keys 1 m ++ ks) p) (append-nil (keys s.values)) (first_keys_are_enough m (with_first m s) p refl (inr turned)))
+
 -- as it is given
 pub all_given : (l m : Layers) (n : ℕ) (given items : List (List ℕ)) → given ≡ items → length l.layers ≤ n → length m.layers ≤ n → AreDiffering l m (first_keys n l ++ first_keys n m) items → HasAllOthers l m given
 all_given l m n given items is first second d = subst (HasAllOthers l m) (sym is) (has_all l m n items first second d)
+
+pub first_given : (w : Bool) (s : Settings) (l m : Layers) (given items : List (List ℕ)) → l ≡ after_first w s m → given ≡ items → AreDiffering m (with_first m s) (first_keys 1 m ++ keys s.values) items → HasAllOthers l m given
+first_given w s l m given items before is d = subst (λ (l : Layers). HasAllOthers l m given) (sym before) (subst (HasAllOthers (after_first w s m) m) (sym is) (first_has_all w s m items d))

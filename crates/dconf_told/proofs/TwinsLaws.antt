@@ -1,7 +1,7 @@
 -- What the first layers have otherwise, where the others are the same: no key is missing that is shown otherwise.
-use Rattle.std.specs.Prelude.{Contains, filter, slice_index_or}
-use Rattle.std.proofs.Common.{◌≡◌, ◌∙◌, ◌++◌, ◌-◌, append-nil, ap, arith, cond, ℕ, suc, Bool, false, not, List, ◌∷◌, Some, sym, subst, take, drop, inr}
-use Rattle.std.specs.FinMap.{get, keys}
+use Rattle.std.specs.Prelude.{Contains, filter}
+use Rattle.std.proofs.Common.{◌≡◌, ◌∙◌, ◌++◌, ◌-◌, append-nil, ap, arith, ℕ, Bool, false, not, List, sym, subst, take, drop, inr}
+use Rattle.std.specs.FinMap.{keys}
 use Rattle.std.proofs.lemmas.Bool.{false_from_ne_true}
 use Rattle.std.proofs.lemmas.List.Elements.{filter-append}
 use Rattle.std.proofs.lemmas.List.Sums.{fold-append}
@@ -20,7 +20,7 @@ use Rattle.dconf_differences.specs.Differing.{AreAsked, HaveAlikeOutside, Passes
 use Rattle.dconf_differences.proofs.DifferingLaws.{differs_told}
 use Rattle.dconf_differences.proofs.SameValueLaws.{values_told}
 use Rattle.dconf_differences.proofs.TwinLaws.{AreTwins, asked_within, passes_alike}
-use Rattle.dconf_told.specs.Telling.{HasAllOthers, LeavesOut, asks_any, is_key_text, layers_otherwise, shown_otherwise}
+use Rattle.dconf_told.specs.Telling.{HasAllOthers, asks_any, is_key_text, layers_otherwise, shown_otherwise}
 use Rattle.dconf_told.specs.declared.news.DconfdbKeyAsked.{DconfdbKeyAsked}
 
 -- ---- what both have alike is not shown otherwise
@@ -45,19 +45,6 @@ rows_asked one other first end rows outside is =
     )
 
 module _ (f : List ℕ → Bool) where
-  pub leaves_out : (layer other : Layer) (rows : List (List ℕ × List ℕ)) → PassesAlike f (settings_of layer) (settings_of other) → AreOf layer rows → LeavesOut f (settings_of other) rows
-  leaves_out layer other rows passes of k d lt there = passes (slice_index_or rows k d).0 (of k d lt ∙ sym there)
-
-  module _ (s : Settings) (row : List ℕ × List ℕ) (rows rest : List (List ℕ × List ℕ)) (is : rows ≡ row ∷ rest) (out : LeavesOut f s rows) where
-    pub rest_left_out : LeavesOut f s rest
-    rest_left_out k d lt = (subst (LeavesOut f s) is out) (suc k) d (omega (arith, lt))
-
-    -- one that the other has, too
-    pub row_passed : get s.values row.0 ≡ Some row.1 → filter f (paths_of rest) ≡ filter f (paths_of rows)
-    row_passed there =
-        ap (λ b. cond b (row.0 ∷ filter f (paths_of rest)) (filter f (paths_of rest))) (sym ((subst (LeavesOut f s) is out) 0 row (omega arith) there))
-        ∙ ap (λ (rows : List (List ℕ × List ℕ)). filter f (paths_of rows)) (sym is)
-
   -- they give what all keys of the layer give
   rows_gathered : (layer : Layer) (rows : List (List ℕ × List ℕ)) (set : TextSet) → filter f (paths_of rows) ≡ filter f (layer_paths layer) →
       with_texts (filter f (paths_of rows)) set ≡ with_texts (filter f (keys (settings_of layer).values)) set

@@ -1,7 +1,6 @@
 -- Which keys are told to who listens: those that are seen otherwise than before.
-use Rattle.std.specs.Prelude.{if◌then◌else◌, ◌≡◌, ◌≢◌, ◌⊎◌, ◌↔◌, ◌==◌, ◌&&◌, ◌∷◌, ◌++◌, ℕ, Bool, true, false, List, [], not, length, drop, map, Contains, Option, Some, filter}
-use Rattle.std.specs.FinMap.{get}
-use Rattle.std.specs.List.{All, flat_map, list_any}
+use Rattle.std.specs.Prelude.{if◌then◌else◌, ◌≡◌, ◌≢◌, ◌⊎◌, ◌↔◌, ◌==◌, ◌&&◌, ◌∷◌, ◌++◌, ℕ, Bool, true, false, List, [], not, length, drop, map, Contains, Option, filter}
+use Rattle.std.specs.List.{flat_map, list_any}
 use Rattle.std.specs.Str.{bytes_eq, is_utf8}
 use Rattle.gv_model.specs.Tree.{Tree}
 use Rattle.dconf_model.specs.Layers.{Layers, visible}
@@ -94,7 +93,3 @@ shown_otherwise l m asked path = not (asks_any asked path) && layers_otherwise l
 -- no key is missing that the layers show otherwise
 abbrev pub HasAllOthers : Layers → Layers → List (List ℕ) → Type 0
 HasAllOthers l m paths = (path : List ℕ) → visible l path ≢ visible m path → Contains paths path
-
--- no row is asked for that these settings have, too
-abbrev pub LeavesOut : (List ℕ → Bool) → Settings → List (List ℕ × List ℕ) → Type 0
-LeavesOut asks s rows = All (λ row. get s.values row.0 ≡ Some row.1 → asks row.0 ≡ false) rows

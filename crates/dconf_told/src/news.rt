@@ -1,6 +1,6 @@
 //! Who is told of what: the keys that are seen otherwise than before.
 ghost use Rattle.std.specs.FinMap.{empty};
-ghost use Rattle.std.specs.Prelude.{◌≡◌, ◌≤◌, [], ◌∷◌, ◌++◌, ℕ, List, false, IfOk, OnOk, drop, filter, length, map, string_bytes};
+ghost use Rattle.std.specs.Prelude.{◌≡◌, ◌≤◌, [], ◌∷◌, ◌++◌, ℕ, List, false, IfOk, IfSome, OnOk, drop, filter, length, map, string_bytes};
 ghost use Rattle.dconf_differences.specs.Differing.{AreAsked};
 ghost use Rattle.dconf_differences.proofs.TwinLaws.{AreTwins};
 ghost use Rattle.dconf_layers.specs.Entries.{entries_left, entry_row};
@@ -9,12 +9,12 @@ ghost use Rattle.dconf_layers.specs.LayerSettings.{settings_of, seen_in};
 ghost use Rattle.dconf_layers.specs.TextSets.{with_texts};
 ghost use Rattle.dconf_model.specs.Order.{listing};
 ghost use Rattle.dconf_told.specs.Seeing.{layers_in};
-ghost use Rattle.dconf_told.specs.Telling.{AreTold, HasAllOthers, LeavesOut, after_first, any_name, any_names, asked_otherwise, before_in, ended, named_otherwise, shown_otherwise};
+ghost use Rattle.dconf_told.specs.Telling.{AreTold, HasAllOthers, after_first, any_name, any_names, asked_otherwise, before_in, ended, named_otherwise, shown_otherwise};
 
 use crate::alike::are_seen_alike;
 use crate::seen::{DconfdbView, DconfdbWaits};
 use crate::texts::{has_text, texts_of};
-use dconf_differences::differing;
+use dconf_differences::{differing, differing_first};
 use dconf_layers::{Entries, Entry, Layer, LentLayers, Texts};
 use dconf_path::KeyPath;
 use gvdb_alike::differing_items;
@@ -43,8 +43,8 @@ struct Telling<'a, 'l> {
 /// the layers before but for the first count as those after.
 ///
 /// An error comes where a growth is refused. It asks what [`differing`] asks, and once more of what differs. Where the others are the
-/// same, it asks the keys of the two first layers alone, and of these none that both are seen to have alike. Each is searched for by
-/// halving among the keys that are asked for.
+/// same, it asks the keys of the two first layers alone: what [`differing_first`] asks, or, if few of their items may be otherwise, these
+/// alone. Each is searched for by halving among the keys that are asked for.
 pub fn told<'a, 'l>(
     alloc: Global,
     before: LentLayers<'a, 'l>,
@@ -93,16 +93,18 @@ fn told_of_first<'a, 'l>(
     ensures { IfOk result (λ paths. AreTold (after_first was_writable (settings_of first.entry) (seen_in after.entry)) (seen_in after.entry) asked.now (map string_bytes paths.items)) }
 {
     let layers = with_first(alloc, after, first)?;
-    let before = LentLayers::new(was_writable, &layers);
-    let Some((newer, _)) = after.layers.split_first() else {
-        return told_of_all(alloc, before, after, asked);
-    };
     let telling = Telling {
-        before,
+        before: LentLayers::new(was_writable, &layers),
         after,
         asked,
     };
-    telling.list_of_first(alloc, first, *newer)
+    if let Some((newer, _)) = after.layers.split_first() {
+        if let Some(paths) = telling.list_of_few(alloc, first, *newer)? {
+            return Ok(paths);
+        }
+    }
+    let others = differing_first(alloc, after, first)?;
+    telling.list(alloc, others.as_slice())
 }
 
 /// The same, as they are handed out: a zero byte after each.
@@ -131,43 +133,41 @@ impl<'a> Telling<'a, '_> {
         paths.list()
     }
 
-    /// The keys that are told, where the layers are the same but for these two, the first before and the first after.
-    fn list_of_first(
+    /// The keys that are told, where the layers are the same but for these two, the first before and the first after. None says nothing:
+    /// too many keys may be otherwise in these.
+    fn list_of_few(
         self,
         alloc: Global,
         older: Layer<'_>,
         newer: Layer<'_>,
-    ) -> Result<Vec<String>, AllocError>
+    ) -> Result<Option<Vec<String>>, AllocError>
         requires { AreTwins (seen_in self.before) (seen_in self.after) (settings_of older) (settings_of newer) }
-        ensures { IfOk result (λ paths. AreTold (seen_in self.entry.before) (seen_in self.entry.after) self.entry.asked.now (map string_bytes paths.items)) }
+        ensures { IfOk result (λ found. IfSome found (λ paths. AreTold (seen_in self.entry.before) (seen_in self.entry.after) self.entry.asked.now (map string_bytes paths.items))) }
     {
+        let Some((gone, come)) = few_apart(older, newer) else {
+            return Ok(None);
+        };
         let mut paths = self.asked_otherwise(alloc)?;
         let any = self.asked_of_any(alloc)?;
-        let (gone, come) = entries_apart(older, newer);
-        self.add_entries(alloc, gone, newer, any.as_slice(), &mut paths)?;
-        self.add_entries(alloc, come, older, any.as_slice(), &mut paths)?;
-        paths.list()
+        self.add_entries(alloc, gone, any.as_slice(), &mut paths)?;
+        self.add_entries(alloc, come, any.as_slice(), &mut paths)?;
+        Ok(Some(paths.list()?))
     }
 
-    /// Adds those of a layer's entries that are shown otherwise, and nobody asks for of any type. None is that the other layer has as
-    /// it is there.
+    /// Adds those of a layer's entries that are shown otherwise, and nobody asks for of any type.
     fn add_entries(
         self,
         alloc: Global,
         entries: Entries<'_>,
-        other: Layer<'_>,
         any: &[String],
         paths: &mut Texts,
     ) -> Result<(), AllocError>
-        requires any { map string_bytes any.now ≡ listing (any_names self.asked.now) }
-        requires alike { LeavesOut (shown_otherwise (seen_in self.before) (seen_in self.after) self.asked.now) (settings_of other) (entries_left entries) }
+        requires { map string_bytes any.now ≡ listing (any_names self.asked.now) }
         ensures { OnOk result (paths.new ≡ with_texts (filter (shown_otherwise (seen_in self.entry.before) (seen_in self.entry.after) self.entry.asked.now)
             (paths_of (entries_left entries.entry))) paths.old) }
     {
         for entry in entries {
-            if !entry.is_in(other) {
-                self.add_entry(alloc, entry, any, paths)?;
-            }
+            self.add_entry(alloc, entry, any, paths)?;
         }
         Ok(())
     }
@@ -285,20 +285,24 @@ impl<'a> Telling<'a, '_> {
     }
 }
 
-/// The entries of each of two layers that the other one may have otherwise. It looks at the items of both once, as [`differing_items`]
-/// says.
-fn entries_apart<'a>(one: Layer<'a>, other: Layer<'a>) -> (Entries<'a>, Entries<'a>)
-    ensures of_one { AreOf one.entry (entries_left result.0) }
-    ensures one { AreAsked one.entry other.entry (entries_left result.0) }
-    ensures of_other { AreOf other.entry (entries_left result.1) }
-    ensures other { AreAsked other.entry one.entry (entries_left result.1) }
+/// So many keys are asked at once, and more only if a search has found them otherwise.
+const FEW: u32 = 4;
+
+/// The entries of each of two layers that the other one may have otherwise, if they are few. It looks at the items of both once, as
+/// [`differing_items`] says.
+fn few_apart<'a>(one: Layer<'a>, other: Layer<'a>) -> Option<(Entries<'a>, Entries<'a>)>
+    ensures of_one { IfSome result (λ found. AreOf one.entry (entries_left found.0)) }
+    ensures one { IfSome result (λ found. AreAsked one.entry other.entry (entries_left found.0)) }
+    ensures of_other { IfSome result (λ found. AreOf other.entry (entries_left found.1)) }
+    ensures other { IfSome result (λ found. AreAsked other.entry one.entry (entries_left found.1)) }
 {
-    let Some(items) = differing_items(one.table(), other.table()) else {
-        return (one.entries(), other.entries());
-    };
+    let items = differing_items(one.table(), other.table())?;
+    if items.end - items.first > FEW {
+        return None;
+    }
     let ones = one.entries_in(items.first, items.end);
     let others = other.entries_in(items.first, items.end);
-    (ones, others)
+    Some((ones, others))
 }
 
 /// How many layers there are, before or after, whichever are more.
