@@ -6,14 +6,20 @@
 #include <unistd.h>
 
 /* The file is made longer first, since a reader may have made it a moment ago, and mapped nothing yet. */
-void flag_set(const char *path)
+bool flag_mark(const char *path)
 {
     static const char is_set = 1;
     int file = path ? open(path, O_RDWR | O_CLOEXEC | O_NOFOLLOW) : -1;
     if (file < 0)
-        return; /* nobody reads */
+        return false; /* nobody reads */
     ssize_t longer = pwrite(file, "", 1, 1), set = longer == 1 ? pwrite(file, &is_set, 1, 0) : 0;
     (void)set;
     close(file);
-    unlink(path); /* who has it mapped sees it; who comes later makes another */
+    return true;
+}
+
+void flag_set(const char *path)
+{
+    if (flag_mark(path))
+        unlink(path); /* who has it mapped sees it; who comes later makes another */
 }

@@ -2,7 +2,14 @@
 #ifndef FLAG_H
 #define FLAG_H
 
-/* Sets it, after the database was replaced; NULL: there is none. A fault of it is none of the change. */
+#include <stdbool.h>
+
+/* Sets it, after the database was replaced; NULL: there is none. A fault of it is none of the change. This is for who holds the lock of the
+ * database's folder: what has the name in the end may be another file, which a reader has made since, and if two took the name away at once that one
+ * would lose it without being set, and its reader would see no change any more. */
 void flag_set(const char *path);
+
+/* The same for anybody: the name stays, and readers look again each time, until the next flag_set. False: nobody reads. */
+bool flag_mark(const char *path);
 
 #endif

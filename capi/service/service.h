@@ -159,6 +159,6 @@ const char *blame_text(const Blame *blame);
 /* ---- dconf's readers in place (flag.c) */
 
 /* Programs with dconf's library that have this database's file mapped look at it again. */
-void flag_readers(const char *name);
+void flag_readers(const Writer *writer);
 
 #endif

@@ -105,7 +105,7 @@ static void answer_all(Run *run)
     Newest newest;
     g_autoptr(GPtrArray) left_out = g_ptr_array_new();
     newest_begin(&newest);
-    flag_readers(run->writer->name);
+    flag_readers(run->writer);
     for (const GList *at = run->first; at; at = at->next) {
         Change *change = at->data;
         g_autofree char *tag = tag_of(change);

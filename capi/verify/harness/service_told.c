@@ -203,9 +203,9 @@ void g_hash_table_unref(GHashTable *table) { free(table); }
 
 /* ---- who is told */
 
-void flag_readers(const char *name)
+void flag_readers(const Writer *of)
 {
-    CHECK(name == writer.name && notified == 0, "order: dconf's readers see it before anybody is told");
+    CHECK(of == &writer && notified == 0, "order: dconf's readers see it before anybody is told");
     flagged++;
 }
 

@@ -139,9 +139,9 @@ static void is_answered(const GDBusMethodInvocation *call, bool is_acknowledged)
     }
 }
 
-void flag_readers(const char *name)
+void flag_readers(const Writer *of)
 {
-    CHECK(is_tried && name == written_for->name && is_held(&written_for->turn), "order: readers look again once it was tried");
+    CHECK(is_tried && of == written_for && is_held(&written_for->turn), "order: readers look again once it was tried");
     is_flagged = true;
 }
 
