@@ -258,7 +258,7 @@ int service_tell_others(void)
         put(newest.edits, &an_edit);
     bool is_amid = any_bool();
     tell_others(&writer, is_amid ? &newest : NULL, is_amid ? &left_out : NULL);
-    CHECK(flagged > 0 || (char *)(void *)writer.told != &new_told, "step: dconf's readers look where the file is another");
+    CHECK(flagged == (is_amid || (char *)(void *)writer.told == &new_told), "step: dconf's readers look, once, where the file is another, or an edit is told");
     if (notified == 1 && flagged == 1 && !is_amid)
         REACHED("what others changed is told");
     all_is_given_back();
