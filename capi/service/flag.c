@@ -3,12 +3,13 @@
 #include "lock.h"
 #include "service.h"
 
-/* Whoever has the lock now sets the flag too, once the database is replaced. */
+/* Whoever has the lock now sets the flag too, once the database is replaced. A folder that was taken away isn't made again for it. */
 void flag_readers(const Writer *writer)
 {
     FolderLock lock;
     g_autofree char *path = g_build_filename(g_get_user_runtime_dir(), "dconf", writer->name, NULL);
-    if (folder_lock(writer->service->place.folder, 0, &lock) == 0) {
+    const char *folder = writer->service->place.folder;
+    if (g_file_test(folder, G_FILE_TEST_IS_DIR) && folder_lock(folder, 0, &lock) == 0) {
         flag_set(path);
         folder_unlock(&lock);
     } else {
