@@ -114,7 +114,7 @@ static int in_order(const void *one, const void *other)
 
 Asked *asked_files(char *const *files, size_t count)
 {
-    Asked *asked = g_new(Asked, count);
+    Asked *asked = g_new(Asked, count + 1); /* of none, too, there is something to be sorted */
     for (size_t i = 0; i < count; i++)
         asked[i] = asked_file(files[i]);
     find_read(asked, count);

@@ -34,6 +34,29 @@ static GVariant *glibs_value(Place at, const char *path, const DconfdbBytes *tex
     return value;
 }
 
+/* Why no database holds such a value of that type, which in one is a level deeper; or OK. */
+static uint32_t fault_of_storing(const DconfdbBytes *value, const DconfdbBytes *type_text)
+{
+    static const uint8_t path[] = "/k";
+    const DconfdbLayer empty = DCONFDB_EMPTY_LAYER;
+    const DconfdbChange change = {{path, sizeof path - 1}, *value, *type_text, true};
+    uint8_t room[1];
+    size_t len = 0, at = 0;
+    bool is_same = false;
+    return dconfdb_change(&empty, 1, true, &change, 1, path, 0, room, 0, &len, &at, &is_same);
+}
+
+/* The value that was parsed; or NULL, and it is said why. */
+static GVariant *stored_value(Place at, const char *path, const uint8_t *room, size_t size, size_t len)
+{
+    const DconfdbBytes value = {room, size}, type_text = {room + size, len - size};
+    uint32_t number = fault_of_storing(&value, &type_text);
+    if (number == DCONFDB_OK)
+        return value_of_bytes(&value, &type_text);
+    find_no_value(at, path, number, 0, 0);
+    return NULL;
+}
+
 static void check_double(const Lint *lint, Place at, const char *path, size_t start, size_t end)
 {
     const DconfdbFinding known = {.what = DCONFDB_OF_DOUBLE, .is_system = lint->site != NULL};
@@ -54,7 +77,7 @@ static GVariant *value_of(const Lint *lint, Place at, const char *path, const Dc
     } while (number == DCONFDB_OK && len > room_len);
     GVariant *value = NULL;
     if (number == DCONFDB_OK)
-        value = value_of_bytes(&(DconfdbBytes){room, size}, &(DconfdbBytes){room + size, len - size});
+        value = stored_value(at, path, room, size, len);
     else if (number == DCONFDB_DOUBLE_TEXT)
         value = glibs_value(at, path, text);
     else

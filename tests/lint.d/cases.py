@@ -38,6 +38,8 @@ CASES = {
     'a text that is no value': desk('name=x y\norder=[]\n', (2, '/org/example/desk/name: the text is no value: BadToken at 0..1'),
                                     (3, '/org/example/desk/order: the text is no value: Ambiguous')),
     'a text with a double': desk('scale=-1e3\nname=1.5\n', (3, '/org/example/desk/name: the value is of type d, and the key of type s')),
+    'a value of 126 levels, and of 127': ({'k': '[org/example/lamps/1]\nwatts=' + '(' * 126 + '1' + ',)' * 126 + '\nlabel=' + '<' * 127 + '1' + '>' * 127 + '\n'}, [
+        ('k:3', '/org/example/lamps/1/label: the text is no value: the value is nested too deep or too long')]),
     'what only a relocatable schema has': ({'k': "[org/example/lamps/1]\nlabel='x'\nwatts='x'\n"}, []),
     'a relocatable one has no such key': ({'k': '[org/example/lamps/1]\nwats=1\n'}, [('k:2', f'{NO_KEY}/org/example/lamps/1/wats')]),
     'a slip, though a relocatable one has the key': (

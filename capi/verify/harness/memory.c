@@ -99,6 +99,7 @@ static void is_had(const Had *it, const Had *other)
     ptrdiff_t at = place_of(&it->block), of_other = other->size > 0 ? place_of(&other->block) : -1;
     CHECK(at >= 0 || heap_sizes[heap_of(it->block.at)] >= it->size, "memory: a block has its bytes");
     CHECK(at < 0 || (at % ALIGNED == 0 && (size_t)at + it->size <= lent_size), "memory: a block of the room is aligned, and within what is lent");
+    CHECK(at < 0 || (char *)it->block.at + it->size <= room.next, "memory: what is had next is behind a block");
     CHECK(at < 0 || of_other < 0 || (size_t)at + it->size <= (size_t)of_other || (size_t)of_other + other->size <= (size_t)at, "memory: a byte is one block's");
 }
 

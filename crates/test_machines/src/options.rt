@@ -64,7 +64,7 @@ fn lint_takes_its_words() -> bool {
         && said(LINT, &["--schemas"]) == 9
         && said(LINT, &["--json"]) == 11
         && said(LINT, &["--json=x"]) == 5
-        && said(WATCH, &["--json", "/"]) == 5
+        && said(WATCH, &["--json"]) == 5
         && said(
             LINT,
             &["--schema", "a", "--schema=b", "--schemas", "c", "k"],
