@@ -8,7 +8,7 @@ from pathlib import Path
 
 HOME = Path(os.environ['HOME'])
 # What a program takes to start, and to be told, on a busy machine.
-START, SOON = 60, 15
+START, SOON = 60, 60
 
 
 def stop(text):
