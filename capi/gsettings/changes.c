@@ -5,21 +5,32 @@
 
 #include <string.h>
 
-static uint64_t mixed(uint64_t hash, const char *bytes, size_t len)
+enum { WORD = sizeof(uint64_t) };
+
+static uint64_t mixed(uint64_t hash, uint64_t word)
 {
-    uint64_t word = 0;
-    memcpy(&word, bytes, len);
     hash = (hash ^ word) * 0x9e3779b97f4a7c15;
     return hash ^ hash >> 32;
 }
 
+static uint64_t word_at(const char *bytes)
+{
+    uint64_t word;
+    memcpy(&word, bytes, WORD);
+    return word;
+}
+
+/* Word by word; the last one overlaps the one before it. */
 guint path_hash(const char *path, size_t len)
 {
-    uint64_t hash = len;
-    size_t at = 0;
-    for (; len - at >= sizeof hash; at += sizeof hash)
-        hash = mixed(hash, path + at, sizeof hash);
-    return (guint)mixed(hash, path + at, len - at);
+    uint64_t hash = len, word = 0;
+    if (len < WORD) {
+        memcpy(&word, path, len);
+        return (guint)mixed(hash, word);
+    }
+    for (size_t at = 0; at + WORD < len; at += WORD)
+        hash = mixed(hash, word_at(path + at));
+    return (guint)mixed(hash, word_at(path + len - WORD));
 }
 
 Change *change_new(size_t most, size_t paths)
@@ -38,9 +49,10 @@ void change_add(Change *change, const char *path, GVariant *value)
 {
     g_assert(change->count < change->most);
     Edit *edit = &change->edits[change->count++];
-    edit->path = change->room;
-    change->room = stpcpy(change->room, path) + 1;
-    edit->hash = path_hash(edit->path, (size_t)(change->room - edit->path) - 1);
+    edit->len = strlen(path);
+    edit->path = memcpy(change->room, path, edit->len + 1);
+    change->room += edit->len + 1;
+    edit->hash = path_hash(edit->path, edit->len);
     edit->key = NO_KEY;
     edit->number = edit->before = 0;
     edit->change = change;

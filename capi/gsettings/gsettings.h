@@ -29,7 +29,8 @@ static const size_t NO_KEY = SIZE_MAX;
  * of the change are made. */
 typedef struct Edit {
     char *path; /* behind the edits of its change */
-    guint hash; /* of the path */
+    size_t len; /* of the path */
+    guint hash; /* of it, too */
     size_t key;    /* the number of its key, of those of which an edit waits */
     size_t number; /* its own, of the edits that wait: greater than those of older ones */
     size_t before; /* that of the newest edit of its key before it; 0: none */

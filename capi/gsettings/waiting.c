@@ -8,7 +8,7 @@
 
 static bool are_of_one_path(const Edit *one, const Edit *other)
 {
-    return one->hash == other->hash && strcmp(one->path, other->path) == 0;
+    return one->hash == other->hash && one->len == other->len && memcmp(one->path, other->path, one->len) == 0;
 }
 
 /* The number of a key, as an edit of it has it: the last one that was put, since a key may be set again and again, or that which the set
@@ -51,7 +51,7 @@ static bool may_be_made(Edit *edit, const Edit *waits, guint64 shown, const Dcon
     if (edit->may_be_of != shown)
         edit->may_be_written = is_writable(edit, waits, shown, now);
     edit->may_be_of = shown;
-    return dconfdb_may_be_made((const uint8_t *)edit->path, strlen(edit->path), edit->value != NULL, is_at_work, edit->may_be_written);
+    return dconfdb_may_be_made((const uint8_t *)edit->path, edit->len, edit->value != NULL, is_at_work, edit->may_be_written);
 }
 
 static bool is_stored(const Edit *edit, const DconfdbSnapshot *now)
@@ -64,7 +64,8 @@ static bool are_same(const DconfdbEdit *one, const DconfdbEdit *other)
 {
     if (!one->type || !other->type)
         return one->type == other->type;
-    return one->size == other->size && strcmp(one->type, other->type) == 0 && (one->size == 0 || memcmp(one->data, other->data, one->size) == 0);
+    return one->size == other->size && (one->type == other->type || strcmp(one->type, other->type) == 0) &&
+           (one->size == 0 || memcmp(one->data, other->data, one->size) == 0);
 }
 
 /* Whether an edit says what the newest one of its key says that waits, if there is one, or else what is stored, as the proved call has it. */
@@ -223,7 +224,8 @@ const Edit *waiting_find(const Waiting *waiting, const char *path)
 {
     if (waiting->edits->len == 0)
         return NULL;
-    Edit sought = {.path = (char *)path, .hash = path_hash(path, strlen(path))};
+    size_t len = strlen(path);
+    Edit sought = {.path = (char *)path, .len = len, .hash = path_hash(path, len)};
     return newest_of(waiting, key_of(waiting, &sought));
 }
 
@@ -283,7 +285,7 @@ static EditedKeys *edited_new(const Waiting *waiting)
 {
     size_t count = waiting->newest->len, paths = 0;
     for (size_t key = 0; key < count; key++)
-        paths += strlen(newest_of(waiting, key)->path) + 1;
+        paths += newest_of(waiting, key)->len + 1;
     EditedKeys *keys = g_malloc(sizeof *keys + count * sizeof keys->all[0] + paths);
     keys->count = count;
     return keys;
