@@ -74,6 +74,12 @@ is_read true true settle e = refl
 is_read true false settle e = absurd (let bad : false ≡ true = e in cc)
 is_read false done settle e = absurd (let bad : false ≡ true = e in cc)
 
+-- where the profile counts as it was read the store is kept
+kept_once : (is keeps same o : Bool) → is ≡ true → keeps ≡ true → begin_by (is && (keeps || same)) o ≡ Refresh
+kept_once true true same o p q = refl
+kept_once true false same o p q = absurd (let bad : false ≡ true = q in cc)
+kept_once false keeps same o p q = absurd (let bad : false ≡ true = p in cc)
+
 -- ---- who has no turn to look
 
 abbrev barred : Bool → Bool → Bool → Bool → Glance
@@ -127,6 +133,7 @@ nothing_new_is_missed done k =
       seen = λ f s. seen_by b (refreshes k) o h e w t k.is_done (sym (is_mine f) ∙ s);
       failed = λ f s. failed_by b (refreshes k) o h e w t k.is_done (sym (is_mine f) ∙ s);
       kept = λ f s. kept_by b (refreshes k) o h e w t k.is_done (sym (is_mine f) ∙ s);
+      once = λ f p q. free k.is_barred (barred k.is_amid false k.is_shown k.is_late) (begin_by (refreshes k) o) f ∙ kept_once k.is_open k.keeps_profile ((k.first == 0) && (k.second == 0)) o p q;
       settled = λ f s. is_read (nat_lt done 7) k.is_done k.is_to_settle (settled_by b (refreshes k) o h e w t k.is_done (sym (is_mine f) ∙ s));
       handed = λ y n. seen_in (glance_after done k) other k.is_shown (is_other y) (handed_by k.is_amid c k.is_shown k.is_late (sym (ap is_told (is_other y)) ∙ n));
       shown = λ y n. shown_by k.is_amid c k.is_shown k.is_late (sym (is_other y) ∙ n);

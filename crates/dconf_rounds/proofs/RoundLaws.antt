@@ -1,9 +1,9 @@
 -- What holds of a round, whatever is known.
-use Rattle.std.proofs.Common.{ℕ, ◌≡◌, Bool, true, false, not, refl, sym, ◌∙◌}
-use Rattle.std.specs.Prelude.{◌&&◌, ◌||◌, if◌then◌else◌, nat_lt}
+use Rattle.std.proofs.Common.{ℕ, ◌≡◌, ◌⊎◌, inl, inr, Bool, true, false, not, refl, ap, sym, ◌∙◌}
+use Rattle.std.specs.Prelude.{◌&&◌, ◌||◌, if◌then◌else◌, ◌==◌, nat_lt, nat_le}
 use Rattle.dconf_rounds.specs.declared.rounds.Task.{Task}
 use Rattle.dconf_rounds.specs.declared.rounds.Task.TheVariants.{Tell, Watch, Look, Take, Write, Leave, Rest, End, GiveUp}
-use Rattle.dconf_rounds.specs.Rounds.{watches, looks_first, takes, is_waiting, writes, leaves, is_left, has_failed, task_number, is_over, NothingDueIsPassedOver}
+use Rattle.dconf_rounds.specs.Rounds.{watches, looks_first, takes, is_waiting, writes, leaves, is_left, has_failed, has_work, task_after, task_number, is_over, NothingDueIsPassedOver}
 
 abbrev by : Bool → Bool → Bool → Bool → Bool → Bool → Task → Task
 by tells watched looked took wrote left end =
@@ -109,6 +109,46 @@ write_is_due false false false false true d end n e = refl
 write_is_due false false false false false true end n e = absurd (let bad : Leave ≡ Write = e in cc)
 write_is_due false false false false false false end n e = absurd (n e)
 
+take_is_due : (a b l t c d : Bool) (end : Task) → (end ≡ Take → ⊥) → by a b l t c d end ≡ Take → t ≡ true
+take_is_due true b l t c d end n e = absurd (let bad : Tell ≡ Take = e in cc)
+take_is_due false true l t c d end n e = absurd (let bad : Watch ≡ Take = e in cc)
+take_is_due false false true t c d end n e = absurd (let bad : Look ≡ Take = e in cc)
+take_is_due false false false true c d end n e = refl
+take_is_due false false false false true d end n e = absurd (let bad : Write ≡ Take = e in cc)
+take_is_due false false false false false true end n e = absurd (let bad : Leave ≡ Take = e in cc)
+take_is_due false false false false false false end n e = absurd (n e)
+
+leave_is_due : (a b l t c d : Bool) (end : Task) → (end ≡ Leave → ⊥) → by a b l t c d end ≡ Leave → d ≡ true
+leave_is_due true b l t c d end n e = absurd (let bad : Tell ≡ Leave = e in cc)
+leave_is_due false true l t c d end n e = absurd (let bad : Watch ≡ Leave = e in cc)
+leave_is_due false false true t c d end n e = absurd (let bad : Look ≡ Leave = e in cc)
+leave_is_due false false false true c d end n e = absurd (let bad : Take ≡ Leave = e in cc)
+leave_is_due false false false false true d end n e = absurd (let bad : Write ≡ Leave = e in cc)
+leave_is_due false false false false false true end n e = refl
+leave_is_due false false false false false false end n e = absurd (n e)
+
+-- no round ends in a task
+no_task : (end task : Task) → is_over end ≡ true → is_over task ≡ false → end ≡ task → ⊥
+no_task end task over t e = let bad : true ≡ false = sym over ∙ (ap is_over e ∙ t) in cc
+
+watch_by : (untold soon turned ends : Bool) (l t c d : Bool) (end : Task) → untold ≡ false → soon ≡ true → (turned ≡ true) × (ends ≡ false)
+    → by untold (soon && (turned && not ends)) l t c d end ≡ Watch
+watch_by false true true false l t c d end u s h = refl
+watch_by true soon turned ends l t c d end u s h = absurd (let bad : true ≡ false = u in cc)
+watch_by false false turned ends l t c d end u s h = absurd (let bad : false ≡ true = s in cc)
+watch_by false true false ends l t c d end u s h = absurd (let bad : false ≡ true = h.0 in cc)
+watch_by false true true true l t c d end u s h = absurd (let bad : true ≡ false = h.1 in cc)
+
+-- ---- what is work
+
+works_by : (waits line again : Bool) → waits ≡ true → (waits || (line || again)) ≡ true
+works_by true line again w = refl
+works_by false line again w = absurd (let bad : false ≡ true = w in cc)
+
+works_on : (waits line again : Bool) → not waits && (line || again) ≡ true → (waits || (line || again)) ≡ true
+works_on false line again w = w
+works_on true line again w = refl
+
 and_left : (a b : Bool) → a && b ≡ true → a ≡ true
 and_left true b e = refl
 and_left false b e = e
@@ -116,6 +156,11 @@ and_left false b e = e
 and_right : (a b : Bool) → a && b ≡ true → b ≡ true
 and_right true b e = e
 and_right false b e = absurd (let bad : false ≡ true = e in cc)
+
+three : (x : Task) (r : Bool) → (x ≡ Take → r ≡ true) → (x ≡ Write → r ≡ true) → (x ≡ Leave → r ≡ true) → x ≡ Take ⊎ (x ≡ Write ⊎ x ≡ Leave) → r ≡ true
+three x r p q s (inl e) = p e
+three x r p q s (inr (inl e)) = q e
+three x r p q s (inr (inr e)) = s e
 
 -- ---- the law
 
@@ -129,8 +174,17 @@ nothing_due_is_passed_over done k =
     let d : Bool = nat_lt done 6 && leaves k in
     let end : Task = ends_by k.ends k.waits (is_left k) (has_failed k) in
     let over : is_over end ≡ true = end_is_over k.ends k.waits (is_left k) (has_failed k) in
+    let works : k.waits ≡ true → has_work k ≡ true = works_by k.waits k.is_in_line (not (k.again == 0)) in
     record {
       over = over_by a b l t c d end over;
+      watched = watch_by a (nat_lt done 2) k.has_turned k.ends l t c d end;
+      works = three (task_after done k) (has_work k)
+          (λ e. works (and_left k.waits (k.is_in_line || (k.is_asked || nat_le k.again k.moment))
+              (and_right (nat_lt done 4) (takes k) (take_is_due a b l t c d end (no_task end Take over refl) e))))
+          (λ e. works (and_left k.waits (k.has_asked && not (is_waiting k))
+              (and_right (nat_lt done 5) (writes k) (write_is_due a b l t c d end (no_task end Write over refl) e))))
+          (λ e. works_on k.waits k.is_in_line (not (k.again == 0))
+              (and_right (nat_lt done 6) (leaves k) (leave_is_due a b l t c d end (no_task end Leave over refl) e)));
       forward = forward_by done a b l t c d end (and_left (nat_lt done 1) k.has_untold) (and_left (nat_lt done 2) (watches k))
           (and_left (nat_lt done 3) (looks_first k)) (and_left (nat_lt done 4) (takes k)) (and_left (nat_lt done 5) (writes k))
           (and_left (nat_lt done 6) (leaves k)) over;

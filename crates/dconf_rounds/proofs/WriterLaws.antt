@@ -9,7 +9,7 @@ use Rattle.dconf_rounds.specs.declared.syncs.SyncTask.{SyncTask}
 use Rattle.dconf_rounds.specs.declared.syncs.SyncTask.TheVariants as sync
 use Rattle.dconf_rounds.specs.Syncs.{sync_after}
 use Rattle.dconf_rounds.specs.declared.writers.EndTask.TheVariants as end
-use Rattle.dconf_rounds.specs.Writers.{EndAnswers, Facts, answered, begins, does, end_after, goes_on, is_left, says, WhatWaitsIsWrittenOrTold}
+use Rattle.dconf_rounds.specs.Writers.{EndAnswers, Facts, answered, begins, does, end_after, goes_on, is_left, is_new, says, wants, WhatWaitsIsWrittenOrTold}
 
 -- ---- what is new
 
@@ -144,10 +144,10 @@ what_waits_is_written_or_told a k =
             begun = λ done e.
                 let makes : Bool = nat_lt done 1 && (begins k && not k.has_wake) in
                 let begun : Bool = nat_lt done 2 && (begins k && k.has_wake) in
-                may_begin (nat_lt done 2) k.is_wanted k.has_thread k.has_store k.has_ended (k.begun_in == k.process) k.has_wake
-                (is_begun makes begun (nat_lt done 3 && (does k && k.is_news)) (nat_lt done 4 && (k.is_owed && not (does k))) e);
-            woken = λ d n. woken_by (does k) k.is_news k.is_owed d n;
-            here = λ d o. here_by (does k) k.is_news k.is_owed d o;
+                may_begin (nat_lt done 2) (wants k) k.has_thread k.has_store k.has_ended (k.begun_in == k.process) k.has_wake
+                (is_begun makes begun (nat_lt done 3 && (does k && is_new k)) (nat_lt done 4 && (k.is_owed && not (does k))) e);
+            woken = λ d n. woken_by (does k) (is_new k) k.is_owed d n;
+            here = λ d o. here_by (does k) (is_new k) k.is_owed d o;
           };
       line =
           record {

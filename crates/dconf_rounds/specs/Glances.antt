@@ -6,16 +6,16 @@ use Rattle.dconf_rounds.specs.declared.glances.Glance.TheVariants.{Refresh, Open
 
 -- ---- what is due
 
--- it is open, and both profiles are the ones that were read, for sure
+-- it is open, and both profiles are the ones that were read, for sure, or count as they were read
 abbrev pub refreshes : GlanceKnown → Bool
-refreshes k = k.is_open && ((k.first == 0) && (k.second == 0))
+refreshes k = k.is_open && (k.keeps_profile || ((k.first == 0) && (k.second == 0)))
 
 abbrev pub is_another : ℕ → Bool
 is_another sameness = not (sameness == 0) && not (sameness == 2)
 
--- none is open, or a profile is another one for sure
+-- none is open, or a profile that is looked at is another one for sure
 abbrev pub opens : GlanceKnown → Bool
-opens k = not k.is_open || (is_another k.first || is_another k.second)
+opens k = not k.is_open || (not k.keeps_profile && (is_another k.first || is_another k.second))
 
 abbrev pub begins_with : GlanceKnown → Glance
 begins_with k = if refreshes k then Refresh else if opens k then Open else OpenAgain
@@ -76,8 +76,10 @@ pub record IsGoodGlance (done : ℕ) (k : GlanceKnown) : Type 0 where
   -- it has succeeded exactly if the files were read
   pub seen : k.is_barred ≡ false → glance_after done k ≡ Seen → k.is_done ≡ true
   pub failed : k.is_barred ≡ false → glance_after done k ≡ Failed → k.is_done ≡ false
-  -- the store is kept only while both profiles are the ones that were read, for sure
+  -- the store is kept only while both profiles are the ones that were read, for sure, or count as they were read
   pub kept : k.is_barred ≡ false → glance_after done k ≡ Refresh → refreshes k ≡ true
+  -- and where they do, it is kept, whatever stands there by now
+  pub once : k.is_barred ≡ false → k.is_open ≡ true → k.keeps_profile ≡ true → glance_after 0 k ≡ Refresh
   -- and so has what settles what waits
   pub settled : k.is_barred ≡ false → glance_after done k ≡ Settle → k.is_done ≡ true
   -- who has no turn to look hands out what another thread has seen in its own, or asks for the turn again, and does nothing else

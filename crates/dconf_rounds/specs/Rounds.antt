@@ -1,5 +1,5 @@
 -- What the thread does next that writes what waits.
-use Rattle.std.specs.Prelude.{ℕ, ◌≡◌, Bool, true, false, not, ◌&&◌, ◌||◌, if◌then◌else◌, ◌==◌, nat_lt, nat_le}
+use Rattle.std.specs.Prelude.{ℕ, ◌≡◌, ◌⊎◌, Bool, true, false, not, ◌&&◌, ◌||◌, if◌then◌else◌, ◌==◌, nat_lt, nat_le}
 use Rattle.dconf_rounds.specs.declared.rounds.Known.{Known}
 use Rattle.dconf_rounds.specs.declared.rounds.Task.{Task}
 use Rattle.dconf_rounds.specs.declared.rounds.Task.TheVariants.{Tell, Watch, Look, Take, Write, Leave, Rest, End, GiveUp}
@@ -8,10 +8,15 @@ use Rattle.dconf_rounds.specs.declared.rounds.Task.TheVariants.{Tell, Watch, Loo
 abbrev pub is_at_work : Bool → ℕ → ℕ → Bool
 is_at_work has_ended begun_in process = not has_ended && (begun_in == process)
 
+-- it writes, waits for its turn, or is to try again
+abbrev pub has_work : Known → Bool
+has_work k = k.waits || (k.is_in_line || not (k.again == 0))
+
 -- ---- what is due
 
+-- somebody's main context has turned to whom what others change can be told
 abbrev pub watches : Known → Bool
-watches k = k.is_to_watch && not k.ends
+watches k = k.has_turned && not k.ends
 
 -- something waits; and it is in line already, or asked for, or its moment has come
 abbrev pub takes : Known → Bool
@@ -97,6 +102,10 @@ pub record IsGoodRound (done : ℕ) (k : Known) : Type 0 where
   pub gives_up : task_after done k ≡ GiveUp → (k.ends ≡ true) × (k.waits ≡ true) × (has_failed k ≡ true)
   -- and else it ends with nothing that waits
   pub ends : task_after done k ≡ End → (k.ends ≡ true) × (k.waits ≡ false)
+  -- as long as it takes its turn, writes, or has a line to leave, it has work, for which the program's end waits
+  pub works : task_after done k ≡ Take ⊎ (task_after done k ≡ Write ⊎ task_after done k ≡ Leave) → has_work k ≡ true
+  -- and the files are watched once there is somebody to be told, until the end
+  pub watched : nat_lt done 1 && k.has_untold ≡ false → nat_lt done 2 ≡ true → (k.has_turned ≡ true) × (k.ends ≡ false) → task_after done k ≡ Watch
 
 abbrev pub NothingDueIsPassedOver : Type 0
 NothingDueIsPassedOver = (done : ℕ) (k : Known) → IsGoodRound done k

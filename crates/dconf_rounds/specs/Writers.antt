@@ -14,18 +14,26 @@ use Rattle.dconf_rounds.specs.declared.writers.EndTask.TheVariants as end
 
 -- ---- something is new
 
--- a thread is to be there and isn't, for a store in the process that began it, before the end
+-- a thread is to be there: also for who listens, and never reads
+abbrev pub wants : WriterKnown → Bool
+wants k = k.is_wanted || k.listens
+
+-- it isn't, for a store in the process that began it, before the end
 abbrev pub begins : WriterKnown → Bool
-begins k = k.is_wanted && (not k.has_thread && (k.has_store && is_at_work k.has_ended k.begun_in k.process))
+begins k = wants k && (not k.has_thread && (k.has_store && is_at_work k.has_ended k.begun_in k.process))
 
 -- it does what is new, until the end
 abbrev pub does : WriterKnown → Bool
 does k = k.has_thread && not k.has_ended
 
+-- something is new for it: of one that doesn't watch the files who listens is none
+abbrev pub is_new : WriterKnown → Bool
+is_new k = k.is_news || (k.listens && k.has_turned)
+
 abbrev pub need_after : ℕ → WriterKnown → NeedTask
 need_after done k =
     if nat_lt done 1 && (begins k && not k.has_wake) then need.MakeWake else if nat_lt done 2 && (begins k && k.has_wake) then need.Begin else
-    if nat_lt done 3 && (does k && k.is_news) then need.Wake else if nat_lt done 4 && (k.is_owed && not (does k)) then need.Here else need.Over
+    if nat_lt done 3 && (does k && is_new k) then need.Wake else if nat_lt done 4 && (k.is_owed && not (does k)) then need.Here else need.Over
 
 abbrev pub need_number : NeedTask → ℕ
 need_number need.MakeWake = 1
@@ -38,7 +46,7 @@ pub record IsGoodNeed (k : WriterKnown) : Type 0 where
   -- a thread is begun only where there is none, before the end, and never in a child
   pub begun : (done : ℕ) → need_after done k ≡ need.Begin → (k.has_thread ≡ false) × (k.has_ended ≡ false) × ((k.begun_in == k.process) ≡ true)
   -- what is new for the thread wakes it
-  pub woken : does k ≡ true → k.is_news ≡ true → need_after 2 k ≡ need.Wake
+  pub woken : does k ≡ true → is_new k ≡ true → need_after 2 k ≡ need.Wake
   -- and what no thread does is done here
   pub here : does k ≡ false → k.is_owed ≡ true → need_after 2 k ≡ need.Here
 

@@ -35,6 +35,8 @@ pub struct GlanceKnown {
     pub first: u32,
     pub second: u32,
     pub is_open: bool,
+    /// The profile of a store that is open counts as it was read: nobody looks at it again.
+    pub keeps_profile: bool,
     /// The files were read, or the store was opened.
     pub is_done: bool,
     /// The newest is handed out already.
@@ -134,14 +136,15 @@ fn begins_with(known: &GlanceKnown) -> Glance
 fn opens(known: &GlanceKnown) -> bool
     ensures { result ≡ opens known.now }
 {
-    !known.is_open || (is_another(known.first) || is_another(known.second))
+    !known.is_open
+        || (!known.keeps_profile && (is_another(known.first) || is_another(known.second)))
 }
 
-/// Whether the store is open, and both profiles are the ones that were read, for sure.
+/// Whether the store is open, and both profiles are the ones that were read, for sure, or count as they were read.
 fn refreshes(known: &GlanceKnown) -> bool
     ensures { result ≡ refreshes known.now }
 {
-    known.is_open && (known.first == 0 && known.second == 0)
+    known.is_open && (known.keeps_profile || (known.first == 0 && known.second == 0))
 }
 
 fn is_another(sameness: u32) -> bool

@@ -17,15 +17,16 @@ mod telling;
 mod writers;
 
 pub use glances::{Glance, GlanceKnown, glance_after, glance_number};
-pub use rounds::{Known, Task, is_at_work, task_after, task_number};
+pub use rounds::{Known, Task, has_work, is_at_work, task_after, task_number};
 pub use syncs::{SyncKnown, SyncTask, sync_after, sync_number};
 pub use telling::{TellKnown, Telling, passes_over, tell_next, telling_number};
 pub use writers::{
     EndTask, LineTask, NeedTask, WriterKnown, end_after, line_after, need_after, writer_number,
 };
 
-/// The thread does all that is due before it rests, in one order, and each once. It writes once its turn has come. It gives up what waits only at the program's end, after
-/// one more try has failed by a fault that lasts; and else it ends with nothing that waits.
+/// The thread does all that is due before it rests, in one order, and each once. It writes once its turn has come. It gives up what waits only at
+/// the program's end, which waits while it has work, after one more try has failed by a fault that lasts; and else it ends with nothing that
+/// waits. It watches the files once there is somebody to be told.
 pub fn nothing_due_is_passed_over()
     ensures { NothingDueIsPassedOver }
 {}
@@ -36,7 +37,7 @@ pub fn yes_means_all_is_there()
     ensures { YesMeansAllIsThere }
 {}
 
-/// A look at the files keeps a store open only while both profiles are the ones that were read, for sure. It does all that is due before it
+/// A look at the files keeps a store open only while both profiles are the ones that were read, for sure, or count as they were read. It does all that is due before it
 /// is over: what is new is handed out, what others changed while changes waited is heeded, the files of a store that was opened
 /// are watched, and what waits is settled only by files that were read. Who can't look while another thread changes the files hands out what that
 /// one has seen; and who can't look for another reason asks again until its time is over.

@@ -1,6 +1,6 @@
 //! What the thread does next that writes what waits, tells, and watches the files. All moments are of one clock; 0 is none.
 ghost use Rattle.std.specs.Prelude.{◌≡◌};
-ghost use Rattle.dconf_rounds.specs.Rounds.{ending, has_failed, is_at_work, is_left, is_waiting, leaves, looks_first, takes, task_after, task_number, watches, writes};
+ghost use Rattle.dconf_rounds.specs.Rounds.{ending, has_failed, has_work, is_at_work, is_left, is_waiting, leaves, looks_first, takes, task_after, task_number, watches, writes};
 
 /// A task of a round, in the order in which they come.
 #[derive(Clone, Copy)]
@@ -47,8 +47,8 @@ pub struct Known {
     /// It has asked for it in this round,
     pub has_asked: bool,
     pub has_untold: bool,
-    /// Somebody wants to be told of what others change.
-    pub is_to_watch: bool,
+    /// A main context of somebody who listens has turned: from then on what others change can be told.
+    pub has_turned: bool,
     /// Somebody wants a write to be tried now.
     pub is_asked: bool,
     /// Of something that waits nobody knows whether it changes anything.
@@ -65,6 +65,13 @@ pub fn is_at_work(has_ended: bool, begun_in: u32, process: u32) -> bool
     ensures { result ≡ is_at_work has_ended begun_in process }
 {
     !has_ended && begun_in == process
+}
+
+/// Whether the thread writes, or is to try again, or waits for its turn: as long as it does, the program's end waits for it.
+pub fn has_work(known: &Known) -> bool
+    ensures { result ≡ has_work known.now }
+{
+    known.waits || (known.is_in_line || known.again != 0)
 }
 
 /// What comes next, once the first `done` tasks of the round were done, or were not due.
@@ -112,7 +119,7 @@ pub fn task_number(done: u32, known: &Known) -> u32
 fn watches(known: &Known) -> bool
     ensures { result ≡ watches known.now }
 {
-    known.is_to_watch && !known.ends
+    known.has_turned && !known.ends
 }
 
 /// Before a write, unless the newest files are known: what others set before is older than what waits, and is seen first.

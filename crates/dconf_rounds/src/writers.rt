@@ -1,7 +1,7 @@
 //! Who writes what waits: whether a thread is begun for that, or woken; how it comes to its turn; and what becomes of both at the end.
 ghost use Rattle.std.specs.Prelude.{◌≡◌, true};
 ghost use Rattle.dconf_rounds.specs.Syncs.{sync_after, sync_number};
-ghost use Rattle.dconf_rounds.specs.Writers.{answered, begins, does, end_after, end_number, facts, first_wait, is_own, is_settled, line_after, line_number, need_after, need_number, own_sync, writer_number};
+ghost use Rattle.dconf_rounds.specs.Writers.{answered, begins, does, end_after, end_number, facts, first_wait, is_new, is_own, is_settled, line_after, line_number, need_after, need_number, own_sync, wants, writer_number};
 
 use crate::rounds::is_at_work;
 use crate::syncs::{SyncKnown, sync_number};
@@ -96,6 +96,10 @@ pub struct WriterKnown {
     pub is_news: bool,
     /// Somebody has to do it.
     pub is_owed: bool,
+    /// Somebody listens who didn't before, or whose main context didn't turn before;
+    pub listens: bool,
+    /// and one has turned, so that the thread watches the files.
+    pub has_turned: bool,
     /// The program ends.
     pub exits: bool,
     /// This thread is the one that writes.
@@ -114,7 +118,7 @@ pub fn need_after(done: u32, known: &WriterKnown) -> NeedTask
     if done < 2 && (begins(known) && known.has_wake) {
         return NeedTask::Begin;
     }
-    if done < 3 && (does(known) && known.is_news) {
+    if done < 3 && (does(known) && is_new(known)) {
         return NeedTask::Wake;
     }
     if done < 4 && (known.is_owed && !does(known)) {
@@ -277,11 +281,25 @@ fn end_number(done: u32, is_so: bool, known: &WriterKnown) -> u32
     }
 }
 
+/// Whether something is new for the thread: of one that doesn't watch the files who listens is none.
+fn is_new(known: &WriterKnown) -> bool
+    ensures { result ≡ is_new known.now }
+{
+    known.is_news || (known.listens && known.has_turned)
+}
+
+/// Whether one is to be there: also for who listens, and never reads.
+fn wants(known: &WriterKnown) -> bool
+    ensures { result ≡ wants known.now }
+{
+    known.is_wanted || known.listens
+}
+
 /// Whether one is to be begun, and may be.
 fn begins(known: &WriterKnown) -> bool
     ensures { result ≡ begins known.now }
 {
-    known.is_wanted
+    wants(known)
         && (!known.has_thread
             && (known.has_store && is_at_work(known.has_ended, known.begun_in, known.process)))
 }
