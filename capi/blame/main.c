@@ -46,11 +46,9 @@ static char *object_of_user(void)
     if (!place_find(NULL, &place, &error))
         return NULL;
     DconfdbStore *store = place_open(&place, &error);
-    const char *file = store ? dconfdb_store_user_file(store) : NULL;
-    g_autofree char *name = file ? g_path_get_basename(file) : NULL;
-    if (name && !place.is_dconfs && g_str_has_suffix(name, ".user"))
-        name[strlen(name) - strlen(".user")] = '\0';
-    char *object = name ? g_strconcat("/ca/desrt/dconf/Writer/", name, NULL) : NULL;
+    size_t len = 0;
+    const char *name = store ? place_user(store, &len) : NULL;
+    char *object = name ? g_strdup_printf("/ca/desrt/dconf/Writer/%.*s", (int)len, name) : NULL;
     if (store)
         dconfdb_store_close(store);
     place_release(&place);

@@ -1173,11 +1173,11 @@ typedef struct {
     bool is_in_line;   /* it is in line for its turn */
     bool has_asked;    /* it has asked for that in this round, */
     bool has_untold;
-    bool is_to_watch; /* somebody wants to be told of what others change */
-    bool is_asked;    /* somebody wants a write to be tried now */
-    bool asks;        /* of something that waits nobody knows whether it changes anything */
-    bool is_watched;  /* what others change is told without a look at the files */
-    bool is_others;   /* and others have theirs: who is in line goes on waiting, and who isn't has waited in vain */
+    bool has_turned; /* a main context of somebody who listens: from then on what others change can be told */
+    bool is_asked;   /* somebody wants a write to be tried now */
+    bool asks;       /* of something that waits nobody knows whether it changes anything */
+    bool is_watched; /* what others change is told without a look at the files */
+    bool is_others;  /* and others have theirs: who is in line goes on waiting, and who isn't has waited in vain */
 } DconfdbRound;
 
 /* Its tasks, in the order in which they come in a round. */
@@ -1193,6 +1193,9 @@ enum {
     DCONFDB_ROUND_ENDS,   /* over for good: nothing waits */
     DCONFDB_ROUND_GIVES_UP /* the same, but what waits is given up */
 };
+
+/* Whether it writes, or is to try again, or waits for its turn: as long as it does, the program's end waits for it. */
+bool dconfdb_has_work(const DconfdbRound *known);
 
 /* The task that is due after that one. */
 uint32_t dconfdb_round_after(uint32_t task, const DconfdbRound *known);
@@ -1219,6 +1222,8 @@ typedef struct {
     bool is_wanted;   /* a thread is to be there */
     bool is_news;     /* something is new for it */
     bool is_owed;     /* somebody has to do it */
+    bool listens;     /* somebody listens who didn't before, or whose main context didn't turn before, */
+    bool has_turned;  /* and one has turned */
     bool exits;       /* the program ends */
     bool is_thread;   /* this thread is the one that writes */
     bool is_let_go;   /* nobody held it any longer, some time before */
@@ -1304,6 +1309,7 @@ enum {
 typedef struct {
     uint32_t first, second; /* what dconfdb_same_file says of the two files that may be the profile */
     bool is_open;
+    bool keeps_profile;  /* the profile of a store that is open counts as it was read: nobody looks at it again */
     bool is_done;        /* the files were read, or the store was opened */
     bool is_shown;       /* the newest is handed out already */
     bool is_other;       /* what was handed out is another than before */
@@ -1479,6 +1485,17 @@ enum {
 };
 
 uint32_t dconfdb_served_after(uint32_t done, const DconfdbServed *known);
+
+/* What the service does before it serves, in this order. */
+enum {
+    DCONFDB_BEGINS_SERVING,
+    DCONFDB_BEGINS_FOLDERS, /* makes dconf's two: a sandbox is given them only if they are there when it starts */
+    DCONFDB_BEGINS_USER,    /* opens the database `user`: what others change in it is told before anybody writes */
+    DCONFDB_BEGINS_SERVES   /* over */
+};
+
+/* The task that is due after that one; `is_dconfs`, the store is of dconf's kind. */
+uint32_t dconfdb_served_begins(uint32_t task, bool is_dconfs);
 
 /* ---- changes that wait. Each key and each edit has a number; an edit's is 1 or more, and greater than those of older ones. */
 
@@ -1894,6 +1911,9 @@ typedef struct {
  * site the folders count for these two alone, and `stem` is how much of the name is that of its database. */
 uint32_t dconfdb_read_as(const DconfdbEntry *entry, const DconfdbBytes *folders, size_t count, const uint8_t *name, size_t name_len, uint64_t size,
                          const uint8_t *text, size_t len, size_t *sources, size_t *stem, bool *is_source);
+
+/* The folder of the sources and databases that `update` takes if none is named, by the kind of store that the machine has. */
+void dconfdb_machines_folder(bool is_dconfs, DconfdbBytes *folder);
 
 /* A key that is set, or a lock, and what the installed schemas have of it. */
 typedef struct {

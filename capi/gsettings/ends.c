@@ -91,7 +91,7 @@ static void wait_by(DconfdbBackend *self, Passes *passes, DconfdbPatience *patie
         passes(self, &progress);
         changed = folder_written(self->place.folder);
         now = g_get_monotonic_time();
-        if (g_atomic_int_get(&self->is_writing))
+        if (g_atomic_int_get(&self->has_work))
             progress.moved = (uint64_t)now;
     }
 }

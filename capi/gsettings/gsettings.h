@@ -173,7 +173,7 @@ typedef struct {
     bool has_ended;
     GHashTable *subscribed;
     GHashTable *asked;  /* main contexts that are to say whether they turn */
-    bool is_to_watch;   /* one has turned: somebody may be told */
+    bool has_turned;    /* one does */
     GQueue untold;      /* notices that the worker is to tell */
     bool has_worker;
     bool is_over; /* it does nothing more */
@@ -182,7 +182,7 @@ typedef struct {
     int wakes; /* what wakes it; -1: nothing yet */
 
     gint looks_begun; /* how many; atomic */
-    gint is_writing;  /* the worker writes, or is to try again; atomic */
+    gint has_work;    /* the worker has, as the proved call says; atomic */
     gint is_reopened; /* other files may be the store's, and are to be watched; atomic */
     gint is_let_go;   /* nobody holds the backend any longer; atomic */
     gint has_given_up; /* the worker, at the program's end; atomic */
@@ -281,9 +281,10 @@ static inline bool is_at_work(const DconfdbBackend *self)
 void know_what_waits(const DconfdbBackend *self, DconfdbRound *known);
 void know_before_write(const DconfdbBackend *self, DconfdbRound *known);
 
-/* What is asked of it: to be there; `is_news`, to see to something new; `is_owed`, which else is done by who asks. */
+/* What is asked of it: to be there; `is_news`, to see to something new; `is_owed`, which else is done by who asks. Or somebody listens who didn't, or
+ * whose main context didn't turn. */
 typedef struct {
-    bool is_wanted, is_news, is_owed;
+    bool is_wanted, is_news, is_owed, listens;
 } Need;
 
 /* Begins it, and wakes it, as the proved call says, whose last word it gives: DCONFDB_NEED_TOLD, it sees to what is new; DCONFDB_NEED_HERE, who asks

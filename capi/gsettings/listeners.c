@@ -1,4 +1,4 @@
-/* Who listens to the backend: as soon as one of their main contexts turns, the files are watched. */
+/* Who listens to the backend, and whether one of their main contexts turns: then there is somebody to be told. */
 #include "backend.h"
 
 /* A main context that is to say that it turns. It may never do so, and the backend be gone by then. */
@@ -21,15 +21,14 @@ static void is_answered(gpointer data)
     g_free(asked);
 }
 
-/* Signals have somebody to come to: from now on the files are watched. */
 static gboolean has_turned(gpointer data)
 {
     DconfdbBackend *self = g_weak_ref_get(&((Asked *)data)->backend);
     if (!self)
         return G_SOURCE_REMOVE;
     g_mutex_lock(&self->lock);
-    self->is_to_watch = true;
-    worker_need(self, &(const Need){.is_wanted = true, .is_news = true});
+    self->has_turned = true;
+    worker_need(self, &(const Need){.listens = true});
     g_mutex_unlock(&self->lock);
     g_object_unref(self);
     return G_SOURCE_REMOVE;
@@ -41,7 +40,7 @@ static void ask_whether_it_turns(DconfdbBackend *self)
 {
     GMainContext *context = g_main_context_ref_thread_default();
     g_mutex_lock(&self->lock);
-    bool is_new = !self->is_to_watch && g_hash_table_add(self->asked, context);
+    bool is_new = !self->has_turned && g_hash_table_add(self->asked, context);
     g_mutex_unlock(&self->lock);
     if (is_new) {
         Asked *asked = g_new(Asked, 1);
@@ -62,7 +61,7 @@ void dconfdb_backend_subscribe(GSettingsBackend *backend, const char *name)
     g_mutex_lock(&self->lock);
     guint count = GPOINTER_TO_UINT(g_hash_table_lookup(self->subscribed, name));
     g_hash_table_insert(self->subscribed, g_strdup(name), GUINT_TO_POINTER(count + 1));
-    worker_need(self, &(const Need){.is_wanted = true, .is_news = self->is_to_watch});
+    worker_need(self, &(const Need){.listens = true});
     g_mutex_unlock(&self->lock);
     ask_whether_it_turns(self);
 }

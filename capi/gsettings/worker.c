@@ -79,12 +79,12 @@ void know_before_write(const DconfdbBackend *self, DconfdbRound *known)
     known->asks = known->is_watched && waiting_asks(&self->waiting);
 }
 
-/* Who waits at the program's end waits on while it has something to do, or is to try again. */
+/* Also for who waits at the program's end. */
 static void know_where_it_is(DconfdbBackend *self, DconfdbRound *known)
 {
     known->again = (uint64_t)self->again;
     known->is_in_line = self->wait != NULL;
-    g_atomic_int_set(&self->is_writing, known->waits || known->again != 0 || known->is_in_line);
+    g_atomic_int_set(&self->has_work, dconfdb_has_work(known));
 }
 
 /* What was asked for once counts once. */
@@ -96,7 +96,7 @@ static DconfdbRound know_all(DconfdbBackend *self)
     known.ends = self->has_ended;
     known.is_let_go = g_atomic_int_get(&self->is_let_go);
     known.has_untold = self->untold.length > 0;
-    known.is_to_watch = self->is_to_watch;
+    known.has_turned = self->has_turned;
     known.is_asked = self->is_asked;
     self->is_asked = false;
     g_mutex_unlock(&self->lock);
@@ -229,7 +229,9 @@ uint32_t worker_need(DconfdbBackend *self, const Need *need)
                            .has_wake = self->wakes >= 0,
                            .is_wanted = need->is_wanted,
                            .is_news = need->is_news,
-                           .is_owed = need->is_owed};
+                           .is_owed = need->is_owed,
+                           .listens = need->listens,
+                           .has_turned = self->has_turned};
     uint32_t task = DCONFDB_WRITER_BEGINS;
     while ((task = dconfdb_writer_after(DCONFDB_WRITER_NEED, task, true, &known)) < DCONFDB_NEED_TOLD)
         see_to(self, task, &known);
@@ -255,7 +257,7 @@ bool worker_is_this(const DconfdbBackend *self)
 
 void worker_tells(DconfdbBackend *self, Notice *notice, bool is_news)
 {
-    const Need need = {is_news, is_news, is_news};
+    const Need need = {.is_wanted = is_news, .is_news = is_news, .is_owed = is_news};
     g_mutex_lock(&self->lock);
     bool tells = worker_need(self, &need) == DCONFDB_NEED_TOLD;
     if (tells) {

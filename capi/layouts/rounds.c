@@ -5,35 +5,50 @@
 #include <string.h>
 
 uint32_t dconfdb_round_after(uint32_t task, const void *known);
+bool dconfdb_has_work(const void *known);
 uint32_t dconfdb_glance_after(uint32_t task, const void *known);
 uint32_t dconfdb_writer_after(uint32_t what, uint32_t task, bool yes, const void *known);
 
 /* What is known of a round is read alone, too: the numbers, and the fields of which these are so. */
 enum { ROUND_AGAIN = 0, ROUND_MOMENT = 8, ROUND_FAILED = 16, ROUND_LAST_TRY = 24, ROUND_FLAGS = 32, ROUND_ENDS = 32, ROUND_IS_LET_GO = 33,
-       ROUND_WAITS = 34, ROUND_IS_IN_LINE = 35, ROUND_HAS_ASKED = 36, ROUND_HAS_UNTOLD = 37, ROUND_IS_TO_WATCH = 38,
+       ROUND_WAITS = 34, ROUND_IS_IN_LINE = 35, ROUND_HAS_ASKED = 36, ROUND_HAS_UNTOLD = 37, ROUND_HAS_TURNED = 38,
        ROUND_IS_ASKED = 39, ROUND_ASKS = 40, ROUND_IS_WATCHED = 41, ROUND_IS_OTHERS = 42, ROUND = 48 };
-enum { IT_ENDS = 1, LET_GO = 2, IT_WAITS = 4, IN_LINE = 8, HAS_ASKED = 16, UNTOLD = 32, TO_WATCH = 64, ASKED = 128, ASKS = 256, WATCHED = 512,
+enum { IT_ENDS = 1, LET_GO = 2, IT_WAITS = 4, IN_LINE = 8, HAS_ASKED = 16, UNTOLD = 32, TURNED = 64, ASKED = 128, ASKS = 256, WATCHED = 512,
        OTHERS = 1024 };
 
-static bool is_after(uint32_t task, const uint64_t numbers[4], unsigned fields, uint32_t next)
+static void round_of(uint8_t *known, const uint64_t numbers[4], unsigned fields)
 {
-    _Alignas(16) uint8_t known[ROUND] = {0};
+    memset(known, 0, ROUND);
     memcpy(known, numbers, ROUND_FLAGS);
     for (int i = 0; i < ROUND_IS_OTHERS + 1 - ROUND_FLAGS; i++)
         known[ROUND_FLAGS + i] = fields >> i & 1;
+}
+
+static bool is_after(uint32_t task, const uint64_t numbers[4], unsigned fields, uint32_t next)
+{
+    _Alignas(16) uint8_t known[ROUND];
+    round_of(known, numbers, fields);
     return dconfdb_round_after(task, known) == next;
+}
+
+static bool works(const uint64_t numbers[4], unsigned fields)
+{
+    _Alignas(16) uint8_t known[ROUND];
+    round_of(known, numbers, fields);
+    return dconfdb_has_work(known);
 }
 
 static void finds_round(void)
 {
     static const uint64_t none[4] = {0}, later[4] = {5, 4, 0, 0}, due[4] = {5, 5, 0, 0}, old[4] = {5, 0, 2, 2}, failed[4] = {5, 0, 2, 1};
-    is_so(is_after(0, none, 0, 7) && is_after(0, none, UNTOLD, 1) && is_after(0, none, TO_WATCH, 2) && is_after(0, none, IT_ENDS, 8), "DconfdbRound");
+    is_so(is_after(0, none, 0, 7) && is_after(0, none, UNTOLD, 1) && is_after(0, none, TURNED, 2) && is_after(0, none, IT_ENDS, 8), "DconfdbRound");
     is_so(is_after(0, later, IT_WAITS, 7) && is_after(0, due, IT_WAITS, 3) && is_after(0, due, IT_WAITS | WATCHED, 4), "DconfdbRound");
     is_so(is_after(0, due, IT_WAITS | WATCHED | ASKS, 3) && is_after(3, later, IT_WAITS | ASKED, 4), "DconfdbRound");
     is_so(is_after(3, later, IT_WAITS | IN_LINE, 4) && is_after(0, none, IN_LINE, 6) && is_after(4, later, 0, 6), "DconfdbRound");
     is_so(is_after(4, later, IT_WAITS | HAS_ASKED, 5) && is_after(4, later, IT_WAITS, 7), "DconfdbRound");
     is_so(is_after(4, later, IT_WAITS | HAS_ASKED | OTHERS, 5) && is_after(4, later, IT_WAITS | HAS_ASKED | OTHERS | IN_LINE, 7), "DconfdbRound");
     is_so(is_after(6, none, IT_ENDS | IN_LINE, 8) && is_after(6, none, IT_ENDS | IN_LINE | LET_GO, 7), "DconfdbRound");
+    is_so(works(none, IT_WAITS) && works(none, IN_LINE) && works(later, 0) && !works(none, HAS_ASKED | UNTOLD | TURNED | ASKED), "DconfdbRound");
     is_so(is_after(4, old, IT_ENDS | IT_WAITS, 7) && is_after(4, failed, IT_ENDS | IT_WAITS, 9), "DconfdbRound");
     lies("DconfdbRound", "again", ROUND_AGAIN, WORD);
     lies("DconfdbRound", "moment", ROUND_MOMENT, WORD);
@@ -45,7 +60,7 @@ static void finds_round(void)
     lies("DconfdbRound", "is_in_line", ROUND_IS_IN_LINE, FLAG);
     lies("DconfdbRound", "has_asked", ROUND_HAS_ASKED, FLAG);
     lies("DconfdbRound", "has_untold", ROUND_HAS_UNTOLD, FLAG);
-    lies("DconfdbRound", "is_to_watch", ROUND_IS_TO_WATCH, FLAG);
+    lies("DconfdbRound", "has_turned", ROUND_HAS_TURNED, FLAG);
     lies("DconfdbRound", "is_asked", ROUND_IS_ASKED, FLAG);
     lies("DconfdbRound", "asks", ROUND_ASKS, FLAG);
     lies("DconfdbRound", "is_watched", ROUND_IS_WATCHED, FLAG);
@@ -56,7 +71,7 @@ static void finds_round(void)
 enum { SYNC_HAS_WRITER = 0, SYNC_HAS_FAILED = 1, SYNC_HAS_STORE = 2, SYNC_HAS_LOOKED = 3, SYNC_IS_TO_SETTLE = 4, SYNC = 5 };
 enum { WRITER_SETTLED = 0, WRITER_ADDED = 8, WRITER_BEGUN_IN = 16, WRITER_PROCESS = 20, WRITER_SYNC = 24, WRITER_HAS_STORE = 29, WRITER_HAS_ENDED = 30,
        WRITER_HAS_THREAD = 31, WRITER_HAS_WAKE = 32, WRITER_HAS_LINE = 33, WRITER_IS_WANTED = 34, WRITER_IS_NEWS = 35, WRITER_IS_OWED = 36,
-       WRITER_EXITS = 37, WRITER_IS_THREAD = 38, WRITER_IS_LET_GO = 39, WRITER_END = 40 };
+       WRITER_LISTENS = 37, WRITER_HAS_TURNED = 38, WRITER_EXITS = 39, WRITER_IS_THREAD = 40, WRITER_IS_LET_GO = 41, WRITER_END = 42, WRITER_SIZE = 48 };
 
 /* Which call is asked, and what is answered to it. */
 typedef struct {
@@ -67,7 +82,7 @@ typedef struct {
 /* What comes next, by the numbers and the flags of what is known of who writes: `flags` from those of a sync on. */
 static uint32_t written_by(AskedOf asked, uint64_t settled, uint64_t added, uint32_t process, unsigned flags)
 {
-    _Alignas(16) uint8_t known[WRITER_END] = {0};
+    _Alignas(16) uint8_t known[WRITER_SIZE] = {0};
     memcpy(known + WRITER_SETTLED, &settled, sizeof settled);
     memcpy(known + WRITER_ADDED, &added, sizeof added);
     memcpy(known + WRITER_PROCESS, &process, sizeof process);
@@ -84,12 +99,14 @@ static bool is_due(uint32_t task, unsigned fields, uint32_t next)
 /* At first nothing is to be done; each flag changes that, or what else is so. */
 static void finds_writer(void)
 {
-    enum { A_STORE = 32, ENDED = 64, THREAD = 128, WAKE = 256, LINE = 512, WANTED = 1024, NEWS = 2048, OWED = 4096, EXITS = 8192, ITSELF = 16384,
-           GONE = 32768 };
+    enum { A_STORE = 32, ENDED = 64, THREAD = 128, WAKE = 256, LINE = 512, WANTED = 1024, NEWS = 2048, OWED = 4096, LISTENS = 8192, HAS_TURNED = 16384,
+           EXITS = 32768, ITSELF = 65536, GONE = 131072 };
     const AskedOf need = {0, 0, true}, line = {1, 0, true}, sync = {3, 0, true}, end = {2, 0, true}, marked = {2, 1, true}, counted = {2, 8, true}, waited = {3, 3, true};
     is_so(written_by(need, 0, 0, 0, 0) == 5 && written_by(need, 0, 0, 0, WANTED | A_STORE) == 1, "DconfdbWriter");
     is_so(written_by(need, 0, 0, 0, WANTED | A_STORE | WAKE) == 2 && written_by(need, 0, 0, 1, WANTED | A_STORE | WAKE) == 5, "DconfdbWriter");
     is_so(written_by(need, 0, 0, 0, WANTED | A_STORE | WAKE | ENDED) == 5 && written_by(need, 0, 0, 0, THREAD | NEWS) == 3, "DconfdbWriter");
+    is_so(written_by(need, 0, 0, 0, LISTENS | A_STORE) == 1 && written_by(need, 0, 0, 0, THREAD | LISTENS) == 5, "DconfdbWriter");
+    is_so(written_by(need, 0, 0, 0, THREAD | HAS_TURNED) == 5 && written_by(need, 0, 0, 0, THREAD | LISTENS | HAS_TURNED) == 3, "DconfdbWriter");
     is_so(written_by(need, 0, 0, 0, OWED) == 4 && written_by(line, 0, 0, 0, LINE) == 4 && written_by(line, 0, 0, 0, ITSELF) == 1, "DconfdbWriter");
     is_so(written_by(line, 0, 0, 0, LINE | ITSELF) == 3 && written_by(sync, 0, 0, 0, 0) == 2 && written_by(sync, 0, 0, 1, 0) == 7, "DconfdbWriter");
     is_so(written_by(end, 0, 0, 0, EXITS) == 1 && written_by(end, 0, 0, 1, EXITS) == 11 && written_by(end, 0, 0, 1, 0) == 1, "DconfdbWriter");
@@ -109,10 +126,12 @@ static void finds_writer(void)
     lies("DconfdbWriter", "is_wanted", WRITER_IS_WANTED, FLAG);
     lies("DconfdbWriter", "is_news", WRITER_IS_NEWS, FLAG);
     lies("DconfdbWriter", "is_owed", WRITER_IS_OWED, FLAG);
+    lies("DconfdbWriter", "listens", WRITER_LISTENS, FLAG);
+    lies("DconfdbWriter", "has_turned", WRITER_HAS_TURNED, FLAG);
     lies("DconfdbWriter", "exits", WRITER_EXITS, FLAG);
     lies("DconfdbWriter", "is_thread", WRITER_IS_THREAD, FLAG);
     lies("DconfdbWriter", "is_let_go", WRITER_IS_LET_GO, FLAG);
-    printf("TAKES(DconfdbWriter, %d);\n", WRITER_END);
+    printf("TAKES(DconfdbWriter, %d);\n", WRITER_SIZE);
 }
 
 static void finds_sync(void)
@@ -128,9 +147,9 @@ static void finds_sync(void)
     printf("TAKES(DconfdbSync, %d);\n", SYNC);
 }
 
-enum { GLANCE_FIRST = 0, GLANCE_SECOND = 4, GLANCE_FLAGS = 8, GLANCE_IS_OPEN = 8, GLANCE_IS_DONE = 9, GLANCE_IS_SHOWN = 10,
-       GLANCE_IS_OTHER = 11, GLANCE_WAITS = 12, GLANCE_HAS_SAME_FILES = 13, GLANCE_IS_BARRED = 14, GLANCE_IS_AMID = 15,
-       GLANCE_IS_LATE = 16, GLANCE_IS_TO_SETTLE = 17, GLANCE = 20 };
+enum { GLANCE_FIRST = 0, GLANCE_SECOND = 4, GLANCE_FLAGS = 8, GLANCE_IS_OPEN = 8, GLANCE_KEEPS_PROFILE = 9, GLANCE_IS_DONE = 10,
+       GLANCE_IS_SHOWN = 11, GLANCE_IS_OTHER = 12, GLANCE_WAITS = 13, GLANCE_HAS_SAME_FILES = 14, GLANCE_IS_BARRED = 15, GLANCE_IS_AMID = 16,
+       GLANCE_IS_LATE = 17, GLANCE_IS_TO_SETTLE = 18, GLANCE = 20 };
 
 static bool is_next(uint32_t task, uint32_t first, uint32_t second, unsigned fields, uint32_t next)
 {
@@ -144,8 +163,10 @@ static bool is_next(uint32_t task, uint32_t first, uint32_t second, unsigned fie
 
 static void finds_glance(void)
 {
-    enum { IS_OPEN = 1, IS_DONE = 2, IS_SHOWN = 4, IS_OTHER = 8, SETS_WAIT = 16, SAME_FILES = 32, BARRED = 64, AMID = 128, LATE = 256, SETTLES = 512 };
+    enum { IS_OPEN = 1, KEEPS = 2, IS_DONE = 4, IS_SHOWN = 8, IS_OTHER = 16, SETS_WAIT = 32, SAME_FILES = 64, BARRED = 128, AMID = 256, LATE = 512,
+           SETTLES = 1024 };
     is_so(is_next(0, 0, 0, 0, 2) && is_next(0, 0, 0, IS_OPEN, 1) && is_next(0, 2, 0, IS_OPEN, 3), "DconfdbGlance");
+    is_so(is_next(0, 2, 1, IS_OPEN | KEEPS, 1) && is_next(0, 0, 0, KEEPS, 2), "DconfdbGlance");
     is_so(is_next(0, 2, 1, IS_OPEN, 2) && is_next(1, 0, 0, IS_OPEN | IS_DONE, 4), "DconfdbGlance");
     is_so(is_next(1, 0, 0, IS_OPEN | IS_DONE | IS_SHOWN, 9) && is_next(1, 0, 0, IS_OPEN | IS_SHOWN, 4), "DconfdbGlance");
     is_so(is_next(4, 0, 0, IS_OTHER, 10) && is_next(4, 0, 0, SETS_WAIT, 10) && is_next(4, 0, 0, IS_OTHER | SETS_WAIT, 5), "DconfdbGlance");
@@ -155,6 +176,7 @@ static void finds_glance(void)
     lies("DconfdbGlance", "first", GLANCE_FIRST, NUMBER);
     lies("DconfdbGlance", "second", GLANCE_SECOND, NUMBER);
     lies("DconfdbGlance", "is_open", GLANCE_IS_OPEN, FLAG);
+    lies("DconfdbGlance", "keeps_profile", GLANCE_KEEPS_PROFILE, FLAG);
     lies("DconfdbGlance", "is_done", GLANCE_IS_DONE, FLAG);
     lies("DconfdbGlance", "is_shown", GLANCE_IS_SHOWN, FLAG);
     lies("DconfdbGlance", "is_other", GLANCE_IS_OTHER, FLAG);

@@ -78,7 +78,7 @@ static bool open_store(Engine *self, DconfdbError *error)
 
 /* ---- looks at the files */
 
-/* A look, and what is known of it. A profile is read once, as dconf's client does it: so it is the one that was read. */
+/* A look, and what is known of it. */
 typedef struct {
     DconfdbGlance known;
     DconfdbStore *store; /* NULL: none is open */
@@ -123,7 +123,7 @@ static void look(Engine *self, Looking *it)
 {
     uint32_t task = DCONFDB_GLANCE_BEGINS;
     it->before = it->store ? dconfdb_store_snapshot(it->store) : NULL;
-    it->known.first = it->known.second = DCONFDB_FILE_SAME;
+    it->known.keeps_profile = true; /* as dconf's client reads it once */
     it->known.is_open = it->store != NULL;
     while ((task = dconfdb_glance_after(task, &it->known)) < DCONFDB_GLANCE_SEEN)
         carry_out(self, task, it);

@@ -107,15 +107,33 @@ static bool refuse_place(DconfdbError *error, uint32_t of, int fault, const char
     return tell_met(error, &met, &name, place);
 }
 
-static bool find_kind(Asked *asked, StorePlace *place, DconfdbError *error)
+/* False: nobody knows it. */
+static bool find_kind(Asked *asked, bool *is_dconfs)
 {
     uint32_t known = DCONFDB_KNOWN_NOTHING, kind = dconfdb_place_kind(&asked->environment, asked->giver, known);
     while (kind > DCONFDB_KIND_UNKNOWN) {
         known = ask_for_kind(asked, kind);
         kind = dconfdb_place_kind(&asked->environment, asked->giver, known);
     }
-    place->is_dconfs = kind == DCONFDB_KIND_DCONFS;
-    return kind != DCONFDB_KIND_UNKNOWN || refuse_place(error, DCONFDB_FAULT_OF_KIND, asked->fault, machine_file, (Place){.line = asked->fault == 0});
+    *is_dconfs = kind == DCONFDB_KIND_DCONFS;
+    return kind != DCONFDB_KIND_UNKNOWN;
+}
+
+static bool has_kind(Asked *asked, StorePlace *place, DconfdbError *error)
+{
+    return find_kind(asked, &place->is_dconfs) ||
+           refuse_place(error, DCONFDB_FAULT_OF_KIND, asked->fault, machine_file, (Place){.line = asked->fault == 0});
+}
+
+bool place_kind(bool *is_dconfs, const char **file, int *fault)
+{
+    Asked asked;
+    begin_asking(&asked, "", DCONFDB_GIVEN_BY_NOBODY);
+    bool is_known = find_kind(&asked, is_dconfs);
+    *file = machine_file;
+    *fault = asked.fault;
+    file_release(&asked.machine);
+    return is_known;
 }
 
 static bool find_folder(const Asked *asked, StorePlace *place, DconfdbError *error)
@@ -186,7 +204,7 @@ static bool find(const char *folder, uint32_t giver, StorePlace *place, DconfdbE
     Asked asked;
     begin_asking(&asked, folder ? folder : "", folder ? giver : (uint32_t)DCONFDB_GIVEN_BY_NOBODY);
     *place = (StorePlace){.is_given = folder != NULL};
-    bool is_found = find_kind(&asked, place, error) && find_folder(&asked, place, error) && find_profile(&asked, place, error) &&
+    bool is_found = has_kind(&asked, place, error) && find_folder(&asked, place, error) && find_profile(&asked, place, error) &&
                     find_dconfs(&asked, place, error);
     file_release(&asked.machine);
     if (is_found)

@@ -24,6 +24,10 @@ bool place_find(const char *folder, StorePlace *place, DconfdbError *error);
 /* The same, but that a folder that is given has its own profile, whatever $DCONFDB_PROFILE names. */
 bool place_of_caller(const char *folder, StorePlace *place, DconfdbError *error);
 
+/* Of which kind the machine's store is, where nobody names a folder. False: nobody knows, as that file says something else, or can't be read, by
+ * that errno. */
+bool place_kind(bool *is_dconfs, const char **file, int *fault);
+
 void place_release(StorePlace *place);
 
 /* dconfdb_store_open_lenient and dconfdb_store_files, of a place. Where the profile is named, and can't be had, there
@@ -37,5 +41,8 @@ const char *place_profile_name(const StorePlace *place);
 
 /* Where an open store is. It isn't to be released. */
 const StorePlace *place_of(const DconfdbStore *store);
+
+/* What its profile calls the user's database, in so many bytes; or NULL. */
+const char *place_user(const DconfdbStore *store, size_t *len);
 
 #endif

@@ -31,12 +31,13 @@ static bool has_kept(const DconfdbStore *store)
 
 /* ---- the databases of a profile */
 
-/* A user's database, by its file and the flag of its readers. False: no memory is left. */
-static bool has_users(DconfdbStore *store, char *file, const DconfdbPath *flag)
+/* A user's database, by its file, whose name begins with its own, and the flag of its readers. False: no memory is left. */
+static bool has_users(DconfdbStore *store, char *file, size_t name_len, const DconfdbPath *flag)
 {
     bool has_flag = path_len(flag) > 0;
     store->user_file = file;
     store->own_name = strrchr(file, '/') + 1;
+    store->users_len = name_len;
     store->flag = has_flag ? path_text(flag) : NULL;
     return store->flag || !has_flag;
 }
@@ -67,7 +68,7 @@ static bool name_file(DconfdbStore *store, DconfdbBytes profile, const DconfdbNa
     if (!file)
         return refuse_memory(error);
     store->files[store->count++] = file;
-    return !is_users || has_users(store, file, &flag) || refuse_memory(error);
+    return !is_users || has_users(store, file, name.len, &flag) || refuse_memory(error);
 }
 
 /* Where there are more than the room takes, nothing is put into it. */

@@ -140,6 +140,12 @@ const StorePlace *place_of(const DconfdbStore *store)
     return &store->place;
 }
 
+const char *place_user(const DconfdbStore *store, size_t *len)
+{
+    *len = store->users_len;
+    return store->own_name;
+}
+
 Notices *notices_of(DconfdbStore *store)
 {
     return &store->notices;

@@ -26,6 +26,7 @@ struct DconfdbStore {
     StorePlace place;
     char *user_file; /* absolute; NULL: no user's database */
     const char *own_name; /* of that in its folder */
+    size_t users_len;     /* so much of that is the name that the profile has for it */
     char *flag;           /* of dconf's readers of it; NULL: there are none */
     size_t count;
     char *files[MOST_DATABASES];

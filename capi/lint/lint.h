@@ -184,7 +184,7 @@ bool site_makes(const Site *site, const DconfdbBytes *name);
 
 /* ---- found.c */
 
-/* The folder that `update` takes if none is named; or NULL, and it is said why. */
-const char *found_folder(void);
+/* The folder that `update` takes if none is named, to be freed; or NULL, and it is said why. */
+char *found_folder(void);
 
 #endif

@@ -150,8 +150,9 @@ static int place_all(Schemas *schemas, const GPtrArray *placed)
 /* Without a name, what `update` takes without one. */
 static int check_all(const Schemas *schemas, const Wanted *wanted)
 {
-    const char *found = wanted->files->len + wanted->folders->len == 0 ? found_folder() : NULL;
-    if (wanted->files->len + wanted->folders->len == 0 && !found)
+    bool is_named = wanted->files->len + wanted->folders->len > 0;
+    g_autofree char *found = is_named ? NULL : found_folder();
+    if (!is_named && !found)
         return 1;
     check_files(schemas, (char *const *)wanted->files->pdata, wanted->files->len);
     for (guint i = 0; i < wanted->folders->len; i++)

@@ -92,8 +92,8 @@ static void on_no_name(GDBusConnection *bus, const char *name, gpointer data)
 
 /* ---- its life */
 
-/* What others change is told from the start, also before somebody writes. Where it can't be opened each call tries it again. */
-static void open_users(Service *service)
+/* Where it can't be opened each call tries it again. */
+static void open_user(Service *service)
 {
     DconfdbError error = DCONFDB_ERROR_INIT;
     if (!writer_named(service, "user", &error))
@@ -148,14 +148,26 @@ static void make_folder(const char *path)
         g_printerr("dconfdb-service: %s: %s\n", path, g_strerror(errno));
 }
 
-/* A sandbox is given dconf's two folders if they are there when it starts, so they are made before anybody sets or reads. */
 static void make_folders(const StorePlace *place)
 {
-    if (!place->is_dconfs)
-        return;
     g_autofree char *flags = g_build_filename(g_get_user_runtime_dir(), "dconf", NULL);
     make_folder(place->folder);
     make_folder(flags);
+}
+
+/* False: there is no bus. */
+static bool begin(Service *service)
+{
+    uint32_t task = DCONFDB_BEGINS_SERVING;
+    if (!connect_bus(service))
+        return false;
+    while ((task = dconfdb_served_begins(task, service->place.is_dconfs)) < DCONFDB_BEGINS_SERVES) {
+        if (task == DCONFDB_BEGINS_FOLDERS)
+            make_folders(&service->place);
+        else
+            open_user(service);
+    }
+    return true;
 }
 
 static int serve(const char *folder)
@@ -166,13 +178,9 @@ static int serve(const char *folder)
         say(error.text);
         return 1;
     }
-    make_folders(&service.place);
     service.loop = g_main_loop_new(NULL, FALSE);
     service.writers = g_hash_table_new_full(g_str_hash, g_str_equal, NULL, (GDestroyNotify)writer_free);
-    bool is_ready = connect_bus(&service);
-    if (is_ready)
-        open_users(&service);
-    bool is_running = is_ready && service_begin_writing(&service);
+    bool is_ready = begin(&service), is_running = is_ready && service_begin_writing(&service);
     if (is_running)
         run(&service);
     else if (is_ready)

@@ -4,6 +4,7 @@ pub mod Numbers
 pub mod Findings
 pub mod Slips
 pub mod Folders
+pub mod Machines
 pub mod Nearness
 pub mod Places
 pub mod Sites

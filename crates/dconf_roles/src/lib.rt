@@ -1,5 +1,6 @@
 //! As what the files are looked at that a site makes its databases of: by what stands in them, and below a folder NAME.d as `update` reads
-//! them; what is found wrong there, by what the installed schemas have, and which name is the nearest to one that they don't have.
+//! them; what is found wrong there, by what the installed schemas have, and which name is the nearest to one that they don't have; and where a
+//! machine has its own.
 //!
 //! A path is gone through folder by folder: of each comes the [`Role`] of the files in it. Nothing is opened here.
 #![tactic(auto)]
@@ -11,6 +12,7 @@ ghost use Rattle.dconf_roles.specs.Sites.{WhatUpdateCompilesIsTaken};
 
 mod findings;
 mod folders;
+mod machines;
 mod nearness;
 mod numbers;
 mod places;
@@ -21,6 +23,7 @@ mod slips;
 
 pub use findings::{Finding, FindingKnown, finding_for, finding_number, finding_of};
 pub use folders::{is_read, role_of, sources_in};
+pub use machines::machines_folder;
 pub use nearness::{Nearing, is_nearer};
 pub use numbers::{entry_number, reading_number};
 pub use places::{Place, is_over, next_place};

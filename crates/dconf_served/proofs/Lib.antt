@@ -1,1 +1,2 @@
+pub mod BeginsLaws
 pub mod ServedLaws

@@ -1,13 +1,16 @@
 //! What the D-Bus service answers to a call that changes settings, and when: once it came, once it is read, after each try to write it, and
-//! at the service's end; and which store has the database that a call names.
+//! at the service's end; which store has the database that a call names; and what it does before it serves.
 //!
 //! Nothing is kept here: each call is told what is known, and says what becomes of the change.
 #![tactic(auto)]
 
+ghost use Rattle.dconf_served.specs.Begins.{OthersAreToldOfFromTheStart};
 ghost use Rattle.dconf_served.specs.Served.{LocksCountWhereTheyAreKnown, NothingIsAnsweredUnwritten, WhatIsMadeIsTold, WhatIsSentCounts, WhatWaitsIsBounded, WhoWaitsIsToldAtTheEnd};
 
+mod begins;
 mod served;
 
+pub use begins::{Begins, begins_after, begins_number};
 pub use served::{Served, ServedKnown, served_after, served_number};
 
 /// A change is acknowledged only if all that can be made of it is on the disk, or nothing of it was to be made; and once it is written, or
@@ -42,4 +45,9 @@ pub fn what_is_sent_counts()
 /// Of each edit of a change that is written it is told that it is made, or that it isn't; and of no other. What can't be made is left out by itself.
 pub fn what_is_made_is_told()
     ensures { WhatIsMadeIsTold }
+{}
+
+/// Before it serves anybody the database `user` is open, and dconf's folders are there, where the store is of dconf's kind.
+pub fn others_are_told_of_from_the_start()
+    ensures { OthersAreToldOfFromTheStart }
 {}

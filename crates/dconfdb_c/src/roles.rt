@@ -3,6 +3,7 @@ ghost use Rattle.std.specs.Prelude.{◌≡◌, ◌≢◌, ◌≤◌, false, if�
 ghost use Rattle.std.specs.List.{list_any};
 ghost use Rattle.dconf_roles.specs.Folders.{is_read, role_of, sources_in};
 ghost use Rattle.dconf_roles.specs.Findings.{finding_for, finding_number};
+ghost use Rattle.dconf_roles.specs.Machines.{machines_folder};
 ghost use Rattle.dconf_roles.specs.Nearness.{is_nearer, nearing_after};
 ghost use Rattle.dconf_roles.specs.Numbers.{entry_number, reading_number};
 ghost use Rattle.dconf_roles.specs.Places.{is_over, next_place};
@@ -11,9 +12,10 @@ ghost use Rattle.dconf_roles.specs.Roles.{role_among};
 ghost use Rattle.dconf_roles.specs.Sites.{stem_len};
 ghost use Rattle.dconf_roles.specs.Slips.{is_slip};
 
+use crate::open::DconfdbText;
 use dconf_roles::{
     EntryKnown, FindingKnown, Name, Nearing, entry_number, finding_number, is_nearer, is_over,
-    is_read, next_place, reading_number, role_of, sources_in, stem_len,
+    is_read, machines_folder, next_place, reading_number, role_of, sources_in, stem_len,
 };
 use std::alloc::Global;
 
@@ -47,6 +49,16 @@ pub extern "C" fn dconfdb_read_as(
         return entry_number(entry, name, size, text);
     }
     reading_number(role, entry.is_one_read, size, text)
+}
+
+/// The folder of the sources and databases that `update` takes if none is named, by the kind of store that the machine has.
+#[unsafe(no_mangle)]
+pub extern "C" fn dconfdb_machines_folder(is_dconfs: bool, folder: &mut DconfdbText<'_>)
+    ensures { folder.new.text.now ≡ machines_folder is_dconfs }
+{
+    *folder = DconfdbText {
+        text: machines_folder(is_dconfs),
+    };
 }
 
 /// What is found of a key that is set, or of a lock, by what the schemas have: 0 nothing, 1 no schema has the key, 2 the locked key, 3 a key

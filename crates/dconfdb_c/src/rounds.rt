@@ -2,12 +2,12 @@
 //! store's files, and by who tells what is seen otherwise.
 ghost use Rattle.std.specs.Prelude.{◌≡◌};
 ghost use Rattle.dconf_rounds.specs.Glances.{glance_after, glance_number};
-ghost use Rattle.dconf_rounds.specs.Rounds.{is_at_work, task_after, task_number};
+ghost use Rattle.dconf_rounds.specs.Rounds.{has_work, is_at_work, task_after, task_number};
 ghost use Rattle.dconf_rounds.specs.Telling.{tell_next, telling_number};
 ghost use Rattle.dconf_rounds.specs.Writers.{writer_number};
 
 use dconf_rounds::{
-    GlanceKnown, Known, TellKnown, WriterKnown, glance_number, is_at_work, task_number,
+    GlanceKnown, Known, TellKnown, WriterKnown, glance_number, has_work, is_at_work, task_number,
     telling_number, writer_number,
 };
 
@@ -17,6 +17,14 @@ pub extern "C" fn dconfdb_is_at_work(has_ended: bool, begun_in: u32, process: u3
     ensures { result ≡ is_at_work has_ended begun_in process }
 {
     is_at_work(has_ended, begun_in, process)
+}
+
+/// Whether the thread writes, or is to try again, or waits for its turn: as long as it does, the program's end waits for it.
+#[unsafe(no_mangle)]
+pub extern "C" fn dconfdb_has_work(known: &Known) -> bool
+    ensures { result ≡ has_work known.now }
+{
+    has_work(known)
 }
 
 /// What the thread that writes does next, once the first `done` tasks of a round were done, or were not due: 1 it tells, 2 watches, 3

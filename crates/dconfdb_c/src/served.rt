@@ -1,8 +1,9 @@
-//! What the D-Bus service answers.
+//! What the D-Bus service answers, and what it does before.
 ghost use Rattle.std.specs.Prelude.{◌≡◌};
+ghost use Rattle.dconf_served.specs.Begins.{begins_after, begins_number};
 ghost use Rattle.dconf_served.specs.Served.{served_after, served_number};
 
-use dconf_served::{ServedKnown, served_number};
+use dconf_served::{ServedKnown, begins_number, served_number};
 
 /// What becomes of a call that changes settings, once it came (`done` is 0), once it is read (1), after each try to write it (2), when it is told
 /// (3), at the service's end (4), when others are taken to be written (5), and once the stores were opened that may have its database (6); of a
@@ -16,4 +17,13 @@ pub extern "C" fn dconfdb_served_after(done: u32, known: &ServedKnown) -> u32
     ensures { result ≡ served_number (served_after done known.now) }
 {
     served_number(done, known)
+}
+
+/// What the service does before it serves, once the first `done` tasks were done, or were not due: 1 makes dconf's two folders, where the store is of
+/// dconf's kind, 2 opens the database `user`; 3 it serves.
+#[unsafe(no_mangle)]
+pub extern "C" fn dconfdb_served_begins(done: u32, is_dconfs: bool) -> u32
+    ensures { result ≡ begins_number (begins_after done is_dconfs) }
+{
+    begins_number(done, is_dconfs)
 }

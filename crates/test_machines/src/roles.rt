@@ -1,7 +1,7 @@
 //! As what the files of a site are looked at, and what is found there.
 use dconf_roles::{
     EntryKnown, FindingKnown, Name, Nearing, Role, entry_number, finding_number, is_nearer,
-    is_over, is_read, next_place, reading_number, role_of, sources_in, stem_len,
+    is_over, is_read, machines_folder, next_place, reading_number, role_of, sources_in, stem_len,
 };
 use std::alloc::{AllocError, Global};
 use std::test::Fail;
@@ -259,6 +259,7 @@ fn a_site_is_looked_at_as_update_looks_at_it(rt: HostRuntime) -> Result<(), Fail
     assert!(rt; what_update_makes_is_known() && what_is_hidden_is_left_out() && stems_are_found());
     assert!(rt; texts_of_a_site_are_read());
     assert!(rt; entry_number(&bad, &name, 0, &name) == 18);
+    assert!(rt; machines_folder(true) == b"/etc/dconf/db" && machines_folder(false) == b"/etc/dconfdb");
     Ok(())
 }
 

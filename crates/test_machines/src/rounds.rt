@@ -1,7 +1,7 @@
 //! What is done in turn by who writes what waits, by who has it written, or ends, or wants to know that it is on the disk, and by who looks at
 //! the files.
 use dconf_rounds::{
-    GlanceKnown, Known, SyncKnown, TellKnown, WriterKnown, glance_number, is_at_work, passes_over,
+    GlanceKnown, Known, SyncKnown, TellKnown, WriterKnown, glance_number, has_work, is_at_work, passes_over,
     sync_number, task_number, telling_number, writer_number,
 };
 use dconf_seen::Known as SeenKey;
@@ -19,7 +19,7 @@ const IDLE: Known = Known {
     is_in_line: false,
     has_asked: false,
     has_untold: false,
-    is_to_watch: false,
+    has_turned: false,
     is_asked: false,
     asks: false,
     is_watched: true,
@@ -30,7 +30,7 @@ fn tasks_are_due() -> bool {
     let busy = Known {
         waits: true,
         has_untold: true,
-        is_to_watch: true,
+        has_turned: true,
         asks: true,
         ..IDLE
     };
@@ -76,7 +76,7 @@ fn tasks_are_due() -> bool {
 fn threads_end() -> bool {
     let ending = Known {
         ends: true,
-        is_to_watch: true,
+        has_turned: true,
         ..IDLE
     };
     let waiting = Known {
@@ -145,6 +145,7 @@ fn looks_end() -> bool {
         first: 0,
         second: 0,
         is_open: true,
+        keeps_profile: false,
         is_done: true,
         is_shown: true,
         is_other: false,
@@ -178,6 +179,14 @@ fn looks_end() -> bool {
         is_open: false,
         ..same
     };
+    let kept = GlanceKnown {
+        keeps_profile: true,
+        ..other
+    };
+    let unread = GlanceKnown {
+        is_open: false,
+        ..kept
+    };
     let failed = GlanceKnown {
         is_done: false,
         is_to_settle: true,
@@ -192,6 +201,9 @@ fn looks_end() -> bool {
         && glance_number(0, &unsure) == 3
         && glance_number(0, &other) == 2
         && glance_number(0, &shut) == 2
+        && glance_number(0, &kept) == 1
+        && glance_number(5, &kept) == 9
+        && glance_number(0, &unread) == 2
         && glance_number(1, &same) == 9
         && glance_number(1, &changed) == 4
         && glance_number(4, &changed) == 5
@@ -369,6 +381,8 @@ const NOBODY: WriterKnown = WriterKnown {
     is_wanted: true,
     is_news: true,
     is_owed: true,
+    listens: false,
+    has_turned: false,
     exits: false,
     is_thread: false,
     is_let_go: false,
@@ -395,7 +409,25 @@ fn threads_are_begun_and_woken() -> bool {
         has_ended: true,
         ..begun
     };
-    writer_number(0, 0, true, &deaf) == 1
+    let hears = WriterKnown {
+        is_wanted: false,
+        is_news: false,
+        is_owed: false,
+        listens: true,
+        ..NOBODY
+    };
+    let quiet = WriterKnown {
+        has_thread: true,
+        ..hears
+    };
+    let turned = WriterKnown {
+        has_turned: true,
+        ..quiet
+    };
+    writer_number(0, 0, true, &hears) == 2
+        && writer_number(0, 0, true, &quiet) == 5
+        && writer_number(0, 0, true, &turned) == 3
+        && writer_number(0, 0, true, &deaf) == 1
         && writer_number(0, 0, true, &NOBODY) == 2
         && writer_number(0, 1, true, &deaf) == 4
         && writer_number(0, 0, true, &child) == 4
@@ -519,7 +551,22 @@ fn odd_keys_are_known() -> bool {
 }
 
 fn work_is_known() -> bool {
-    is_at_work(false, 7, 7) && !is_at_work(true, 7, 7) && !is_at_work(false, 7, 8)
+    let again = Known { again: 10, ..IDLE };
+    let waits = Known {
+        waits: true,
+        ..IDLE
+    };
+    let line = Known {
+        is_in_line: true,
+        ..IDLE
+    };
+    is_at_work(false, 7, 7)
+        && !is_at_work(true, 7, 7)
+        && !is_at_work(false, 7, 8)
+        && has_work(&again)
+        && has_work(&waits)
+        && has_work(&line)
+        && !has_work(&IDLE)
 }
 
 #[test]

@@ -1,5 +1,5 @@
 //! What the D-Bus service answers to a call that changes settings.
-use dconf_served::{ServedKnown, served_number};
+use dconf_served::{ServedKnown, begins_number, served_number};
 use std::test::Fail;
 
 /// A change of a few bytes, which nothing is in the way of.
@@ -243,6 +243,14 @@ fn no_service_db_is_served() -> bool {
     served_number(0, &other) == 17
 }
 
+fn it_serves_at_last() -> bool {
+    begins_number(0, true) == 1
+        && begins_number(0, false) == 2
+        && begins_number(1, true) == 2
+        && begins_number(2, true) == 3
+        && begins_number(2, false) == 3
+}
+
 #[test]
 fn calls_are_answered_once_they_are_written(rt: HostRuntime) -> Result<(), Fail> {
     assert!(rt; too_much_is_refused() && names_are_bounded());
@@ -250,6 +258,6 @@ fn calls_are_answered_once_they_are_written(rt: HostRuntime) -> Result<(), Fail>
     assert!(rt; who_waits_is_told_at_the_end() && a_name_has_a_store());
     assert!(rt; one_database_is_written_at_once() && who_has_no_name_ends());
     assert!(rt; each_path_counts() && the_last_of_a_path_counts() && sites_are_not_told());
-    assert!(rt; each_edit_is_told_of() && no_service_db_is_served());
+    assert!(rt; each_edit_is_told_of() && no_service_db_is_served() && it_serves_at_last());
     Ok(())
 }
