@@ -28,7 +28,7 @@ static void *room_for(Asking *asking, size_t count)
     return count <= SIZE_MAX / sizeof(AskedRoom) ? malloc(count * sizeof(AskedRoom)) : NULL;
 }
 
-/* `made` is NULL where all is asked for now. */
+/* `made` is NULL where all is one change that is asked for now. */
 bool asking_begin(Asking *asking, const DconfdbEdit *edits, const Made *made, size_t count)
 {
     asking->count = count;
@@ -44,7 +44,7 @@ bool asking_begin(Asking *asking, const DconfdbEdit *edits, const Made *made, si
     asking->is_left = (bool *)(asking->edits + count);
     for (size_t i = 0; i < count; i++) {
         asking->changes[i] = change_of_edit(&edits[i]);
-        asking->asked[i] = (DconfdbAsked){.path = asking->changes[i].path, .when = made ? made[i].moment : UINT64_MAX, .change = made ? made[i].change : i};
+        asking->asked[i] = (DconfdbAsked){.path = asking->changes[i].path, .when = made ? made[i].moment : UINT64_MAX, .change = made ? made[i].change : 0};
         asking->edits[i] = i;
     }
     return true;
