@@ -231,11 +231,11 @@ bool order_note_seen(Order *order, const DconfdbSeen *seen, size_t count)
     return true;
 }
 
-bool order_note_made(Order *order, const DconfdbTime *made, size_t count)
+bool order_note_made(Order *order, const DconfdbTime *made, size_t count, uint64_t *latest)
 {
     size_t most, len = 0;
     if (!begin_notes(order, count, &most)
-        || dconfdb_note_made(order->times, order->count, made, count, order->now, order->others, most, &len) != DCONFDB_OK)
+        || dconfdb_note_made(order->times, order->count, made, count, order->now, order->others, most, &len, latest) != DCONFDB_OK)
         return false;
     end_notes(order, len);
     return true;

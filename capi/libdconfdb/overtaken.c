@@ -34,6 +34,7 @@ bool asking_begin(Asking *asking, const DconfdbEdit *edits, const Made *made, si
     asking->count = count;
     asking->seen_count = 0;
     asking->seen = NULL;
+    asking->latest = 0;
     asking->expected = NULL;
     asking->changes = room_for(asking, count);
     if (!asking->changes)
@@ -299,5 +300,5 @@ bool asking_note(Asking *asking, const DconfdbSnapshot *now, Order *order)
             value = value_in(now, &asking->changes[i].path);
         asking->times[i] = (DconfdbTime){asked->path, asked->when, value};
     }
-    return order_note_made(order, asking->times, asking->count);
+    return order_note_made(order, asking->times, asking->count, &asking->latest);
 }
