@@ -1107,6 +1107,7 @@ typedef struct {
     uint32_t way;
     uint32_t comes; /* what is heard if something comes there */
     bool is_needed; /* without it something would be missed */
+    bool is_missed; /* something is, whatever is watched */
 } DconfdbWatchedName;
 
 /* What is watched. */
@@ -1128,10 +1129,10 @@ enum {
 };
 
 /* Of a name in a folder; the root's path is empty. `minds`: much that happens is minded. `is_last`: it is the file's own name. `mode` and
- * `links` are st_mode and st_nlink of what stands there, 0 where nothing does. `followed`: so many links were followed on the way. `is_profile`: if the
- * file changes, other files may be the store's. */
-void dconfdb_watched_name(bool minds, const uint8_t *folder, size_t folder_len, const uint8_t *name, size_t name_len, bool is_last, uint32_t mode,
-                          uint64_t links, uint64_t followed, bool is_profile, DconfdbWatchedName *watched);
+ * `links` are st_mode and st_nlink of what stands there, 0 where nothing does. `is_unseen`: that can't be seen, or not where a link leads. `followed`: so
+ * many links were followed on the way. `is_profile`: if the file changes, other files may be the store's. */
+void dconfdb_watched_name(bool minds, const uint8_t *folder, size_t folder_len, const uint8_t *name, size_t name_len, bool is_last, bool is_unseen,
+                          uint32_t mode, uint64_t links, uint64_t followed, bool is_profile, DconfdbWatchedName *watched);
 
 /* A folder may come between the look at its name and the watch there: so the names are gone through in rounds. All bits 0 at first. */
 typedef struct {
@@ -1156,8 +1157,9 @@ enum {
 uint32_t dconfdb_watch_round(DconfdbWatchRounds *rounds, uint32_t what, bool is_known, bool is_had, bool is_needed);
 
 /* What is heard of inotify's event at a name; or what was heard before, if that means more. `has_name`: it isn't the folder's own.
- * `is_same`: it is of the name that is watched, at which that stands by now. */
-uint32_t dconfdb_heard(uint32_t before, uint32_t watch, uint32_t comes, uint32_t mask, bool has_name, bool is_same, uint32_t mode, uint64_t links);
+ * `is_same`: it is of the name that is watched, at which that stands by now, unless it can't be seen (`is_unseen`). */
+uint32_t dconfdb_heard(uint32_t before, uint32_t watch, uint32_t comes, uint32_t mask, bool has_name, bool is_same, bool is_unseen, uint32_t mode,
+                       uint64_t links);
 
 /* ---- when what waits is written. All moments are of one clock, in microseconds; 0 is none. */
 
@@ -1319,6 +1321,8 @@ typedef struct {
     bool is_amid;        /* that one changes the files: what it has seen in its turn is the newest */
     bool is_late;        /* it is waited no longer for the turn */
     bool is_to_settle;   /* who looks wants to know what of that which waits is there already */
+    bool was_unseen;     /* one of those files couldn't be looked at when the profile was read, */
+    bool is_unseen;      /* or can't be now */
 } DconfdbGlance;
 
 /* The task that is due after that one. */

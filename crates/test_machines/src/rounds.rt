@@ -155,6 +155,16 @@ fn looks_end() -> bool {
         is_amid: false,
         is_late: false,
         is_to_settle: false,
+        was_unseen: false,
+        is_unseen: false,
+    };
+    let hidden = GlanceKnown {
+        is_unseen: true,
+        ..same
+    };
+    let found = GlanceKnown {
+        was_unseen: true,
+        ..same
     };
     let barred = GlanceKnown {
         is_barred: true,
@@ -198,6 +208,8 @@ fn looks_end() -> bool {
         ..same
     };
     glance_number(0, &same) == 1
+        && glance_number(0, &hidden) == 3
+        && glance_number(0, &found) == 3
         && glance_number(0, &unsure) == 3
         && glance_number(0, &other) == 2
         && glance_number(0, &shut) == 2
