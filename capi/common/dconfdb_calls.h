@@ -594,6 +594,16 @@ enum {
 
 uint32_t dconfdb_beside(uint32_t purpose, const DconfdbFileStamp *old, const DconfdbFileStamp *now, const DconfdbPartSeen *seen);
 
+/* Which file of a store is read. */
+enum {
+    DCONFDB_SIZE_MACHINE, /* it says in one word which kind of store the machine has */
+    DCONFDB_SIZE_PROFILE,
+    DCONFDB_SIZE_DATABASE
+};
+
+/* A file of more bytes isn't read. */
+uint64_t dconfdb_largest(uint32_t kind);
+
 /* What stands under a name. `is_read`: it is the very file that was read. */
 typedef struct {
     uint32_t user, group, bits;

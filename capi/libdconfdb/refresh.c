@@ -9,11 +9,6 @@
 
 #include <time.h>
 
-/* A file has at most so many bytes. */
-#ifndef LARGEST_FILE
-#define LARGEST_FILE 4294967295U
-#endif
-
 /* A look at the files of a store: the snapshot that comes of it, and what was read of the file that it is at. */
 typedef struct {
     const DconfdbStore *store;
@@ -75,7 +70,7 @@ static int read_at(Look *look, const Asked *asked)
     int cancels = is_held ? 0 : hold_cancellation();
     look->opened = file_clock();
     int fault = file_read(asked->turn, is_in_turn ? look->store->own_name : asked->name, asked->maps, dconfdb_is_database_head,
-                          LARGEST_FILE, &look->bytes, &look->state);
+                          dconfdb_largest(DCONFDB_SIZE_DATABASE), &look->bytes, &look->state);
     if (!is_held)
         cancel_as_before(cancels);
     return fault;
