@@ -594,6 +594,10 @@ enum {
 
 uint32_t dconfdb_beside(uint32_t purpose, const DconfdbFileStamp *old, const DconfdbFileStamp *now, const DconfdbPartSeen *seen);
 
+/* Of a file that is IF_READABLE: whether it is the same, as this process may read it or not; and by what it is known from then on: what changed of it isn't
+ * asked of again until more does. */
+bool dconfdb_known_after(const DconfdbFileStamp *old, const DconfdbFileStamp *now, bool may_be_read, DconfdbFileStamp *known);
+
 /* Which file of a store is read. */
 enum {
     DCONFDB_SIZE_MACHINE, /* it says in one word which kind of store the machine has */

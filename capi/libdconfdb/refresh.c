@@ -28,13 +28,13 @@ static Asked asked_of(const Look *look, size_t at)
     return (Asked){store->files[at], at, !is_users, store->options.is_lenient, is_users ? look->turn : NO_FOLDER};
 }
 
-/* A mapped file may change owners, permissions and names: as it is now it is known until they change again. */
+/* A mapped file may change owners, permissions and names. */
 static bool __attribute__((noinline)) may_still_be_read(Part *old, const FileState *state)
 {
-    bool may = file_may_be_read(old->name);
-    if (may)
-        old->state.touched = state->touched;
-    return may;
+    FileState known = old->state;
+    bool is_same = dconfdb_known_after(&old->state, state, file_may_be_read(old->name), &known);
+    old->state = known;
+    return is_same;
 }
 
 static bool are_same(const FileState *one, const FileState *other)

@@ -52,6 +52,13 @@ uint32_t dconfdb_beside(uint32_t purpose, const DconfdbFileStamp *old, const Dco
     return purpose == DCONFDB_PART_KEEP && any_bool() ? DCONFDB_BESIDE_IF_READABLE : DCONFDB_BESIDE_OTHER;
 }
 
+bool dconfdb_known_after(const DconfdbFileStamp *old, const DconfdbFileStamp *now, bool may_be_read, DconfdbFileStamp *known)
+{
+    CHECK(old == &old_parts[0].state || old == &old_parts[1].state, "step: an old part's file");
+    *known = may_be_read ? *now : *old;
+    return may_be_read;
+}
+
 uint64_t file_clock(void)
 {
     return any_u64();

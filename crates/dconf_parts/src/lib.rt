@@ -9,7 +9,7 @@ ghost use Rattle.dconf_parts.specs.Parts.{WhatIsKeptIsTheSame};
 mod parts;
 mod sizes;
 
-pub use parts::{DconfdbPartSeen, Likeness, Purpose, beside, beside_number};
+pub use parts::{DconfdbPartSeen, Likeness, Purpose, beside, beside_number, known_after};
 pub use sizes::{Kind, largest, largest_number};
 
 /// What is kept is of the same file, as far as the host tells; and what was read and is kept is the same bytes, or fails by the same fault.

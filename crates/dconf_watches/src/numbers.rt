@@ -8,8 +8,8 @@ ghost use Rattle.dconf_watches.specs.Numbers.{IsWatchedName, heard_number, heard
 use crate::event::{Heard, Of, louder, meaning};
 use crate::inotify::{asked_of, event_in, seen_by};
 use crate::name::{
-    Found, NameWatch, Way, heard_as, is_busy, is_busy_in, is_missed, is_needed, watch_at, watch_of, way_at,
-    way_of,
+    Found, NameWatch, Way, heard_as, is_busy, is_busy_in, is_missed, is_needed, watch_at, watch_of,
+    way_at, way_of,
 };
 
 /// What is watched of a name: 0 nothing, 1 the folder itself, 2 a name on the way, 3 the file's own, 4 that, and what is made there;
@@ -77,13 +77,7 @@ fn role_of(is_profile: bool) -> Heard
     if is_profile { Heard::Path } else { Heard::File }
 }
 
-fn watched_so(
-    minds: bool,
-    folder: &[u8],
-    name: &[u8],
-    is_last: bool,
-    found: Found,
-) -> NameWatch
+fn watched_so(minds: bool, folder: &[u8], name: &[u8], is_last: bool, found: Found) -> NameWatch
     ensures { result ≡ watched_so minds folder.now name.now is_last found }
 {
     let watch = watch_of(

@@ -1,8 +1,8 @@
 //! What is done in turn by who writes what waits, by who has it written, or ends, or wants to know that it is on the disk, and by who looks at
 //! the files.
 use dconf_rounds::{
-    GlanceKnown, Known, SyncKnown, TellKnown, WriterKnown, glance_number, has_work, is_at_work, passes_over,
-    sync_number, task_number, telling_number, writer_number,
+    GlanceKnown, Known, SyncKnown, TellKnown, WriterKnown, glance_number, has_work, is_at_work,
+    passes_over, sync_number, task_number, telling_number, writer_number,
 };
 use dconf_seen::Known as SeenKey;
 use std::test::Fail;
