@@ -1918,13 +1918,16 @@ void dconfdb_machines_folder(bool is_dconfs, DconfdbBytes *folder);
 /* A key that is set, or a lock, and what the installed schemas have of it. */
 typedef struct {
     uint32_t what;
-    bool is_known;         /* one has the key, or a key below the directory; or it is set already, or set at all */
+    bool is_known;         /* one has the key, or a key below the directory; or it is set already, or set at all; or the database has its file */
     bool has_schemas;      /* one is at the key's directory */
     bool may_be_elsewhere; /* one without a path has a key of that name; of a directory, there is one */
     bool has_value;        /* it is set to a value */
     bool is_taken;         /* .. which one of the keys takes; or nothing else is wrong with the lock */
     bool is_of_type;       /* .. and that is of the first one's type */
     bool is_system;        /* a database is the system's; or it is a value of a source of `update` */
+    bool is_made;          /* `update` makes the database's file */
+    bool is_unseen;        /* that can't be looked at */
+    bool is_among_profiles; /* the profile is one of those in a folder `profiles` */
 } DconfdbFinding;
 
 enum {
