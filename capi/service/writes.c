@@ -184,7 +184,7 @@ static void end_try(Service *service, bool is_over)
     GQueue over = G_QUEUE_INIT;
     g_mutex_lock(&service->lock);
     service->is_writing = false;
-    service->again = is_over ? 0 : g_get_monotonic_time() + (gint64)service->failing.pause;
+    service->again = is_over ? 0 : (gint64)service->failing.again;
     if (is_over)
         move_all(&service->taken, &over);
     for (const GList *at = over.head; at; at = at->next)
