@@ -1,4 +1,4 @@
-/* The flag of dconf's readers, by a database's name. */
+/* The flag of dconf's readers of a database. */
 #include "flag.h"
 #include "lock.h"
 #include "service.h"
@@ -8,9 +8,8 @@
 void flag_readers(const Writer *writer)
 {
     FolderLock lock;
-    g_autofree char *path = g_build_filename(g_get_user_runtime_dir(), "dconf", writer->name, NULL);
-    const char *folder = writer->service->place.folder;
-    if (flag_is_missing(path))
+    const char *path = place_flag(writer->store), *folder = writer->service->place.folder;
+    if (!path || flag_is_missing(path))
         return;
     if (g_file_test(folder, G_FILE_TEST_IS_DIR) && folder_lock(folder, 0, &lock) == 0) {
         flag_set(path);

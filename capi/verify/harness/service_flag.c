@@ -74,9 +74,13 @@ void folder_unlock(FolderLock *lock)
     is_locked = false;
 }
 
-const char *g_get_user_runtime_dir(void)
+static char a_store, a_flag[] = "f";
+static bool has_flag;
+
+const char *place_flag(const DconfdbStore *store)
 {
-    return "r";
+    CHECK((const char *)(const void *)store == &a_store, "step: the flag of the database's own store");
+    return has_flag ? a_flag : NULL;
 }
 
 /* harness flag: unwind 4, with glib.c, quick */
@@ -104,15 +108,16 @@ int flag(void)
 /* harness service_flag: unwind 4, with glib.c, quick */
 int service_flag(void)
 {
-    static char name[] = "n", folder[] = "/f";
+    static char folder[] = "/f";
     Service service = {.place = {.folder = folder}};
-    const Writer writer = {.service = &service, .name = name};
+    const Writer writer = {.service = &service, .store = (DconfdbStore *)&a_store};
+    has_flag = any_bool();
     at_call = at_each;
     flag_readers(&writer);
     CHECK(!is_locked, "order: the lock is given back");
     CHECK(only_open(-1, -1), "descriptor: the flag is closed");
-    CHECK(looks == 1, "step: whether it is there is asked");
-    CHECK(count_of[OPEN] == 1 || (looked == ENOENT && locks == 0), "answer: what may be there is set, and for what isn't no lock is taken");
+    CHECK(looks == (has_flag ? 1 : 0), "step: whether it is there is asked, where there is one");
+    CHECK(count_of[OPEN] == 1 || ((!has_flag || looked == ENOENT) && locks == 0), "answer: what may be there is set, and for what isn't no lock is taken");
     if (is_set && is_gone)
         REACHED("who has the lock takes the name away");
     if (is_set && !is_gone)
