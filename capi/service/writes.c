@@ -35,7 +35,7 @@ static void read_all(Run *run)
 
 /* ---- what came of it; `turn` is held */
 
-/* Of what is written. What others set since is left out, too. */
+/* Of what is written. What others set since was left out then; and what a later change of the same write sets is told after this. */
 static bool is_unmade(const Run *run, size_t number)
 {
     const DconfdbTried tried = {
