@@ -905,7 +905,7 @@ enum {
     DCONFDB_STORE_FOUND,  /* a look found other files: is that news? */
     DCONFDB_STORE_TOLD,   /* whoever asked for news was told */
     DCONFDB_STORE_SEEN,   /* others changed something: is that remembered, for which memory may be lacking? */
-    DCONFDB_STORE_NOTED,  /* it noted what was set: is what was asked for in its file? `number` is the time of the last of that, or 0 */
+    DCONFDB_STORE_NOTED,  /* it noted what was set: is what was asked for in its file? `number` is the latest time of that, or 0 */
     DCONFDB_STORE_ENDED,  /* a change did: may it not be on the disk? `number` says which settings are the newest */
     DCONFDB_STORE_FOLLOWS, /* it was opened in the place of `old`: are they of the same user's file? */
     DCONFDB_STORE_COMPARED /* a look found another file: is it that of the change that is perhaps made? */
@@ -1579,9 +1579,10 @@ uint32_t dconfdb_leave_out(const DconfdbTime *notes, size_t n, const DconfdbSeen
 uint32_t dconfdb_note_seen(const DconfdbTime *notes, size_t n, const DconfdbSeen *seen, size_t seen_n, uint64_t now, DconfdbTime *room,
                            size_t room_len, size_t *len);
 
-/* The notes with those of edits that were made, in the same way. What was only guessed of their paths goes. */
+/* The notes with those of edits that were made, in the same way. What was only guessed of their paths goes. `latest`: when the latest of them was made,
+ * or 0 if there is none. */
 uint32_t dconfdb_note_made(const DconfdbTime *notes, size_t n, const DconfdbTime *made, size_t made_n, uint64_t now, DconfdbTime *room,
-                           size_t room_len, size_t *len);
+                           size_t room_len, size_t *len, uint64_t *latest);
 
 /* The moment in which a change of these edits counts as made that was asked for in this one, beside the others that are written with it, of which
  * only the resets of directories matter. It is the same; or the turn's, which is the last of all moments, if the change resets a directory, or sets
@@ -1933,13 +1934,16 @@ void dconfdb_machines_folder(bool is_dconfs, DconfdbBytes *folder);
 /* A key that is set, or a lock, and what the installed schemas have of it. */
 typedef struct {
     uint32_t what;
-    bool is_known;         /* one has the key, or a key below the directory; or it is set already, or set at all */
+    bool is_known;         /* one has the key, or a key below the directory; or it is set already, or set at all; or the database has its file */
     bool has_schemas;      /* one is at the key's directory */
     bool may_be_elsewhere; /* one without a path has a key of that name; of a directory, there is one */
     bool has_value;        /* it is set to a value */
     bool is_taken;         /* .. which one of the keys takes; or nothing else is wrong with the lock */
     bool is_of_type;       /* .. and that is of the first one's type */
     bool is_system;        /* a database is the system's; or it is a value of a source of `update` */
+    bool is_made;          /* `update` makes the database's file */
+    bool is_unseen;        /* that can't be looked at */
+    bool is_among_profiles; /* the profile is one of those in a folder `profiles` */
 } DconfdbFinding;
 
 enum {

@@ -143,12 +143,11 @@ static int make_in(int above, const char *name)
     }
 }
 
-/* Makes a folder that is missing, so that its name is on the disk. Another program may do so at the same time. */
+/* Makes a folder that is missing, so that its name is on the disk. Another program may do so at the same time, and not have come to that. */
 static int make_one(int above, const char *name)
 {
-    uint32_t told;
-    DconfdbStood stood = file_stood(NULL, make_in(above, name));
-    return dconfdb_standing(DCONFDB_TO_MAKE, &stood, &told) == DCONFDB_IS_GOOD ? sync_folder(above) : (int)told;
+    int fault = file_fault(DCONFDB_TO_MAKE, make_in(above, name));
+    return fault != 0 ? fault : sync_folder(above);
 }
 
 /* ---- a path */

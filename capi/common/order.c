@@ -231,11 +231,11 @@ bool order_note_seen(Order *order, const DconfdbSeen *seen, size_t count)
     return true;
 }
 
-bool order_note_made(Order *order, const DconfdbTime *made, size_t count)
+bool order_note_made(Order *order, const DconfdbTime *made, size_t count, uint64_t *latest)
 {
     size_t most, len = 0;
     if (!begin_notes(order, count, &most)
-        || dconfdb_note_made(order->times, order->count, made, count, order->now, order->others, most, &len) != DCONFDB_OK)
+        || dconfdb_note_made(order->times, order->count, made, count, order->now, order->others, most, &len, latest) != DCONFDB_OK)
         return false;
     end_notes(order, len);
     return true;
@@ -243,7 +243,8 @@ bool order_note_made(Order *order, const DconfdbTime *made, size_t count)
 
 /* ---- written anew */
 
-/* Who is killed amid this leaves the first moment of one writer, and the last of another. */
+/* Who is killed amid this, or can't write all of it, leaves the first moment of one writer, and the last of another; and before the first byte all of
+ * the one before. So nothing is cut off but behind what is whole. */
 static bool put_in_file(const Order *order, int lock, size_t len)
 {
     size_t at = 0;
@@ -253,10 +254,9 @@ static bool put_in_file(const Order *order, int lock, size_t len)
             break;
         at += put > 0 ? (size_t)put : 0;
     }
-    bool is_whole = at == len;
-    if (order->stood > at && ftruncate(lock, (off_t)at) != 0)
-        is_whole = false; /* its end isn't its last moment: nothing counts */
-    return is_whole;
+    if (at < len)
+        return false;
+    return order->stood <= len || ftruncate(lock, (off_t)len) == 0; /* else its end isn't its last moment: nothing counts */
 }
 
 /* What is noted, in `next`: how many bytes, or 0 without memory. */

@@ -47,9 +47,9 @@ bool order_has_left(const Order *order, const char *name, const FileState *file)
 /* Whether who left it so noted, too, that it is on the disk. */
 bool order_is_synced(const Order *order, const char *name, const FileState *file);
 
-/* Notes what was seen, and what was made: as long as the order is used the paths stay. False: no memory is left. */
+/* Notes what was seen, and what was made, and when the latest of that was: as long as the order is used the paths stay. False: no memory is left. */
 bool order_note_seen(Order *order, const DconfdbSeen *seen, size_t count);
-bool order_note_made(Order *order, const DconfdbTime *made, size_t count);
+bool order_note_made(Order *order, const DconfdbTime *made, size_t count, uint64_t *latest);
 
 /* Writes it, with the file of that name as it is left now, and whether it is on the disk. False: it failed, and nothing is noted. */
 bool order_write(Order *order, int lock, const char *name, const FileState *left, bool is_synced);

@@ -168,7 +168,6 @@ static uint32_t note(const Changing *it, const DconfdbSnapshot *now, uint32_t as
 int changing_note(Changing *it)
 {
     DconfdbStore *store = it->edited->store;
-    const Asking *asking = it->edited->asking;
     DconfdbEnding ending = {.is_there = false};
     dconfdb_ending(it->turn.outcome, it->turn.fault, store->known.is_unsettled, it->replacing.is_aside, &ending);
     const DconfdbSnapshot *now = ending.newest == DCONFDB_NEWEST_NEWER ? it->edited->newer : store->now;
@@ -176,7 +175,7 @@ int changing_note(Changing *it)
     while (ask < DCONFDB_MAKING_NOTED)
         ask = dconfdb_making_after(true, false, false, ask, note(it, now, ask));
     if (ask == DCONFDB_MAKING_NOTED)
-        store_after(store, DCONFDB_STORE_NOTED, ending.is_there, asking->count > 0 ? asking->asked[asking->count - 1].when : 0);
+        store_after(store, DCONFDB_STORE_NOTED, ending.is_there, it->edited->asking->latest);
     return 0;
 }
 

@@ -13,7 +13,7 @@ DconfdbChange change_of_edit(const DconfdbEdit *edit)
 {
     const char *type = edit->type ? edit->type : "";
     return (DconfdbChange){{bytes_of(edit->path), strlen(edit->path)},
-                           {bytes_of(edit->data), edit->data ? edit->size : 0},
+                           value_of_edit(edit),
                            {bytes_of(type), strlen(type)},
                            edit->type != NULL};
 }

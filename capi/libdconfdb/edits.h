@@ -7,6 +7,13 @@
 /* As the proved calls have it; the bytes stay the caller's. */
 DconfdbChange change_of_edit(const DconfdbEdit *edit);
 
+/* The bytes that an edit sets; where it has none (NULL) its size doesn't count. */
+static inline DconfdbBytes value_of_edit(const DconfdbEdit *edit)
+{
+    static const DconfdbBytes nothing = DCONFDB_NOTHING;
+    return edit->data ? (DconfdbBytes){edit->data, edit->size} : nothing;
+}
+
 /* The user's file with changes, and whether that says no more than was there. */
 typedef struct {
     FileBytes bytes;

@@ -28,12 +28,13 @@ static void *room_for(Asking *asking, size_t count)
     return count <= SIZE_MAX / sizeof(AskedRoom) ? malloc(count * sizeof(AskedRoom)) : NULL;
 }
 
-/* `made` is NULL where all is asked for now. */
+/* `made` is NULL where all is one change that is asked for now. */
 bool asking_begin(Asking *asking, const DconfdbEdit *edits, const Made *made, size_t count)
 {
     asking->count = count;
     asking->seen_count = 0;
     asking->seen = NULL;
+    asking->latest = 0;
     asking->expected = NULL;
     asking->changes = room_for(asking, count);
     if (!asking->changes)
@@ -44,7 +45,7 @@ bool asking_begin(Asking *asking, const DconfdbEdit *edits, const Made *made, si
     asking->is_left = (bool *)(asking->edits + count);
     for (size_t i = 0; i < count; i++) {
         asking->changes[i] = change_of_edit(&edits[i]);
-        asking->asked[i] = (DconfdbAsked){.path = asking->changes[i].path, .when = made ? made[i].moment : UINT64_MAX, .change = made ? made[i].change : i};
+        asking->asked[i] = (DconfdbAsked){.path = asking->changes[i].path, .when = made ? made[i].moment : UINT64_MAX, .change = made ? made[i].change : 0};
         asking->edits[i] = i;
     }
     return true;
@@ -299,5 +300,5 @@ bool asking_note(Asking *asking, const DconfdbSnapshot *now, Order *order)
             value = value_in(now, &asking->changes[i].path);
         asking->times[i] = (DconfdbTime){asked->path, asked->when, value};
     }
-    return order_note_made(order, asking->times, asking->count);
+    return order_note_made(order, asking->times, asking->count, &asking->latest);
 }

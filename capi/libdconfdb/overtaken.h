@@ -35,6 +35,7 @@ typedef struct {
     size_t *edits;
     bool *is_left;
     DconfdbSeen *seen;
+    uint64_t latest; /* of what was noted, the latest time; or 0 */
     const DconfdbSnapshot *expected; /* NULL: whatever is seen */
     AskedRoom few[FEW_EDITS];        /* the block, where it is enough */
 } Asking;

@@ -1,6 +1,5 @@
 /* Where a store is: what the environment says, and the system, handed to the proved calls. */
-#define _DEFAULT_SOURCE
-#define _POSIX_C_SOURCE 200809L
+#define _GNU_SOURCE
 #define _FILE_OFFSET_BITS 64
 #include "place.h"
 #include "environment.h"
@@ -151,17 +150,18 @@ static bool find_profile(const Asked *asked, StorePlace *place, DconfdbError *er
     return fault == 0 || refuse_file(error, fault, "the profile of $DCONFDB_PROFILE", nowhere);
 }
 
+/* None is set for a program that has more rights than whoever started it. */
 static char *variable_copy(int variable)
 {
-    const char *value = getenv(variables[variable]);
+    const char *value = secure_getenv(variables[variable]);
     return strdup(value ? value : "");
 }
 
-/* Its digits. */
+/* The digits of the user as whom files are opened. */
 static char *user_text(void)
 {
     char digits[24];
-    snprintf(digits, sizeof digits, "%lu", (unsigned long)getuid());
+    snprintf(digits, sizeof digits, "%lu", (unsigned long)geteuid());
     return strdup(digits);
 }
 

@@ -1,6 +1,7 @@
 /* What a key shows while an edit of it may wait, by the proved calls. */
 #define _POSIX_C_SOURCE 200809L
 #include "seen.h"
+#include "edits.h"
 #include "errors.h"
 #include "locked.h"
 #include "memory.h"
@@ -20,8 +21,7 @@ static DconfdbWaits waits_of(const DconfdbEdit *edit)
         return waits;
     waits.sets = true;
     waits.type_text = text_bytes(edit->type);
-    if (edit->size > 0)
-        waits.value = (DconfdbBytes){edit->data, edit->size};
+    waits.value = value_of_edit(edit);
     return waits;
 }
 

@@ -213,6 +213,7 @@ bool asking_note(Asking *of, const DconfdbSnapshot *now, Order *order)
 {
     CHECK(of == &asking && order == &store.order, "step: what was set");
     CHECK(now == (is_new_noted() ? &newer_room : &old_room), "answer: what is noted is what the name is");
+    of->latest = any_u64();
     return any_bool();
 }
 
@@ -236,6 +237,7 @@ bool order_write(Order *order, int file, const char *name, const FileState *left
 void store_after(DconfdbStore *at, uint32_t what, bool yes, uint64_t number)
 {
     CHECK(at == &store && what == DCONFDB_STORE_NOTED && is_written, "order: what was seen is forgotten once it is noted");
+    CHECK(number == asking.latest, "answer: its time is the latest of what is noted");
     if (yes && number > 0)
         store.known.noted = number;
 }

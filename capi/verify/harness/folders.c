@@ -124,10 +124,9 @@ int folder_make_one(void)
     int fault = real_make_one(above, "b");
     CHECK(only_open(above, -1), "descriptor: each is closed");
     CHECK(count_of[MKDIRAT] == 0 || geteuid() != 0 || count_of[FSTAT] > 0, "step: root asks whose folder it is");
-    if (fault == 0 && was_done(MKDIRAT)) {
-        CHECK(was_done(FSYNC) && when_of[FSYNC] > when_of[MKDIRAT], "order: what is made has its name on the disk");
+    CHECK(fault != 0 || (was_done(FSYNC) && when_of[FSYNC] > when_of[MKDIRAT]), "order: what is made has its name on the disk, whoever made it");
+    if (fault == 0 && was_done(MKDIRAT))
         REACHED("one is made");
-    }
     return 0;
 }
 

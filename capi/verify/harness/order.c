@@ -47,6 +47,7 @@ static void is_put(Kind kind)
     if (kind == FTRUNCATE) {
         size_t put = written - rest + (was_done(PWRITE) ? (size_t)last[PWRITE].count : 0);
         CHECK(call->len == put, "step: what stands behind it is cut off");
+        CHECK(put == written, "step: what was noted before is cut only behind what is noted now");
         has_cut = call->fault == 0;
     }
 }

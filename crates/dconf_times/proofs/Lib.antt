@@ -3,6 +3,7 @@ pub mod PutLaws
 pub mod TurnLaws
 pub mod LeavingLaws
 pub mod MomentLaws
+pub mod LatestLaws
 pub mod ResetLaws
 pub mod RoomLaws
 pub mod SeeingLaws

@@ -2,7 +2,7 @@
 use Rattle.std.specs.Prelude.{◌≡◌, ◌⊎◌, ◌≤◌, ℕ, Bool, List, length, Some, nat_le, nat_lt, ◌&&◌, ◌==◌, IsTrue, if◌then◌else◌, set, slice_get}
 use Rattle.std.specs.List.{list_any, list_all}
 use Rattle.std.specs.Str.{bytes_eq}
-use Rattle.dconf_times.specs.Times.{Note}
+use Rattle.dconf_times.specs.Times.{Note, latest_of}
 
 abbrev pub is_note : Note → Note → Bool
 is_note note other = bytes_eq note.path other.path && (note.when == other.when && note.value == other.value)
@@ -28,6 +28,10 @@ pub record AreNoted (now most : ℕ) (given kept : List Note) : Type 0 where
   pub from : (note : Note) → IsTrue (is_among note kept) → IsTrue (is_among note given) × (note.when ≤ now)
   -- none is left out that is later than one that is kept, but for a later one of its path
   pub each : (note : Note) → IsTrue (is_among note given) → note.when ≤ now → IsKept most kept note
+
+-- law: none of them is later
+abbrev pub NoneIsLater : Type 0
+NoneIsLater = (notes : List Note) (most : ℕ) → latest_of notes ≤ most → IsTrue (list_all (λ note. nat_le note.when most) notes)
 
 -- ---- words of private parts
 

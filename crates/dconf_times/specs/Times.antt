@@ -28,3 +28,8 @@ time_of now path (note ∷ more) = max (time_told now path note) (time_of now pa
 -- an edit of that time is overtaken where its path was set later
 abbrev pub is_overtaken : ℕ → List ℕ → ℕ → List Note → Bool
 is_overtaken now path when notes = nat_lt when (time_of now path notes)
+
+-- the latest of these times, in whatever order they stand; 0 where there is none
+abbrev pub latest_of : List Note → ℕ
+latest_of [] = 0
+latest_of (note ∷ more) = max note.when (latest_of more)

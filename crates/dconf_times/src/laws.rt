@@ -1,6 +1,7 @@
 //! What comes of turns: no older set overwrites a newer one, and what is made together is made whole. Nothing is computed here.
 ghost use Rattle.dconf_times.specs.Leaving.{NoOlderWins};
 ghost use Rattle.dconf_times.specs.Moments.{MomentsAreTimed};
+ghost use Rattle.dconf_times.specs.Noted.{NoneIsLater};
 ghost use Rattle.dconf_times.specs.Resets.{MomentsAreKept};
 ghost use Rattle.dconf_times.specs.Room.{NoneIsForgotten};
 ghost use Rattle.dconf_times.specs.Seeing.{TheLatestNoteCounts};
@@ -50,4 +51,10 @@ pub fn the_latest_note_counts()
 /// in the turn, and what is set in it is no earlier.
 pub fn moments_are_kept()
     ensures { MomentsAreKept }
+{}
+
+/// What a turn sets is no later than [`latest_of`](crate::latest_of) says, in whatever order it stands: so what the program sets next, which counts
+/// as no earlier than that, is no earlier than any of it.
+pub fn none_is_later()
+    ensures { NoneIsLater }
 {}

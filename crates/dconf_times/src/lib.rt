@@ -25,7 +25,7 @@ mod times;
 
 pub use laws::{
     a_change_is_whole, moments_are_kept, moments_are_timed, no_older_edit_wins, none_is_forgotten,
-    one_edit_counts, the_latest_note_counts, the_latest_stands,
+    none_is_later, one_edit_counts, the_latest_note_counts, the_latest_stands,
 };
 pub use leaving::{DconfdbAsked, leave_out};
 pub use moments::{time_of_file, time_of_moment};
@@ -33,4 +33,4 @@ pub use notes::note_times;
 pub use resets::moment_beside;
 pub use room::newest;
 pub use seeing::{DconfdbSeen, note_made, note_seen};
-pub use times::{DconfdbTime, is_overtaken};
+pub use times::{DconfdbTime, is_overtaken, latest_of};

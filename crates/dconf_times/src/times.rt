@@ -1,7 +1,7 @@
 //! When paths were set.
 ghost use Rattle.std.specs.Prelude.{◌≡◌, map};
 ghost use Rattle.dconf_model.specs.Locks.{covers};
-ghost use Rattle.dconf_times.specs.Times.{is_overtaken, note_of, time_told};
+ghost use Rattle.dconf_times.specs.Times.{is_overtaken, latest_of, note_of, time_told};
 
 /// A path that was set, and when: the path of a key, or that of a directory of which all keys were
 /// reset, nanoseconds since 1970, and a number of the caller's for what was set.
@@ -44,4 +44,15 @@ pub fn is_overtaken(times: &[DconfdbTime<'_>], path: &[u8], when: u64, now: u64)
         }
     }
     false
+}
+
+/// The latest of these times; 0: there are none.
+pub fn latest_of(times: &[DconfdbTime<'_>]) -> u64
+    ensures { result ≡ latest_of (map note_of times.now) }
+{
+    let mut latest = 0;
+    for time in times {
+        latest = time.when.max(latest);
+    }
+    latest
 }

@@ -7,7 +7,7 @@ ghost use Rattle.dconf_times.specs.Noted.{AreNoted};
 ghost use Rattle.dconf_times.specs.Resets.{moment_beside};
 ghost use Rattle.dconf_times.specs.Room.{AreNewest};
 ghost use Rattle.dconf_times.specs.Seeing.{is_unnoted, seen_of, stays_beside};
-ghost use Rattle.dconf_times.specs.Times.{note_of};
+ghost use Rattle.dconf_times.specs.Times.{latest_of, note_of};
 ghost use Rattle.dconf_times.specs.declared.times.DconfdbTime.{DconfdbTime};
 ghost use Rattle.dconf_left.specs.Changes.{changed_at};
 ghost use Rattle.dconf_left.specs.Left.{with_left};
@@ -22,8 +22,8 @@ use dconf_notes::{
     MOST_BYTES, MOST_SET_BYTES, MOST_SET_NOTES, TurnLeaves, turn_read, turn_written,
 };
 use dconf_times::{
-    DconfdbAsked, DconfdbSeen, DconfdbTime, leave_out, moment_beside, note_made, note_seen,
-    time_of_moment,
+    DconfdbAsked, DconfdbSeen, DconfdbTime, latest_of, leave_out, moment_beside, note_made,
+    note_seen, time_of_moment,
 };
 use dconfdb_calls::{Fault, hand_out};
 use std::alloc::Global;
@@ -82,7 +82,7 @@ pub extern "C" fn dconfdb_note_seen<'a>(
 }
 
 /// The notes with those of edits that were made, as `dconfdb_note_seen` gives them: a guess of such a
-/// path goes.
+/// path goes. `latest` is when the latest of them was made, or 0.
 #[unsafe(no_mangle)]
 pub extern "C" fn dconfdb_note_made<'a>(
     alloc: Global,
@@ -91,16 +91,19 @@ pub extern "C" fn dconfdb_note_made<'a>(
     now: u64,
     room: &mut [DconfdbTime<'a>],
     len: &mut usize,
+    latest: &mut u64,
 ) -> u32
     ensures done { result ≡ 0 → (kept : List DconfdbTime)
         × AreNoted now (length room.old) (map note_of (filter (stays_beside made.now) notes.now) ++ map note_of made.now) (map note_of kept)
         × HandsOut kept room.old room.new len.new }
+    ensures latest { result ≡ 0 → latest.new ≡ latest_of (map note_of made.now) }
     ensures refused { result ≢ 0 → result ≡ 1 }
-    ensures kept { result ≢ 0 → (room.new ≡ room.old) × (len.new ≡ len.old) }
+    ensures kept { result ≢ 0 → (room.new ≡ room.old) × (len.new ≡ len.old) × (latest.new ≡ latest.old) }
 {
     match note_made(alloc, notes, made, now, room.len()) {
         Ok(kept) => {
             *len = hand_out(kept.as_slice(), room);
+            *latest = latest_of(made);
             0
         }
         Err(_) => Fault::Memory.number(),
