@@ -1182,8 +1182,8 @@ typedef struct {
     uint64_t again;    /* when a write is tried again that failed, or was not its turn */
     uint64_t moment;   /* now */
     uint64_t failed;   /* which try was the last that failed by a fault that lasts; 0: none did */
-    uint64_t last_try; /* how many there were when the program began to end */
-    bool ends;         /* the program ends, or nobody holds what the thread works for */
+    uint64_t last_try; /* how many there were when the program began to end; UINT64_MAX: it goes on */
+    bool ends;         /* the program ends, or nobody holds what the thread works for; or the thread is there for what waits alone */
     bool is_let_go;    /* nobody does, and the program goes on */
     bool waits;        /* something waits to be written */
     bool is_in_line;   /* it is in line for its turn */
@@ -1192,7 +1192,7 @@ typedef struct {
     bool has_turned; /* a main context of somebody who listens: from then on what others change can be told */
     bool is_asked;   /* somebody wants a write to be tried now */
     bool asks;       /* of something that waits nobody knows whether it changes anything */
-    bool is_watched; /* what others change is told without a look at the files */
+    bool is_watched; /* what others change is told without a look at the files, or is seen in the turn to write */
     bool is_others;  /* and others have theirs: who is in line goes on waiting, and who isn't has waited in vain */
 } DconfdbRound;
 
@@ -1230,13 +1230,14 @@ typedef struct {
     uint64_t settled, added;    /* how many changes are settled, and how many there were */
     uint32_t begun_in, process; /* the process that began it, and this one: in a child of fork() they differ */
     DconfdbSync sync;
-    bool has_store;   /* there is a place for one */
     bool has_ended;   /* the program ends, or nobody holds what the thread works for */
     bool has_thread;
     bool has_wake;    /* there is something by which one is woken */
     bool has_line;    /* a thread of its own waits in line for the turn */
     bool is_wanted;   /* a thread is to be there */
     bool is_news;     /* something is new for it */
+    bool adds;        /* something begins to wait to be written, */
+    bool waits;       /* and something else did before: for that the thread is awake, or is to try again */
     bool is_owed;     /* somebody has to do it */
     bool listens;     /* somebody listens who didn't before, or whose main context didn't turn before, */
     bool has_turned;  /* and one has turned */
@@ -1345,6 +1346,16 @@ uint32_t dconfdb_glance_after(uint32_t task, const DconfdbGlance *known);
 /* How many milliseconds there are until the first of two moments. False, and `wait` as it was, where neither is one. */
 bool dconfdb_sleep_until(uint64_t again, uint64_t look, uint64_t now, uint64_t *wait);
 
+/* Who waits, and for what. */
+enum {
+    DCONFDB_PATIENCE_ASKED, /* who sets or syncs: for the turn, or until all is written */
+    DCONFDB_PATIENCE_END,   /* the program's end, or that of who holds what writes: the same */
+    DCONFDB_PATIENCE_REST   /* the program's end: for a lock that is held for moments */
+};
+
+/* For so many microseconds, unless others have turns meanwhile. */
+uint64_t dconfdb_patience_for(uint32_t who);
+
 /* How long it is waited until all is written: all is 0 at first but `each`. */
 typedef struct {
     uint64_t end, each, latest;
@@ -1393,8 +1404,8 @@ enum {
 };
 
 /* When the next look is due, if this one is made, which was due in that moment, unless somebody watches the files; of TELLS, how long it is
- * waited for it. 0: none is made. */
-uint64_t dconfdb_next_look(uint32_t looker, uint64_t due, uint64_t now, bool has_store, bool has_opened, bool is_at_work, bool is_watched);
+ * waited for it. 0: none is made. `has_opened`: the store was opened first, or could not be, and may be by now. */
+uint64_t dconfdb_next_look(uint32_t looker, uint64_t due, uint64_t now, bool has_opened, bool is_at_work, bool is_watched);
 
 /* Whether what was begun in one process is at work in this one: it has not ended, and this is no child of that by fork(). */
 bool dconfdb_is_at_work(bool has_ended, uint32_t begun_in, uint32_t process);
@@ -1767,6 +1778,11 @@ typedef struct {
     bool has_below; /* it sets a key below the path */
 } DconfdbSaid;
 
+/* Whether two edits of a path say the same: both reset it, or both set the same bytes, in normal form, at the same type. Of a reset nothing else is
+ * looked at. */
+bool dconfdb_is_same_word(bool sets, const uint8_t *type_text, size_t type_text_len, const uint8_t *value, size_t value_len, bool other_sets,
+                          const uint8_t *other_type_text, size_t other_type_text_len, const uint8_t *other_value, size_t other_value_len);
+
 /* Whether the user has what a change says, or will have once the sets are written, which come as dconfdb_asked_after asks them. `is_stored`: the
  * store has it. */
 bool dconfdb_is_said(const DconfdbSaid *said, size_t count, bool is_stored);
@@ -1824,8 +1840,7 @@ typedef struct {
     bool is_left;       /* something is left of it to be put */
     bool is_news;       /* the user has something else by it */
     bool is_watched;    /* somebody is told of such */
-    bool is_locked;     /* the task that failed last failed since a key is locked, */
-    bool is_unwritable; /* or since there is no database that could be written */
+    bool is_barred;     /* the verdict on the fault of the task that failed last is DCONFDB_QUEUE_LOCKED */
 } DconfdbChanging;
 
 /* The task that is due after that one, by its answer. */
@@ -1937,13 +1952,16 @@ void dconfdb_machines_folder(bool is_dconfs, DconfdbBytes *folder);
 /* A key that is set, or a lock, and what the installed schemas have of it. */
 typedef struct {
     uint32_t what;
-    bool is_known;         /* one has the key, or a key below the directory; or it is set already, or set at all */
+    bool is_known;         /* one has the key, or a key below the directory; or it is set already, or set at all; or the database has its file */
     bool has_schemas;      /* one is at the key's directory */
     bool may_be_elsewhere; /* one without a path has a key of that name; of a directory, there is one */
     bool has_value;        /* it is set to a value */
     bool is_taken;         /* .. which one of the keys takes; or nothing else is wrong with the lock */
     bool is_of_type;       /* .. and that is of the first one's type */
     bool is_system;        /* a database is the system's; or it is a value of a source of `update` */
+    bool is_made;          /* `update` makes the database's file */
+    bool is_unseen;        /* that can't be looked at */
+    bool is_among_profiles; /* the profile is one of those in a folder `profiles` */
 } DconfdbFinding;
 
 enum {

@@ -2,8 +2,14 @@
 #define _POSIX_C_SOURCE 200809L
 #include "flag.h"
 
+#include <errno.h>
 #include <fcntl.h>
 #include <unistd.h>
+
+bool flag_is_missing(const char *path)
+{
+    return access(path, F_OK) != 0 && errno == ENOENT;
+}
 
 /* The file is made longer first, since a reader may have made it a moment ago, and mapped nothing yet. */
 bool flag_mark(const char *path)

@@ -9,7 +9,10 @@
  * would lose it without being set, and its reader would see no change any more. */
 void flag_set(const char *path);
 
-/* The same for anybody: the name stays, and readers look again each time, until the next flag_set. False: nobody reads. */
+/* Whether nobody has made the file since the flag was set last, who would have it mapped: who makes it from now on opens the database after that. */
+bool flag_is_missing(const char *path);
+
+/* The same as flag_set for anybody: the name stays, and readers look again each time, until the next flag_set. False: nobody reads. */
 bool flag_mark(const char *path);
 
 #endif

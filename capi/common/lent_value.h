@@ -1,4 +1,4 @@
-/* A value of a snapshot as a GVariant that reads it in place, and whether two are alike: for what hands values to GLib. */
+/* A value of a snapshot as a GVariant that reads it in place: for what hands values to GLib. */
 #ifndef LENT_VALUE_H
 #define LENT_VALUE_H
 
@@ -27,12 +27,6 @@ static inline GVariant *lent_value(DconfdbSnapshot *snapshot, Reads *reads, cons
     /* A GVariantType is the text of a type, and needs no zero byte after it. The bytes may be any. */
     const GVariantType *type = (const GVariantType *)value.type;
     return g_variant_new_from_data(type, value.data, value.size, FALSE, lent_value_end, snapshot);
-}
-
-/* Of what is set, or, of NULL, reset. */
-static inline bool are_alike(GVariant *one, GVariant *other)
-{
-    return one && other ? g_variant_equal(one, other) : one == other;
 }
 
 #endif

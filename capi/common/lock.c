@@ -356,7 +356,8 @@ static int wait_for_lock(Awaited *awaited, int milliseconds)
     int fault = heed_all_forks();
     if (fault != 0)
         return fault;
-    return try_for(awaited->has_end ? DCONFDB_WAIT_FOR_LOCK : DCONFDB_WAIT_WITHOUT_END, (uint32_t)milliseconds, try_it, awaited);
+    return try_for(awaited->has_end ? DCONFDB_WAIT_FOR_LOCK : DCONFDB_WAIT_WITHOUT_END, (uint32_t)milliseconds, try_it, awaited,
+                   &awaited->lock->is_others);
 }
 
 int folder_lock(const char *folder, int milliseconds, FolderLock *lock)
@@ -364,6 +365,7 @@ int folder_lock(const char *folder, int milliseconds, FolderLock *lock)
     Awaited awaited = {.folder = folder, .has_end = milliseconds != WITHOUT_END, .lock = lock};
     int cancels = hold_cancellation();
     lock->folder = lock->file = NO_FOLDER;
+    lock->is_others = false;
     int fault = wait_for_lock(&awaited, milliseconds);
     if (fault != 0)
         close_awaited(&awaited);

@@ -21,7 +21,7 @@ static void take_pause(size_t nanoseconds)
 }
 
 /* Goes on from a first try. The time of a try is that at which it began: so the last one begins when all the time is over. */
-static int go_on(uint32_t what, uint32_t milliseconds, uint64_t began, uint32_t tried, int fault, Tries *tries, void *it)
+static int go_on(uint32_t what, uint32_t milliseconds, uint64_t began, uint32_t tried, int fault, Tries *tries, void *it, bool *is_others)
 {
     DconfdbWait wait = {0};
     DconfdbNext next = {0, 0};
@@ -40,20 +40,22 @@ static int go_on(uint32_t what, uint32_t milliseconds, uint64_t began, uint32_t 
         case DCONFDB_WAIT_HAD:
             return 0;
         default:
+            *is_others = next.kind == DCONFDB_WAIT_BUSY;
             return (int)next.number;
         }
     }
 }
 
-int try_for(uint32_t what, uint32_t milliseconds, Tries *tries, void *it)
+int try_for(uint32_t what, uint32_t milliseconds, Tries *tries, void *it, bool *is_others)
 {
     uint64_t began = moment();
     int fault = 0;
     uint32_t tried = tries(it, &fault);
-    return go_on(what, milliseconds, began, tried, fault, tries, it);
+    return go_on(what, milliseconds, began, tried, fault, tries, it, is_others);
 }
 
 int try_on(uint32_t what, uint32_t tried, int fault, Tries *tries, void *it)
 {
-    return go_on(what, 0, moment(), tried, fault, tries, it);
+    bool is_others;
+    return go_on(what, 0, moment(), tried, fault, tries, it, &is_others);
 }

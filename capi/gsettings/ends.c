@@ -7,8 +7,8 @@
 #include <time.h>
 #include <unistd.h>
 
-/* In microseconds: how long the program's end waits for a write, and for a lock; and how often it asks. */
-enum { LONGEST_END = 5000000, LONGEST_REST = 2000000, TICK = 5000 };
+/* In microseconds: how often it asks. */
+enum { TICK = 5000 };
 enum { NANOSECONDS = 1000, MILLISECOND = 1000, SECOND = 1000000000 };
 
 /* `lock` is held. */
@@ -89,7 +89,7 @@ static void wait_by(DconfdbBackend *self, Passes *passes, DconfdbPatience *patie
     DconfdbFileTime changed = patience->changed;
     while (dconfdb_patience_goes_on(patience, &progress, &changed, (uint64_t)now)) {
         passes(self, &progress);
-        changed = folder_written(self->place.folder);
+        changed = folder_written(store_folder(self));
         now = g_get_monotonic_time();
         if (g_atomic_int_get(&self->has_work))
             progress.moved = (uint64_t)now;
@@ -100,7 +100,7 @@ static void wait_by(DconfdbBackend *self, Passes *passes, DconfdbPatience *patie
 
 static bool mark_exit(DconfdbBackend *self, DconfdbWriter *known)
 {
-    if (!mutex_lock_until(&self->lock, g_get_monotonic_time() + LONGEST_REST))
+    if (!mutex_lock_until(&self->lock, g_get_monotonic_time() + (gint64)dconfdb_patience_for(DCONFDB_PATIENCE_REST)))
         return false;
     know_at_end(self, known);
     self->has_ended = self->is_asked = true;
@@ -114,7 +114,7 @@ static bool carry_out_exit(DconfdbBackend *self, uint32_t task, DconfdbWriter *k
 {
     switch (task) {
     case DCONFDB_END_MARK:
-        *patience = patience_of(self, LONGEST_END);
+        *patience = patience_of(self, DCONFDB_PATIENCE_END);
         return mark_exit(self, known);
     case DCONFDB_END_ROUNDS:
         wait_by(self, does_rounds, patience);
@@ -158,7 +158,7 @@ void worker_end_unseen(void)
 /* Until the thread is over, or a later write than these has failed. */
 static bool await_over(DconfdbBackend *self, guint64 tries)
 {
-    DconfdbPatience patience = patience_of(self, LONGEST_END);
+    DconfdbPatience patience = patience_of(self, DCONFDB_PATIENCE_END);
     while (patience_goes_on(&patience, self->is_over, 1, self->failed, tries))
         g_cond_wait_until(&self->settles, &self->lock, (gint64)patience.end);
     return self->is_over;

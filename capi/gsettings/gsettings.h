@@ -89,8 +89,8 @@ void changes_free(GQueue *changes);
 void waiting_begin(Waiting *waiting);
 void waiting_end(Waiting *waiting);
 
-/* Nothing began to wait since change_entry(). True: no other change waits, but for those that somebody writes. */
-bool waiting_add(Waiting *waiting, Change *change);
+/* Nothing began to wait since change_entry(). */
+void waiting_add(Waiting *waiting, Change *change);
 
 /* The edit that waits, and says what this change does, counts as set now. */
 void waiting_renew(Waiting *waiting, const Change *change);
@@ -145,10 +145,11 @@ typedef struct Wait Wait;
 typedef struct {
     GSettingsBackend parent;
     pid_t process; /* differs in a child, after fork() */
-    StorePlace place; /* no folder: the environment names none */
+    GVariant *types;
+    char *folder; /* of `place`; NULL: none is found yet; atomic. After it all of these stay as they are: */
+    StorePlace place;
     char *names; /* of the store's files; first those that may be the profile, which are so many */
     int profiles;
-    GVariant *types;
 
     GMutex turn;         /* held while files are looked at or changed. It guards: */
     DconfdbStore *store; /* NULL: it isn't opened yet, or could not be. Changed with `lock` held, too */
@@ -202,6 +203,15 @@ bool mutex_lock_until(GMutex *mutex, gint64 end);
 /* Finds its place, from the environment. */
 void store_begin(DconfdbBackend *self);
 
+/* The same with `turn` held, where it isn't found yet. False: there is none now. */
+bool store_find(DconfdbBackend *self, DconfdbError *error);
+
+/* Its folder; NULL: its place isn't found yet. */
+static inline const char *store_folder(const DconfdbBackend *self)
+{
+    return g_atomic_pointer_get(&self->folder);
+}
+
 /* Opens it for the first time, if nobody has: the worker does, or whoever needs a snapshot sooner. */
 void store_open(DconfdbBackend *self);
 
@@ -218,8 +228,8 @@ void store_write_alone(DconfdbBackend *self, gint64 end);
 
 bool store_has_waiting(DconfdbBackend *self);
 
-/* Looks at the files, and notifies of every difference; of a first opening, of nothing. False: they can't be read now. For the worker, which is
- * begun only where there is a place for a store. */
+/* Looks at the files, and notifies of every difference; of a first opening, of nothing. False: they can't be read now, or the environment names
+ * no place for a store. For the worker. */
 bool store_look(DconfdbBackend *self);
 
 /* The same for who reads where nothing is watched: it waits for nobody who looks or writes, but sees what who writes has seen. The worker tells. */
@@ -245,7 +255,7 @@ void store_leave(DconfdbBackend *self);
 
 /* ---- the turn to write (turn.c), by the worker; neither mutex is held */
 
-/* Takes the turn, or goes on waiting for it, until then. Its fault is EWOULDBLOCK as long as others have it: the
+/* Takes the turn, or goes on waiting for it, until then. It has no lock as long as others have theirs, which its fault says, too: the
  * worker is woken when it comes. `at` is the worker's `wait`, or, of another thread (`is_worker` false), one of its own. */
 Turn turn_take(DconfdbBackend *self, Wait **at, bool is_worker, gint64 end);
 
@@ -259,8 +269,8 @@ void turn_give(Wait **at);
  * come. */
 void turn_leave(DconfdbBackend *self);
 
-/* How long something that waits for its turn is waited for. Neither call takes a lock or memory. */
-DconfdbPatience patience_of(const DconfdbBackend *self, gint64 each);
+/* How long something that waits for its turn is waited for, by who waits, as dconfdb_patience_for has it. Neither call takes a lock or memory. */
+DconfdbPatience patience_of(const DconfdbBackend *self, uint32_t who);
 
 /* Whether it goes on, by what was written: `failed` and `settled` are from now, the others from when the wait began. */
 bool patience_goes_on(DconfdbPatience *patience, guint64 settled, guint64 added, guint64 failed, guint64 tries);
@@ -281,10 +291,11 @@ static inline bool is_at_work(const DconfdbBackend *self)
 void know_what_waits(const DconfdbBackend *self, DconfdbRound *known);
 void know_before_write(const DconfdbBackend *self, DconfdbRound *known);
 
-/* What is asked of it: to be there; `is_news`, to see to something new; `is_owed`, which else is done by who asks. Or somebody listens who didn't, or
+/* What is asked of it: to be there; `is_news`, to see to something new; `adds`, to write what begins to wait, and `waits`, something did before;
+ * `is_owed`, which else is done by who asks. Or somebody listens who didn't, or
  * whose main context didn't turn. */
 typedef struct {
-    bool is_wanted, is_news, is_owed, listens;
+    bool is_wanted, is_news, adds, waits, is_owed, listens;
 } Need;
 
 /* Begins it, and wakes it, as the proved call says, whose last word it gives: DCONFDB_NEED_TOLD, it sees to what is new; DCONFDB_NEED_HERE, who asks

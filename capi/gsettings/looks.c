@@ -97,11 +97,21 @@ typedef struct {
     Notice *notice;
 } Looking;
 
+/* It may be found only now, and with it the profiles. */
+static bool has_place(DconfdbBackend *self, Looking *it, DconfdbError *error)
+{
+    if (self->names)
+        return true;
+    bool has = store_find(self, error);
+    it->profiles = profiles_now(self->names, self->profiles);
+    return has;
+}
+
 /* Opens the store, also in the place of one that is open; where that fails, the old one stays. A bad file
  * stops no program: it counts as what can be read of it. */
 static bool open_store(DconfdbBackend *self, Looking *it, DconfdbError *error)
 {
-    DconfdbStore *store = place_open(&self->place, error), *old = self->store;
+    DconfdbStore *store = has_place(self, it, error) ? place_open(&self->place, error) : NULL, *old = self->store;
     if (!store)
         return false;
     if (old) {

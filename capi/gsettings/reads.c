@@ -101,7 +101,7 @@ static GVariant *found_at(uint32_t found, Source *source, const char *key)
     }
 }
 
-/* What is stored, and whether it is of the type, is asked where that counts. */
+/* What is stored, and whether it is of the type, is asked where that counts. Whoever set what waits could write. */
 GVariant *dconfdb_backend_read(GSettingsBackend *backend, const char *key, const GVariantType *expected, gboolean default_value)
 {
     DconfdbBackend *self = backend_of(backend);

@@ -5,13 +5,11 @@
 
 #include <string.h>
 
-/* In microseconds: how long a set waits for others where no worker can be had. */
-enum { LONGEST_WRITE = 10000000 };
-
-/* `lock` is held. True: there is no worker, and it is to be written here. For those before it the worker is awake, or is to try again. */
+/* `lock` is held. True: there is no worker, and it is to be written here. */
 static bool add(DconfdbBackend *self, Change *change)
 {
-    const Need need = {.is_wanted = true, .is_news = waiting_add(&self->waiting, change), .is_owed = true};
+    const Need need = {.is_wanted = true, .adds = true, .waits = waiting_is_any(&self->waiting), .is_owed = true};
+    waiting_add(&self->waiting, change);
     return worker_need(self, &need) == DCONFDB_NEED_HERE;
 }
 
@@ -41,7 +39,7 @@ static uint32_t make(DconfdbBackend *self, Change *change, GTree **told)
     g_mutex_unlock(&self->lock);
     g_clear_pointer(&change, change_free);
     if (is_here)
-        store_write_alone(self, g_get_monotonic_time() + LONGEST_WRITE);
+        store_write_alone(self, g_get_monotonic_time() + (gint64)dconfdb_patience_for(DCONFDB_PATIENCE_ASKED));
     return entry;
 }
 
@@ -93,6 +91,6 @@ void dconfdb_backend_sync(GSettingsBackend *backend)
     DconfdbBackend *self = backend_of(backend);
     if (store_sync(self))
         return;
-    g_autofree char *text = g_strdup_printf("%s: what was set is not on the disk yet; it goes on waiting", self->place.folder);
+    g_autofree char *text = g_strdup_printf("%s: what was set is not on the disk yet; it goes on waiting", store_folder(self));
     say(self, text);
 }

@@ -19,17 +19,24 @@ bool mutex_lock_until(GMutex *mutex, gint64 end)
     return true;
 }
 
+bool store_find(DconfdbBackend *self, DconfdbError *error)
+{
+    StorePlace place;
+    bool are_all;
+    self->names = place_find(NULL, &place, error) ? place_files(&place, &self->profiles, &are_all, error) : NULL;
+    if (!self->names) {
+        place_release(&place);
+        return false;
+    }
+    self->place = place;
+    g_atomic_pointer_set(&self->folder, place.folder);
+    return true;
+}
+
+/* The environment is read now, as the program may change it, and again only where it names no place yet: who looks first says why. */
 void store_begin(DconfdbBackend *self)
 {
-    DconfdbError error = DCONFDB_ERROR_INIT;
-    /* The environment is read now, and not again: the program may change it. */
-    bool are_all;
-    self->names = place_find(NULL, &self->place, &error) ? place_files(&self->place, &self->profiles, &are_all, &error) : NULL;
-    self->has_opened = !self->names;
-    if (self->names)
-        return;
-    place_release(&self->place);
-    g_warning("%s", error.text);
+    store_find(self, NULL);
 }
 
 void store_open(DconfdbBackend *self)
@@ -65,7 +72,7 @@ static gint64 coarse_time(void)
 static gint64 next_look(const DconfdbBackend *self, uint32_t looker, gint64 now)
 {
     uint64_t due = (uint64_t)atomic_load(&self->looks);
-    return (gint64)dconfdb_next_look(looker, due, (uint64_t)now, self->place.folder != NULL, self->has_opened, is_at_work(self),
+    return (gint64)dconfdb_next_look(looker, due, (uint64_t)now, self->has_opened, is_at_work(self),
                                      g_atomic_int_get(&self->is_watching));
 }
 
@@ -82,7 +89,7 @@ static bool is_to_peek(DconfdbBackend *self, gint64 now)
 
 gint64 after_a_fault(gint64 now)
 {
-    return (gint64)dconfdb_next_look(DCONFDB_LOOKER_FAILED, 0, (uint64_t)now, true, true, true, false);
+    return (gint64)dconfdb_next_look(DCONFDB_LOOKER_FAILED, 0, (uint64_t)now, true, true, false);
 }
 
 /* `turn` is held, and given back. A handler would run amid what the caller does, if this thread told. */

@@ -13,7 +13,7 @@ struct Wait {
     DconfdbWriter known;    /* whether a thread waits in line */
     uint32_t task;          /* the last one */
     pthread_t thread;
-    int fault; /* EWOULDBLOCK: it isn't had yet */
+    int fault; /* EWOULDBLOCK at first: it isn't had */
     bool is_over; /* the thread's; guarded by `lock` of the backend, as is `fault` until then */
 };
 
@@ -22,7 +22,7 @@ static void *wait_in_kernel(void *data)
     Wait *wait = data;
     DconfdbBackend *self = wait->backend;
     pthread_setname_np(pthread_self(), "dconfdb-turn");
-    int fault = folder_lock(self->place.folder, WITHOUT_END, &wait->lock);
+    int fault = folder_lock(store_folder(self), WITHOUT_END, &wait->lock);
     g_mutex_lock(&self->lock);
     wait->fault = fault;
     wait->is_over = true;
@@ -52,11 +52,11 @@ static bool carry_out(DconfdbBackend *self, Wait *wait, gint64 end)
 {
     switch (wait->task) {
     case DCONFDB_LINE_TRY:
-        wait->fault = folder_lock(self->place.folder, 0, &wait->lock);
-        return wait->fault != EWOULDBLOCK;
+        wait->fault = folder_lock(store_folder(self), 0, &wait->lock);
+        return !wait->lock.is_others;
     case DCONFDB_LINE_WAIT:
-        wait->fault = folder_lock(self->place.folder, (int)(MAX(end - g_get_monotonic_time(), 0) / MILLISECOND), &wait->lock);
-        return wait->fault != EWOULDBLOCK;
+        wait->fault = folder_lock(store_folder(self), (int)(MAX(end - g_get_monotonic_time(), 0) / MILLISECOND), &wait->lock);
+        return !wait->lock.is_others;
     case DCONFDB_LINE_BEGIN:
         wait->known.has_line = thread_begin(&wait->thread, wait_in_kernel, wait);
         return wait->known.has_line;
@@ -70,7 +70,7 @@ static void meet_others(DconfdbBackend *self, Wait *wait)
     if (dconfdb_failing_met(&wait->failing, true, true, true, (uint64_t)g_get_monotonic_time()) != DCONFDB_FAULT_SAY)
         return;
     g_autofree char *text =
-        g_strdup_printf("%s: others have been writing there for ten seconds; what was set goes on waiting", self->place.folder);
+        g_strdup_printf("%s: others have been writing there for ten seconds; what was set goes on waiting", store_folder(self));
     say(self, text);
 }
 
@@ -121,9 +121,9 @@ void turn_leave(DconfdbBackend *self)
 
 /* ---- how long it is waited for */
 
-DconfdbPatience patience_of(const DconfdbBackend *self, gint64 each)
+DconfdbPatience patience_of(const DconfdbBackend *self, uint32_t who)
 {
-    DconfdbPatience patience = {.each = (uint64_t)each};
+    DconfdbPatience patience = {.each = dconfdb_patience_for(who)};
     patience_renew(&patience, self);
     return patience;
 }
@@ -139,6 +139,6 @@ bool patience_goes_on(DconfdbPatience *patience, guint64 settled, guint64 added,
 void patience_renew(DconfdbPatience *patience, const DconfdbBackend *self)
 {
     DconfdbProgress progress = {.moved = UINT64_MAX};
-    DconfdbFileTime changed = folder_written(self->place.folder);
+    DconfdbFileTime changed = folder_written(store_folder(self));
     dconfdb_patience_goes_on(patience, &progress, &changed, (uint64_t)g_get_monotonic_time());
 }

@@ -1,5 +1,6 @@
 /* Changes that wait to be written: what becomes of one beside the others, which is the newest of a key, and how they are written. */
 #define _POSIX_C_SOURCE 200809L
+#include "edit_with.h"
 #include "gsettings.h"
 #include "seen.h"
 
@@ -59,19 +60,10 @@ static bool is_stored(const Edit *edit, const DconfdbSnapshot *now)
     return dconfdb_snapshot_has_edit(or_nothing(now), &edit->asked);
 }
 
-/* Whether both set one value, or reset: it is in normal form, so that it has the same bytes. */
-static bool are_same(const DconfdbEdit *one, const DconfdbEdit *other)
-{
-    if (!one->type || !other->type)
-        return one->type == other->type;
-    return one->size == other->size && (one->type == other->type || strcmp(one->type, other->type) == 0) &&
-           (one->size == 0 || memcmp(one->data, other->data, one->size) == 0);
-}
-
 /* Whether an edit says what the newest one of its key says that waits, if there is one, or else what is stored, as the proved call has it. */
 static bool is_said(const Edit *edit, const Edit *waits, const DconfdbSnapshot *now)
 {
-    const DconfdbSaid said = {.says = waits != NULL, .is_same = waits && are_same(&waits->asked, &edit->asked)};
+    const DconfdbSaid said = {.says = waits != NULL, .is_same = waits && is_same_word(&waits->asked, &edit->asked)};
     return dconfdb_is_said(&said, 1, !waits && is_stored(edit, now));
 }
 
@@ -204,15 +196,13 @@ static DconfdbWaiter waiter_of(const Change *change)
     return (DconfdbWaiter){.change = (uintptr_t)change, .set = change->set};
 }
 
-bool waiting_add(Waiting *waiting, Change *change)
+void waiting_add(Waiting *waiting, Change *change)
 {
-    bool is_first = !waiting_is_any(waiting);
     set_now(waiting, change);
     waiting->added++;
     DconfdbWaiter waiter = waiter_of(change);
     g_array_append_val(waiting->line, waiter);
     put_change(waiting, change);
-    return is_first;
 }
 
 void waiting_renew(Waiting *waiting, const Change *change)

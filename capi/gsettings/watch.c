@@ -3,7 +3,7 @@
 
 static void begin(DconfdbBackend *self)
 {
-    bool is_whole = watch_begin(self->watch, &self->place);
+    bool is_whole = store_folder(self) && watch_begin(self->watch, &self->place);
     g_atomic_int_set(&self->is_watching, is_whole);
     watch_answer(self->watch, is_whole);
 }

@@ -118,7 +118,7 @@ static void take_turn(DconfdbBackend *self, DconfdbRound *known, Turn *turn)
     *turn = turn_take(self, &self->wait, true, 0);
     self->again = turn_next(self);
     known->has_asked = true;
-    known->is_others = turn->fault == EWOULDBLOCK;
+    known->is_others = !turn->lock;
 }
 
 /* What waited was settled without the turn: others have that. */
@@ -223,12 +223,13 @@ uint32_t worker_need(DconfdbBackend *self, const Need *need)
 {
     DconfdbWriter known = {.begun_in = (uint32_t)self->process,
                            .process = (uint32_t)getpid(),
-                           .has_store = self->place.folder != NULL,
                            .has_ended = self->has_ended,
                            .has_thread = self->has_worker,
                            .has_wake = self->wakes >= 0,
                            .is_wanted = need->is_wanted,
                            .is_news = need->is_news,
+                           .adds = need->adds,
+                           .waits = need->waits,
                            .is_owed = need->is_owed,
                            .listens = need->listens,
                            .has_turned = self->has_turned};

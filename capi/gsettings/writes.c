@@ -5,8 +5,7 @@
 
 #include <errno.h>
 
-/* In microseconds: how long g_settings_sync() waits; and how often who waits looks for turns of others. */
-enum { LONGEST_SYNC = 10000000 };
+/* In microseconds: how often who waits looks for turns of others. */
 enum { BETWEEN_TURNS = 500000 };
 
 static void warn_of_waiting(Notice *notice, const DconfdbError *fault)
@@ -89,15 +88,15 @@ gint64 store_write(DconfdbBackend *self, const Turn *turn)
 typedef struct {
     bool is_worker;
     Wait **at, *other; /* the worker's, which may be in line; or the other, of this call alone */
-    Turn turn;         /* EWOULDBLOCK: it isn't had */
+    Turn turn;         /* without a lock: others have theirs */
 } OwnTurn;
 
 /* Who has waited in vain stays in line, if it is. */
 static void give_own(OwnTurn *own)
 {
-    if (own->turn.fault != EWOULDBLOCK)
+    if (own->turn.lock)
         turn_give(own->at);
-    own->turn.fault = EWOULDBLOCK;
+    own->turn = (Turn){NULL, EWOULDBLOCK};
 }
 
 static void write_alone(DconfdbBackend *self, OwnTurn *own)
@@ -117,7 +116,7 @@ static void carry_out_alone(DconfdbBackend *self, uint32_t task, DconfdbRound *k
     case DCONFDB_ROUND_TAKE:
         own->turn = turn_take(self, own->at, own->is_worker, end);
         known->has_asked = true;
-        known->is_others = own->turn.fault == EWOULDBLOCK;
+        known->is_others = !own->turn.lock;
         break;
     case DCONFDB_ROUND_WRITE:
         write_alone(self, own);
@@ -242,7 +241,7 @@ static bool carry_out(DconfdbBackend *self, uint32_t task, Sync *sync)
 
 bool store_sync(DconfdbBackend *self)
 {
-    Sync sync = {.begun = (guint)g_atomic_int_get(&self->looks_begun), .patience = patience_of(self, LONGEST_SYNC)};
+    Sync sync = {.begun = (guint)g_atomic_int_get(&self->looks_begun), .patience = patience_of(self, DCONFDB_PATIENCE_ASKED)};
     uint32_t task = DCONFDB_WRITER_BEGINS;
     bool yes = true, has_turn = false;
     sync.known.begun_in = (uint32_t)self->process;
@@ -251,7 +250,7 @@ bool store_sync(DconfdbBackend *self)
     sync.tries = self->tries;
     sync.known.sync = (DconfdbSync){.has_writer = self->has_worker && !worker_is_this(self),
                                     .has_failed = self->failed != 0,
-                                    .has_store = self->place.folder != NULL};
+                                    .has_store = store_folder(self) != NULL};
     g_mutex_unlock(&self->lock);
     while ((task = dconfdb_writer_after(DCONFDB_WRITER_SYNC, task, yes, &sync.known)) < DCONFDB_SYNC_YES) {
         yes = carry_out(self, task, &sync);

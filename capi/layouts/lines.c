@@ -16,7 +16,8 @@ enum { CURSOR_GROUP = 16, CURSOR_LINE = 32, CURSOR_PLACE = 40, CURSOR = 48, GROU
 
 /* What is known of a key is read alone: what it is, and the fields of which these are so. */
 enum { FINDING_WHAT = 0, FINDING_IS_KNOWN = 4, FINDING_HAS_SCHEMAS = 5, FINDING_MAY_BE_ELSEWHERE = 6, FINDING_HAS_VALUE = 7,
-       FINDING_IS_TAKEN = 8, FINDING_IS_OF_TYPE = 9, FINDING_IS_SYSTEM = 10, FINDING = 12 };
+       FINDING_IS_TAKEN = 8, FINDING_IS_OF_TYPE = 9, FINDING_IS_SYSTEM = 10, FINDING_IS_MADE = 11, FINDING_IS_UNSEEN = 12,
+       FINDING_IS_AMONG_PROFILES = 13, FINDING = 16 };
 
 /* Beside one directory, of which `/a/` is a slip away, and `/ab/c/` isn't. */
 static bool is_found_at(const char *directory, uint32_t what, unsigned fields, uint32_t finding)
@@ -24,7 +25,7 @@ static bool is_found_at(const char *directory, uint32_t what, unsigned fields, u
     _Alignas(16) uint8_t known[FINDING] = {0}, other[LENT];
     lends(other, "/b/", 3);
     memcpy(known, &what, NUMBER);
-    for (int i = 0; i < FINDING_IS_SYSTEM + 1 - FINDING_IS_KNOWN; i++)
+    for (int i = 0; i < FINDING_IS_AMONG_PROFILES + 1 - FINDING_IS_KNOWN; i++)
         known[FINDING_IS_KNOWN + i] = fields >> i & 1;
     return dconfdb_finding(known, directory, strlen(directory), other, 1) == finding;
 }
@@ -36,11 +37,13 @@ static bool is_found(uint32_t what, unsigned fields, uint32_t finding)
 
 static void finds_finding(void)
 {
-    enum { KNOWN = 1, SCHEMAS = 2, ELSEWHERE = 4, VALUE = 8, TAKEN = 16, TYPED = 32, SYSTEM = 64 };
+    enum { KNOWN = 1, SCHEMAS = 2, ELSEWHERE = 4, VALUE = 8, TAKEN = 16, TYPED = 32, SYSTEM = 64, MADE = 128, UNSEEN = 256, AMONG = 512 };
     is_so(is_found(0, 0, 1) && is_found(1, 0, 2) && is_found(2, 0, 3) && is_found(0, KNOWN, 0), "DconfdbFinding");
     is_so(is_found(0, ELSEWHERE, 0) && is_found_at("/a/", 0, ELSEWHERE, 1) && is_found(0, ELSEWHERE | SCHEMAS, 1), "DconfdbFinding");
     is_so(is_found(0, KNOWN | VALUE, 4) && is_found(0, KNOWN | VALUE | TYPED, 5) && is_found(0, KNOWN | VALUE | TAKEN, 0), "DconfdbFinding");
     is_so(is_found_at("profile", 3, SYSTEM, 6) && is_found_at("profile", 3, 0, 0) && is_found_at("profile", 3, SYSTEM | KNOWN, 0), "DconfdbFinding");
+    is_so(is_found_at("profile", 3, SYSTEM | MADE, 0) && is_found_at("profile", 3, SYSTEM | UNSEEN, 0) && is_found_at("profile", 3, SYSTEM | AMONG, 0),
+          "DconfdbFinding");
     lies("DconfdbFinding", "what", FINDING_WHAT, NUMBER);
     lies("DconfdbFinding", "is_known", FINDING_IS_KNOWN, FLAG);
     lies("DconfdbFinding", "has_schemas", FINDING_HAS_SCHEMAS, FLAG);
@@ -49,6 +52,9 @@ static void finds_finding(void)
     lies("DconfdbFinding", "is_taken", FINDING_IS_TAKEN, FLAG);
     lies("DconfdbFinding", "is_of_type", FINDING_IS_OF_TYPE, FLAG);
     lies("DconfdbFinding", "is_system", FINDING_IS_SYSTEM, FLAG);
+    lies("DconfdbFinding", "is_made", FINDING_IS_MADE, FLAG);
+    lies("DconfdbFinding", "is_unseen", FINDING_IS_UNSEEN, FLAG);
+    lies("DconfdbFinding", "is_among_profiles", FINDING_IS_AMONG_PROFILES, FLAG);
     printf("TAKES(DconfdbFinding, %d);\n", FINDING);
 }
 

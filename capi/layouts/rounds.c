@@ -69,9 +69,10 @@ static void finds_round(void)
 }
 
 enum { SYNC_HAS_WRITER = 0, SYNC_HAS_FAILED = 1, SYNC_HAS_STORE = 2, SYNC_HAS_LOOKED = 3, SYNC_IS_TO_SETTLE = 4, SYNC = 5 };
-enum { WRITER_SETTLED = 0, WRITER_ADDED = 8, WRITER_BEGUN_IN = 16, WRITER_PROCESS = 20, WRITER_SYNC = 24, WRITER_HAS_STORE = 29, WRITER_HAS_ENDED = 30,
-       WRITER_HAS_THREAD = 31, WRITER_HAS_WAKE = 32, WRITER_HAS_LINE = 33, WRITER_IS_WANTED = 34, WRITER_IS_NEWS = 35, WRITER_IS_OWED = 36,
-       WRITER_LISTENS = 37, WRITER_HAS_TURNED = 38, WRITER_EXITS = 39, WRITER_IS_THREAD = 40, WRITER_IS_LET_GO = 41, WRITER_END = 42, WRITER_SIZE = 48 };
+enum { WRITER_SETTLED = 0, WRITER_ADDED = 8, WRITER_BEGUN_IN = 16, WRITER_PROCESS = 20, WRITER_SYNC = 24, WRITER_HAS_ENDED = 29,
+       WRITER_HAS_THREAD = 30, WRITER_HAS_WAKE = 31, WRITER_HAS_LINE = 32, WRITER_IS_WANTED = 33, WRITER_IS_NEWS = 34, WRITER_ADDS = 35,
+       WRITER_WAITS = 36, WRITER_IS_OWED = 37, WRITER_LISTENS = 38, WRITER_HAS_TURNED = 39, WRITER_EXITS = 40, WRITER_IS_THREAD = 41,
+       WRITER_IS_LET_GO = 42, WRITER_END = 43, WRITER_SIZE = 48 };
 
 /* Which call is asked, and what is answered to it. */
 typedef struct {
@@ -99,14 +100,16 @@ static bool is_due(uint32_t task, unsigned fields, uint32_t next)
 /* At first nothing is to be done; each flag changes that, or what else is so. */
 static void finds_writer(void)
 {
-    enum { A_STORE = 32, ENDED = 64, THREAD = 128, WAKE = 256, LINE = 512, WANTED = 1024, NEWS = 2048, OWED = 4096, LISTENS = 8192, HAS_TURNED = 16384,
-           EXITS = 32768, ITSELF = 65536, GONE = 131072 };
+    enum { ENDED = 32, THREAD = 64, WAKE = 128, LINE = 256, WANTED = 512, NEWS = 1024, ADDS = 2048, BEHIND = 4096, OWED = 8192, LISTENS = 16384,
+           HAS_TURNED = 32768, EXITS = 65536, ITSELF = 131072, GONE = 262144 };
     const AskedOf need = {0, 0, true}, line = {1, 0, true}, sync = {3, 0, true}, end = {2, 0, true}, marked = {2, 1, true}, counted = {2, 8, true}, waited = {3, 3, true};
-    is_so(written_by(need, 0, 0, 0, 0) == 5 && written_by(need, 0, 0, 0, WANTED | A_STORE) == 1, "DconfdbWriter");
-    is_so(written_by(need, 0, 0, 0, WANTED | A_STORE | WAKE) == 2 && written_by(need, 0, 0, 1, WANTED | A_STORE | WAKE) == 5, "DconfdbWriter");
-    is_so(written_by(need, 0, 0, 0, WANTED | A_STORE | WAKE | ENDED) == 5 && written_by(need, 0, 0, 0, THREAD | NEWS) == 3, "DconfdbWriter");
-    is_so(written_by(need, 0, 0, 0, LISTENS | A_STORE) == 1 && written_by(need, 0, 0, 0, THREAD | LISTENS) == 5, "DconfdbWriter");
+    is_so(written_by(need, 0, 0, 0, 0) == 5 && written_by(need, 0, 0, 0, WANTED) == 1, "DconfdbWriter");
+    is_so(written_by(need, 0, 0, 0, WANTED | WAKE) == 2 && written_by(need, 0, 0, 1, WANTED | WAKE) == 5, "DconfdbWriter");
+    is_so(written_by(need, 0, 0, 0, WANTED | WAKE | ENDED) == 5 && written_by(need, 0, 0, 0, THREAD | NEWS) == 3, "DconfdbWriter");
+    is_so(written_by(need, 0, 0, 0, LISTENS) == 1 && written_by(need, 0, 0, 0, THREAD | LISTENS) == 5, "DconfdbWriter");
     is_so(written_by(need, 0, 0, 0, THREAD | HAS_TURNED) == 5 && written_by(need, 0, 0, 0, THREAD | LISTENS | HAS_TURNED) == 3, "DconfdbWriter");
+    is_so(written_by(need, 0, 0, 0, THREAD | ADDS) == 3 && written_by(need, 0, 0, 0, THREAD | ADDS | BEHIND) == 5, "DconfdbWriter");
+    is_so(written_by(need, 0, 0, 1, THREAD | NEWS | OWED) == 4, "DconfdbWriter");
     is_so(written_by(need, 0, 0, 0, OWED) == 4 && written_by(line, 0, 0, 0, LINE) == 4 && written_by(line, 0, 0, 0, ITSELF) == 1, "DconfdbWriter");
     is_so(written_by(line, 0, 0, 0, LINE | ITSELF) == 3 && written_by(sync, 0, 0, 0, 0) == 2 && written_by(sync, 0, 0, 1, 0) == 7, "DconfdbWriter");
     is_so(written_by(end, 0, 0, 0, EXITS) == 1 && written_by(end, 0, 0, 1, EXITS) == 11 && written_by(end, 0, 0, 1, 0) == 1, "DconfdbWriter");
@@ -118,13 +121,14 @@ static void finds_writer(void)
     lies("DconfdbWriter", "begun_in", WRITER_BEGUN_IN, NUMBER);
     lies("DconfdbWriter", "process", WRITER_PROCESS, NUMBER);
     lies("DconfdbWriter", "sync", WRITER_SYNC, SYNC);
-    lies("DconfdbWriter", "has_store", WRITER_HAS_STORE, FLAG);
     lies("DconfdbWriter", "has_ended", WRITER_HAS_ENDED, FLAG);
     lies("DconfdbWriter", "has_thread", WRITER_HAS_THREAD, FLAG);
     lies("DconfdbWriter", "has_wake", WRITER_HAS_WAKE, FLAG);
     lies("DconfdbWriter", "has_line", WRITER_HAS_LINE, FLAG);
     lies("DconfdbWriter", "is_wanted", WRITER_IS_WANTED, FLAG);
     lies("DconfdbWriter", "is_news", WRITER_IS_NEWS, FLAG);
+    lies("DconfdbWriter", "adds", WRITER_ADDS, FLAG);
+    lies("DconfdbWriter", "waits", WRITER_WAITS, FLAG);
     lies("DconfdbWriter", "is_owed", WRITER_IS_OWED, FLAG);
     lies("DconfdbWriter", "listens", WRITER_LISTENS, FLAG);
     lies("DconfdbWriter", "has_turned", WRITER_HAS_TURNED, FLAG);

@@ -3,6 +3,7 @@
 #include "libdconf.h"
 
 #include "dconfdb_calls.h"
+#include "edit_with.h"
 
 #include <string.h>
 
@@ -40,11 +41,12 @@ static bool is_directory(const gchar *path)
     return dconf_is_dir(path, NULL);
 }
 
-/* Whether it is the path of what is set, or, of NULL, of what is reset. */
+/* Whether it is the path of what is set, or, of NULL, of what is reset; what is none is passed over, as the service does. */
 static bool is_path(const gchar *path, const GVariant *value)
 {
-    bool is_short;
-    return dconfdb_path_kind(bytes_of(path), strlen(path), value != NULL, false, &is_short) <= DCONFDB_PATH_DIRECTORY;
+    DconfdbServed known = {.sets = value != NULL};
+    known.kind = dconfdb_path_kind(bytes_of(path), strlen(path), known.sets ? DCONFDB_KEY_WANTED : DCONFDB_PATH_WANTED, false, &known.is_short);
+    return dconfdb_served_after(DCONFDB_SERVED_PATH, &known) != DCONFDB_SERVED_PASSED;
 }
 
 /* A path of the set, and its value; NULL: a reset. */
@@ -328,7 +330,7 @@ static void put_if_differs(DConfChangeset *base, DConfChangeset *found, const Ro
     GVariant *had = g_tree_lookup(base->rows, row->path);
     DconfdbBase known = {
         .has = had != NULL,
-        .is_same = had && row->value && g_variant_equal(had, row->value),
+        .is_same = are_same_values(had, row->value),
         .is_reset = row_of(found, row->path) != NULL,
         .has_below = has_below(base, row->path),
     };

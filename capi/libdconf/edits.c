@@ -33,19 +33,19 @@ void edits_clear(Edits *self)
     g_ptr_array_unref(self->values);
 }
 
-DconfdbNewEdit known_by_rights(const DconfdbEdit *edit, bool has_user, const DconfdbSnapshot *now)
+DconfdbNewEdit known_by_rights(const DconfdbEdit *edit, bool is_open, const DconfdbSnapshot *now)
 {
     bool sets = edit->type != NULL, may = dconfdb_snapshot_is_writable(or_nothing(now), edit->path);
-    may = dconfdb_may_be_made((const uint8_t *)edit->path, strlen(edit->path), sets, has_user, may);
+    may = dconfdb_may_be_made((const uint8_t *)edit->path, strlen(edit->path), sets, is_open, may);
     return (DconfdbNewEdit){.sets = sets, .may = may};
 }
 
-DconfdbNewEdit *known_of(const Edits *self, bool has_user, const DconfdbSnapshot *now)
+DconfdbNewEdit *known_of(const Edits *self, bool is_open, const DconfdbSnapshot *now)
 {
     DconfdbNewEdit *known = g_new0(DconfdbNewEdit, self->edits->len);
     for (guint at = 0; at < self->edits->len; at++) {
         const DconfdbEdit *edit = edit_at(self, at);
-        known[at] = known_by_rights(edit, has_user, now);
+        known[at] = known_by_rights(edit, is_open, now);
         known[at].is_same = dconfdb_snapshot_has_edit(or_nothing(now), edit);
     }
     return known;

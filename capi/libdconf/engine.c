@@ -112,7 +112,8 @@ static void carry_out(Engine *self, uint32_t task, Looking *it)
     case DCONFDB_GLANCE_HEED: /* what waits is to be overtaken by what others changed since it was asked for */
         heed_others(it->store, it->before, it->after);
         break;
-    case DCONFDB_GLANCE_WATCH: /* who watches hears of it by the profile */
+    case DCONFDB_GLANCE_WATCH:
+        engine_watch_anew(self);
         break;
     default:
         read_files(self, task, it);
@@ -175,24 +176,26 @@ static void end_look(Engine *self)
     g_mutex_unlock(&self->lock);
 }
 
-/* Messages are logged after it: who gets them may change a setting. False: it failed. */
-static bool look_now(Engine *self, DconfdbStore *store)
+/* Messages are logged after it: who gets them may change a setting. False: it failed, by that fault. */
+static bool look_now(Engine *self, DconfdbStore *store, DconfdbError *error)
 {
     Looking it = {.store = store, .error = DCONFDB_ERROR_INIT};
     look(self, &it);
     end_look(self);
     warn_of_faults(self, it.known.is_done ? NULL : &it.error);
+    if (!it.known.is_done)
+        *error = it.error;
     return it.known.is_done;
 }
 
-/* False: it failed, or is still to be made. */
-static bool look_if_due(Engine *self, uint32_t looker)
+/* False: it failed, by that fault, or is still to be made. */
+static bool look_if_due(Engine *self, uint32_t looker, DconfdbError *error)
 {
     DconfdbStore *store;
     switch (begin_look(self, looker, &store)) {
     case DCONFDB_LOOK_OPENS:
     case DCONFDB_LOOK_NOW:
-        return look_now(self, store);
+        return look_now(self, store, error);
     case DCONFDB_LOOK_LATER:
         return false;
     default:
@@ -202,7 +205,8 @@ static bool look_if_due(Engine *self, uint32_t looker)
 
 static DconfdbSnapshot *see(Engine *self, uint32_t looker)
 {
-    look_if_due(self, looker);
+    DconfdbError error;
+    look_if_due(self, looker, &error);
     g_mutex_lock(&self->lock);
     DconfdbSnapshot *now = self->store ? dconfdb_store_snapshot(self->store) : NULL;
     g_mutex_unlock(&self->lock);
@@ -211,7 +215,8 @@ static DconfdbSnapshot *see(Engine *self, uint32_t looker)
 
 bool engine_refresh(Engine *self)
 {
-    return look_if_due(self, DCONFDB_LOOKER_SEES);
+    DconfdbError error;
+    return look_if_due(self, DCONFDB_LOOKER_SEES, &error);
 }
 
 DconfdbSnapshot *engine_look(Engine *self)
@@ -229,9 +234,9 @@ DconfdbSnapshot *engine_current(Engine *self)
     return see(self, DCONFDB_LOOKER_GETS);
 }
 
-DconfdbStore *engine_store(Engine *self)
+DconfdbStore *engine_store(Engine *self, DconfdbError *error)
 {
-    look_if_due(self, DCONFDB_LOOKER_OPENS);
+    look_if_due(self, DCONFDB_LOOKER_OPENS, error);
     g_mutex_lock(&self->lock);
     DconfdbStore *store = self->store;
     g_mutex_unlock(&self->lock);
@@ -259,8 +264,14 @@ void engine_end_write(Engine *self)
 
 gboolean engine_has_user(Engine *self)
 {
-    DconfdbStore *store = engine_store(self);
+    DconfdbError error;
+    DconfdbStore *store = engine_store(self, &error);
     return store && dconfdb_store_user_file(store);
+}
+
+bool engine_is_at_work(const Engine *self)
+{
+    return dconfdb_is_at_work(false, self->process, (uint32_t)getpid());
 }
 
 /* ---- its life */
@@ -270,12 +281,13 @@ Engine *engine_new(DConfClient *client)
     Engine *self = g_atomic_rc_box_new0(Engine);
     g_weak_ref_init(&self->client, client);
     self->context = g_main_context_ref_thread_default();
+    self->process = (uint32_t)getpid();
     g_mutex_init(&self->turn);
     g_mutex_init(&self->lock);
     g_cond_init(&self->looked);
     self->watched = g_hash_table_new_full(g_str_hash, g_str_equal, g_free, NULL);
     self->moments = g_hash_table_new_full(g_str_hash, g_str_equal, NULL, g_free);
-    engine_store(self);
+    engine_has_user(self); /* opens it */
     return self;
 }
 
@@ -358,7 +370,7 @@ static uint32_t find(Engine *self, const gchar *key, DConfReadFlags flags, const
     bool of_user = (flags & DCONF_READ_USER_VALUE) != 0, of_default = (flags & DCONF_READ_DEFAULT_VALUE) != 0;
     DconfdbKnown known = {.waits = is_edited, .sets = value != NULL, .edit_fits = true, .stored_fits = true};
     known.writable = of_user && engine_has_user(self);
-    known.may_write = is_edited && seen_is_writable(now, true, key);
+    known.may_write = is_edited && seen_is_writable(now, true, key); /* whoever asked for the edit could */
     bool is_odd;
     return dconfdb_found(of_user, of_default, &known, &is_odd);
 }

@@ -2,11 +2,12 @@
 #define _GNU_SOURCE
 #include "writes.h"
 
-#include "lent_value.h"
+#include "edit_with.h"
 #include "seen.h"
 #include "threads.h"
 
 #include <string.h>
+#include <unistd.h>
 
 /* In microseconds. */
 enum { MILLISECOND = 1000 };
@@ -89,6 +90,11 @@ static bool begin_thread(Engine *self)
     return true;
 }
 
+static DconfdbWriter known_now(const Engine *self)
+{
+    return (DconfdbWriter){.begun_in = self->process, .process = (uint32_t)getpid()};
+}
+
 /* A thread writes what waits, or this one, where none can be had. */
 static void have_written(Engine *self)
 {
@@ -96,7 +102,10 @@ static void have_written(Engine *self)
     uint32_t task = DCONFDB_WRITER_BEGINS;
     uint64_t again;
     g_mutex_lock(&self->lock);
-    DconfdbWriter known = {.has_store = true, .has_wake = true, .is_wanted = true, .is_owed = true, .has_thread = self->has_thread};
+    DconfdbWriter known = known_now(self);
+    known.has_wake = true; /* one that is there asks what waits by itself, until nothing does */
+    known.is_wanted = known.is_owed = true;
+    known.has_thread = self->has_thread;
     while ((task = dconfdb_writer_after(DCONFDB_WRITER_NEED, task, true, &known)) < DCONFDB_NEED_TOLD) {
         self->has_thread = begin_thread(self);
         known.has_thread = self->has_thread;
@@ -125,7 +134,7 @@ static DconfdbSaid said_of(DConfChangeset *set, const gchar *path, GVariant *val
     if (!set)
         return (DconfdbSaid){.says = false};
     bool says = dconf_changeset_get(set, path, &found);
-    return (DconfdbSaid){says, are_alike(found, value), has_value_below(set, path)};
+    return (DconfdbSaid){says, are_same_values(found, value), has_value_below(set, path)};
 }
 
 /* `lock` is held. Whether the user has that already, or will have once what waits is written. */
@@ -139,14 +148,14 @@ static bool is_redundant(Engine *self, const DconfdbSnapshot *now, const Dconfdb
 }
 
 /* `lock` is held. What becomes of the changes beside what waits. */
-static uint32_t entry_of(Engine *self, bool has_user, const DconfdbSnapshot *now, const Edits *edits, DConfChangeset *changes)
+static uint32_t entry_of(Engine *self, bool may_write, const DconfdbSnapshot *now, const Edits *edits, DConfChangeset *changes)
 {
     g_autofree DconfdbNewEdit *known = g_new0(DconfdbNewEdit, edits->edits->len);
     for (guint at = 0; at < edits->edits->len; at++) {
         const DconfdbEdit *edit = edit_at(edits, at);
         g_autoptr(GVariant) value = NULL;
         dconf_changeset_get(changes, edit->path, &value);
-        known[at] = known_by_rights(edit, has_user, now);
+        known[at] = known_by_rights(edit, may_write, now);
         known[at].is_same = is_redundant(self, or_nothing(now), edit, value);
     }
     bool is_there;
@@ -156,9 +165,9 @@ static uint32_t entry_of(Engine *self, bool has_user, const DconfdbSnapshot *now
 /* Lets the changes wait, unless they are refused, or nothing of them is left. Gives what becomes of them. */
 static uint32_t add_waiting(Engine *self, const DconfdbSnapshot *now, const Edits *edits, DConfChangeset *changes)
 {
-    bool has_user = engine_has_user(self);
+    bool may_write = is_open(self);
     g_mutex_lock(&self->lock);
-    uint32_t entry = entry_of(self, has_user, now, edits, changes);
+    uint32_t entry = entry_of(self, may_write, now, edits, changes);
     if (entry != DCONFDB_ENTRY_REFUSED && entry != DCONFDB_ENTRY_EMPTY) {
         if (!self->waiting)
             self->waiting = dconf_changeset_new();
@@ -201,7 +210,9 @@ gboolean engine_change_fast(Engine *self, DConfChangeset *changes, GError **erro
 void engine_sync(Engine *self)
 {
     DconfdbError fault = DCONFDB_ERROR_INIT;
-    DconfdbWriter known = {.added = 1, .sync.has_looked = true};
+    DconfdbWriter known = known_now(self);
+    known.added = 1;
+    known.sync.has_looked = true;
     uint32_t task = DCONFDB_WRITER_BEGINS;
     uint64_t again;
     while ((task = dconfdb_writer_after(DCONFDB_WRITER_SYNC, task, true, &known)) < DCONFDB_SYNC_YES) {

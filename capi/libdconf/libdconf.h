@@ -24,6 +24,8 @@ typedef struct {
 typedef struct {
     GWeakRef client;
     GMainContext *context; /* signals come in it */
+    uint32_t process;      /* that made it: a child of fork() makes a client of its own */
+    gint is_reopened;      /* other files may be the store's, and are to be watched; atomic */
 
     GMutex turn; /* held while the store is changed, which may take long. It guards: */
     DconfdbFailing failing; /* what waits can't be written */
@@ -53,8 +55,8 @@ Engine *engine_new(DConfClient *client);
 Engine *engine_ref(Engine *self);
 void engine_unref(Engine *self);
 
-/* The store; NULL: it can't be opened. One warning says why. */
-DconfdbStore *engine_store(Engine *self);
+/* The store; NULL: it can't be opened, by that fault. One warning says why, too. */
+DconfdbStore *engine_store(Engine *self, DconfdbError *error);
 
 /* What is seen of the files, a reference; NULL: the store can't be opened. It waits for no disk: as long as this client replaces the user's
  * file, it is what was seen before. Whether they are looked at, dconfdb_look_due says: for who wants to see them, who changes a setting, and
@@ -77,6 +79,9 @@ void engine_end_write(Engine *self);
 /* Whether the profile has a user's database: without one nothing can be written. */
 gboolean engine_has_user(Engine *self);
 
+/* Whether it is at work: in a child of fork() nothing is written, as what waits is the parent's. */
+bool engine_is_at_work(const Engine *self);
+
 /* `lock` is held. The set of that number, as dconfdb_asked_after has it; NULL: it is empty. */
 DConfChangeset *engine_set(Engine *self, size_t number, const GQueue *read_through);
 
@@ -94,6 +99,9 @@ void engine_sync(Engine *self);
 /* ---- who listens (watches.c) */
 
 void engine_watch(Engine *self, const gchar *path);
+
+/* The store was opened: whoever watches watches its files. */
+void engine_watch_anew(Engine *self);
 
 /* False: it isn't watched. */
 gboolean engine_unwatch(Engine *self, const gchar *path);

@@ -209,7 +209,8 @@ static void send_writable(const void *it, DconfdbTelling *telling, const char *p
     }
 }
 
-/* Without a snapshot before, all that is there is told, and that it may be written. Without memory all is. */
+/* Without a snapshot before, all that is there is told, and that it may be written: who listens has seen what was there first, or that nothing was.
+ * Without memory all is. */
 void notice_others(Engine *self)
 {
     static const Teller teller = {finds_changed, send_writable, send_changed};
@@ -218,7 +219,7 @@ void notice_others(Engine *self)
                      self->writing ? dconf_changeset_ref(self->writing) : NULL};
     self->told = others.now ? dconfdb_snapshot_ref(others.now) : NULL;
     g_mutex_unlock(&self->lock);
-    DconfdbTelling telling = {.is_other = others.now && others.before != others.now, .has_rights = true};
+    DconfdbTelling telling = {.is_first = false, .is_other = others.now && others.before != others.now, .has_rights = true};
     while (tell_next_list(&telling) != DCONFDB_TELL_OVER)
         tell_list(&teller, &others, others.before, others.now, &telling);
     g_clear_pointer(&others.own, dconf_changeset_unref);

@@ -271,7 +271,7 @@ static bool carry_out(Try *try, uint32_t task)
 {
     switch (task) {
     case DCONFDB_CHANGING_SETTLE:
-        return settle_store(try->store, NULL);
+        return settle_store(try->store, try->fault);
     case DCONFDB_CHANGING_PUT:
         return put(try);
     case DCONFDB_CHANGING_GIVE_UP:
@@ -291,7 +291,7 @@ static bool make(Try *try)
     DconfdbSnapshot *now = engine_look(try->engine);
     Edits edits = edits_of(try->changes);
     DconfdbChanging changing = {.has_store = try->store, .has_user = engine_has_user(try->engine)};
-    g_autofree DconfdbNewEdit *known = known_of(&edits, changing.has_user, now);
+    g_autofree DconfdbNewEdit *known = known_of(&edits, is_open(try->engine), now);
     changing.is_there = edits_are_there(known, edits.edits->len);
     leave_out(&edits, known);
     changing.is_left = edits.edits->len > 0;
@@ -309,11 +309,11 @@ static bool make(Try *try)
 /* False: it could not be written, by no fault of its own, and goes on waiting. What is refused is taken back. */
 gboolean write_waiting(Engine *self, gboolean tries_again, DconfdbError *fault)
 {
-    g_autoptr(DConfChangeset) taken = take_waiting(self);
+    g_autoptr(DConfChangeset) taken = engine_is_at_work(self) ? take_waiting(self) : NULL;
     if (!taken)
         return TRUE;
     g_autoptr(GHashTable) unmade = g_hash_table_new_full(g_str_hash, g_str_equal, g_free, NULL);
-    Try try = {.engine = self, .changes = taken, .store = store_of(self, fault), .unmade = unmade, .refusal = DCONFDB_ERROR_INIT, .fault = fault};
+    Try try = {.engine = self, .changes = taken, .store = engine_store(self, fault), .unmade = unmade, .refusal = DCONFDB_ERROR_INIT, .fault = fault};
     bool is_done = make(&try);
     if (try.refusal.code != DCONFDB_ERROR_NONE)
         g_warning("failed to commit changes to dconf: %s", try.refusal.text);

@@ -15,10 +15,18 @@ typedef struct {
 
 /* ---- the source */
 
+/* The store's files, or, where none can be opened yet, those by which it will be; where nobody knows these they are asked for again. */
+static bool watch_what_is_there(FileSource *self)
+{
+    DconfdbError error;
+    const DconfdbStore *store = engine_store(self->engine, &error);
+    const StorePlace *place = engine_place(self->engine);
+    return store ? watch_store(self->watch, store) : place && watch_begin(self->watch, place);
+}
+
 static void begin(FileSource *self)
 {
-    const DconfdbStore *store = engine_store(self->engine);
-    bool is_whole = store ? watch_store(self->watch, store) : watch_begin(self->watch, engine_place(self->engine));
+    bool is_whole = watch_what_is_there(self);
     int descriptor = watch_descriptor(self->watch);
     if (descriptor >= 0 && !self->descriptor && !g_source_is_destroyed(&self->source))
         self->descriptor = g_source_add_unix_fd(&self->source, descriptor, G_IO_IN);
@@ -34,11 +42,28 @@ static void hears(FileSource *self, Hearing hearing)
     g_mutex_unlock(&self->engine->lock);
 }
 
+/* A look by any thread may have opened the store. */
+static WatchStep next_step(FileSource *self, gint64 *until)
+{
+    if (g_atomic_int_compare_and_exchange(&self->engine->is_reopened, TRUE, FALSE))
+        watch_opened_anew(self->watch);
+    return watch_step(self->watch, until);
+}
+
+void engine_watch_anew(Engine *self)
+{
+    g_atomic_int_set(&self->is_reopened, TRUE);
+    g_mutex_lock(&self->lock);
+    if (self->source)
+        g_source_set_ready_time(self->source, 0);
+    g_mutex_unlock(&self->lock);
+}
+
 /* Until there is nothing to do but to wait. */
 static void carry_out(FileSource *self)
 {
     gint64 until;
-    for (WatchStep step; (step = watch_step(self->watch, &until)) != WATCH_REST;) {
+    for (WatchStep step; (step = next_step(self, &until)) != WATCH_REST;) {
         if (step == WATCH_FILES) {
             begin(self);
         } else {
@@ -47,6 +72,8 @@ static void carry_out(FileSource *self)
         }
     }
     g_source_set_ready_time(&self->source, until == 0 ? -1 : until);
+    if (g_atomic_int_get(&self->engine->is_reopened))
+        g_source_set_ready_time(&self->source, 0);
     hears(self, (Hearing){watch_descriptor(self->watch) + 1, getpid(), watch_is_whole(self->watch), until});
 }
 
@@ -91,8 +118,8 @@ static void attach(Engine *self, GSource *source)
     g_mutex_unlock(&self->lock);
 }
 
-/* Looks at the files, watches them, and looks again: what changes in between is told. Where the store can't be opened now, all that
- * is in it will be. */
+/* Looks at the files, watches them, and looks again: what changes in between is told. Where the store can't be opened now, or
+ * has no place, all that is in it will be. */
 static void begin_watching(Engine *self)
 {
     DconfdbSnapshot *now = engine_look(self);
@@ -119,7 +146,7 @@ void engine_watch(Engine *self, const gchar *path)
     g_hash_table_replace(self->watched, g_strdup(path), GUINT_TO_POINTER(count + 1));
     gboolean is_new = !self->source;
     g_mutex_unlock(&self->lock);
-    if (is_new && engine_place(self))
+    if (is_new)
         begin_watching(self);
 }
 

@@ -2,10 +2,12 @@
 #define _GNU_SOURCE
 #include "writes.h"
 
+#include "faults.h"
+
 #include <unistd.h>
 
-/* How long a change waits for others, in milliseconds. */
-enum { LONGEST_WAIT = 10000 };
+/* In microseconds. */
+enum { MILLISECOND = 1000 };
 
 /* ---- refusals */
 
@@ -34,7 +36,7 @@ void end_writing(Engine *self)
 /* Waits for the turn to write, before anybody who reads is kept from the files. False: that fault. */
 bool turn_begin(Engine *self, DconfdbStore *store, FolderLock *lock, Turn *turn)
 {
-    *turn = (Turn){lock, folder_lock(dconfdb_store_folder(store), LONGEST_WAIT, lock)};
+    *turn = (Turn){lock, folder_lock(dconfdb_store_folder(store), (int)(dconfdb_patience_for(DCONFDB_PATIENCE_ASKED) / MILLISECOND), lock)};
     if (turn->fault != 0)
         return false;
     engine_begin_write(self);
@@ -47,15 +49,9 @@ void turn_end(Engine *self, FolderLock *lock)
     engine_end_write(self);
 }
 
-/* The store; or the fault that it can't be opened. */
-DconfdbStore *store_of(Engine *self, DconfdbError *fault)
+bool is_open(Engine *self)
 {
-    DconfdbStore *store = engine_store(self);
-    if (!store) {
-        *fault = (DconfdbError){.code = DCONFDB_ERROR_FILE};
-        g_strlcpy(fault->text, "the store can't be opened", sizeof fault->text);
-    }
-    return store;
+    return engine_has_user(self) && engine_is_at_work(self);
 }
 
 /* As dconfdb_store_change, with the turn to write: all counts as set now. */
@@ -63,7 +59,7 @@ static gboolean put(Engine *self, const Edits *edits, DconfdbError *fault)
 {
     FolderLock lock;
     Turn turn;
-    DconfdbStore *store = store_of(self, fault);
+    DconfdbStore *store = engine_store(self, fault);
     if (!store)
         return FALSE;
     if (!turn_begin(self, store, &lock, &turn))
@@ -97,7 +93,7 @@ typedef struct {
 static bool is_refused(Engine *engine, const Edits *edits)
 {
     DconfdbSnapshot *now = engine_look(engine);
-    g_autofree DconfdbNewEdit *known = known_of(edits, engine_has_user(engine), now);
+    g_autofree DconfdbNewEdit *known = known_of(edits, is_open(engine), now);
     dconfdb_snapshot_unref(now);
     bool is_there;
     return dconfdb_entry(known, edits->edits->len, &is_there) == DCONFDB_ENTRY_REFUSED;
@@ -107,9 +103,9 @@ static bool is_refused(Engine *engine, const Edits *edits)
 static void learn(Change *self)
 {
     self->now = engine_look(self->engine);
-    self->known.has_store = store_of(self->engine, &self->fault);
+    self->known.has_store = engine_store(self->engine, &self->fault);
     self->known.has_user = engine_has_user(self->engine);
-    g_autofree DconfdbNewEdit *known = known_of(&self->edits, self->known.has_user, self->now);
+    g_autofree DconfdbNewEdit *known = known_of(&self->edits, is_open(self->engine), self->now);
     self->known.is_there = edits_are_there(known, self->edits.edits->len);
     self->told = effective(&self->edits, known, self->changes);
     leave_out(&self->edits, known);
@@ -135,7 +131,7 @@ static bool carry_out(Change *self, uint32_t task)
     case DCONFDB_CHANGING_BEFORE:
         return take_turn(self);
     case DCONFDB_CHANGING_SETTLE: /* what another program wrote may not be on the disk yet */
-        return settle_store(engine_store(self->engine), NULL);
+        return settle_store(engine_store(self->engine, &self->fault), &self->fault);
     case DCONFDB_CHANGING_PUT:
         return put(self->engine, &self->edits, &self->fault);
     case DCONFDB_CHANGING_TELL:
@@ -155,8 +151,7 @@ static bool carry_out(Change *self, uint32_t task)
 static void learn_outcome(Change *self)
 {
     const gchar *prefix = NULL;
-    self->known.is_locked = self->fault.code == DCONFDB_ERROR_LOCKED;
-    self->known.is_unwritable = self->fault.code == DCONFDB_ERROR_NOT_WRITABLE;
+    self->known.is_barred = answer_of_fault(&self->fault) == DCONFDB_QUEUE_LOCKED;
     self->known.is_news = self->told && dconf_changeset_describe(self->told, &prefix, NULL, NULL) > 0;
     self->known.is_watched = prefix && engine_is_watched(self->engine, prefix);
 }

@@ -23,11 +23,12 @@ static inline const DconfdbEdit *edit_at(const Edits *self, guint at)
 Edits edits_of(DConfChangeset *changes);
 void edits_clear(Edits *self);
 
-/* What is known of an edit by whether it may be made: there is a user's database, and the newest snapshot, or NULL, has no lock of it. */
-DconfdbNewEdit known_by_rights(const DconfdbEdit *edit, bool has_user, const DconfdbSnapshot *now);
+/* What is known of an edit by whether it may be made: somebody may write in the user's database (`is_open`), and the newest snapshot, or NULL, has no
+ * lock of it. */
+DconfdbNewEdit known_by_rights(const DconfdbEdit *edit, bool is_open, const DconfdbSnapshot *now);
 
 /* The same of each edit, to be freed, and whether the user has what it says. */
-DconfdbNewEdit *known_of(const Edits *self, bool has_user, const DconfdbSnapshot *now);
+DconfdbNewEdit *known_of(const Edits *self, bool is_open, const DconfdbSnapshot *now);
 
 /* The changes of which the user has something else. */
 DConfChangeset *effective(const Edits *self, const DconfdbNewEdit *known, DConfChangeset *changes);
@@ -50,8 +51,8 @@ void end_writing(Engine *self);
 bool turn_begin(Engine *self, DconfdbStore *store, FolderLock *lock, Turn *turn);
 void turn_end(Engine *self, FolderLock *lock);
 
-/* The store; or the fault that it can't be opened. */
-DconfdbStore *store_of(Engine *self, DconfdbError *fault);
+/* Whether somebody may write in the user's database: there is one, and the engine is at work. */
+bool is_open(Engine *self);
 
 /* ---- what waits (waited.c) */
 

@@ -42,6 +42,9 @@ const char *place_profile_name(const StorePlace *place);
 /* Where an open store is. It isn't to be released. */
 const StorePlace *place_of(const DconfdbStore *store);
 
+/* The flag of dconf's readers of the user's database; or NULL. */
+const char *place_flag(const DconfdbStore *store);
+
 /* What its profile calls the user's database, in so many bytes; or NULL. */
 const char *place_user(const DconfdbStore *store, size_t *len);
 

@@ -140,6 +140,11 @@ const StorePlace *place_of(const DconfdbStore *store)
     return &store->place;
 }
 
+const char *place_flag(const DconfdbStore *store)
+{
+    return store->flag;
+}
+
 const char *place_user(const DconfdbStore *store, size_t *len)
 {
     *len = store->users_len;

@@ -15,12 +15,17 @@ static size_t line_of(const char *text, const uint8_t *at)
     return line;
 }
 
-/* Whether its file is there, or will be, or nobody can say. */
-static bool is_there(const Lint *lint, const Asked *asked, const DconfdbName *database, const char *file)
+/* What is known of its file. */
+static DconfdbFinding known_of(const Lint *lint, const Asked *asked, const DconfdbName *database, const char *file)
 {
     FileState state;
-    bool is_made = lint->site && site_makes(lint->site, &database->name);
-    return is_made || asked->entry.within == DCONFDB_WITHIN_PROFILES || file_look(file, &state) != 0 || state.is_there;
+    int fault = file_look(file, &state);
+    return (DconfdbFinding){.what = DCONFDB_OF_DATABASE,
+                            .is_known = fault == 0 && state.is_there,
+                            .is_unseen = fault != 0,
+                            .is_system = database->kind == SYSTEMS,
+                            .is_made = lint->site && site_makes(lint->site, &database->name),
+                            .is_among_profiles = asked->entry.within == DCONFDB_WITHIN_PROFILES};
 }
 
 /* As `update` says it, of the profile that lies in its folder: in any other one the line is of a file in each user's store. */
@@ -32,8 +37,7 @@ static void check_named(const Lint *lint, const Asked *asked, const char *text, 
     const DconfdbPlace place = {folder, nothing, nothing, nothing, nothing, nothing, true, false};
     dconfdb_database_path(&place, (const uint8_t *)asked->file, strlen(asked->file), database->kind, database->name.at, database->name.len, &path, &flag);
     char *file = path_of(&path);
-    const DconfdbFinding known = {
-        .what = DCONFDB_OF_DATABASE, .is_known = is_there(lint, asked, database, file), .is_system = database->kind == SYSTEMS};
+    const DconfdbFinding known = known_of(lint, asked, database, file);
     if (finding_alone(&known, asked->name) == DCONFDB_FINDING_NO_DATABASE)
         find(NO_DATABASE, at, "it names system-db:%.*s, and there is no %s", (int)database->name.len, (const char *)database->name.at, file);
     g_free(file);

@@ -62,7 +62,8 @@ void check_row(const Lint *lint, Place at, const char *path, GVariant *value)
 void check_lock(const Lint *lint, Place at, const char *path)
 {
     const GPtrArray *keys = NULL;
-    bool is_directory = g_str_has_suffix(path, "/");
+    bool is_short;
+    bool is_directory = dconfdb_path_kind((const uint8_t *)path, strlen(path), DCONFDB_PATH_WANTED, false, &is_short) == DCONFDB_PATH_DIRECTORY;
     DconfdbFinding known = is_directory ? schemas_directory(lint->schemas, path) : schemas_key(lint->schemas, path, DCONFDB_OF_LOCKED_KEY, &keys);
     bool is_fine = find_it(lint, at, path, &known, NULL, NULL);
     if (lint->site)

@@ -2,6 +2,7 @@
 #define _GNU_SOURCE
 #define _FILE_OFFSET_BITS 64
 #include "lint.h"
+#include "stood.h"
 
 #include <dirent.h>
 #include <errno.h>
@@ -69,7 +70,7 @@ static uint32_t kind_of(int folder, const char *name)
 {
     struct stat found;
     if (fstatat(folder, name, &found, 0) != 0)
-        return errno == ENOENT ? DCONFDB_KIND_NOWHERE : DCONFDB_KIND_UNSEEN;
+        return file_fault(DCONFDB_TO_LOOK, errno) == 0 ? DCONFDB_KIND_NOWHERE : DCONFDB_KIND_UNSEEN;
     if (S_ISREG(found.st_mode))
         return DCONFDB_KIND_FILE;
     return S_ISDIR(found.st_mode) ? DCONFDB_KIND_FOLDER : DCONFDB_KIND_OTHER;

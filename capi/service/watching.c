@@ -81,11 +81,12 @@ static bool look(Writer *writer)
     return task == DCONFDB_GLANCE_SEEN;
 }
 
-/* False: something is being written, and the other thread says when it was. */
+/* False: it is put off, as something is being written, and the other thread says when it was. */
 static bool look_now(Writer *writer)
 {
     g_atomic_int_set(&writer->is_to_look, TRUE);
-    if (!g_mutex_trylock(&writer->turn))
+    const DconfdbLookKnown known = {.is_open = true, .is_busy = !g_mutex_trylock(&writer->turn)};
+    if (dconfdb_look_due(DCONFDB_LOOKER_SEES, &known) != DCONFDB_LOOK_NOW)
         return false;
     g_atomic_int_set(&writer->is_to_look, FALSE);
     bool is_done = look(writer);

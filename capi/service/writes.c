@@ -35,7 +35,7 @@ static void read_all(Run *run)
 
 /* ---- what came of it; `turn` is held */
 
-/* Of what is written. What others set since is left out, too. */
+/* Of what is written. What others set since was left out then; and what a later change of the same write sets is told after this. */
 static bool is_unmade(const Run *run, size_t number)
 {
     const DconfdbTried tried = {
@@ -184,7 +184,7 @@ static void end_try(Service *service, bool is_over)
     GQueue over = G_QUEUE_INIT;
     g_mutex_lock(&service->lock);
     service->is_writing = false;
-    service->again = is_over ? 0 : g_get_monotonic_time() + (gint64)service->failing.pause;
+    service->again = is_over ? 0 : (gint64)service->failing.again;
     if (is_over)
         move_all(&service->taken, &over);
     for (const GList *at = over.head; at; at = at->next)

@@ -166,24 +166,24 @@ int close(int file)
 }
 
 /* All of it, nothing, or a part. */
-static ssize_t counted(Kind kind, int file, size_t len)
+static ssize_t counted(Kind kind, Call call)
 {
-    if (outcome(kind, (Call){.file = file, .len = len}) != 0)
-        return -1;
-    size_t count = any_size();
+    size_t len = call.len, count = any_size();
     GIVEN(count <= len && count <= INT64_MAX);
     GIVEN(count == len || count == 0 || shorts_left > 0);
+    call.count = (ssize_t)count;
+    if (outcome(kind, call) != 0)
+        return last[kind].count = -1;
     if (count != len && count != 0)
         shorts_left--;
-    last[kind].count = (ssize_t)count;
-    return (ssize_t)count;
+    return call.count;
 }
 
 ssize_t read(int file, void *room, size_t len)
 {
     CHECK(is_open(file), "descriptor: read() of what is open");
     CHECK(__CPROVER_w_ok(room, len), "memory: read() into room that is there");
-    return counted(READ, file, len);
+    return counted(READ, (Call){.file = file, .len = len});
 }
 
 ssize_t pread(int file, void *room, size_t len, off_t at)
@@ -191,14 +191,14 @@ ssize_t pread(int file, void *room, size_t len, off_t at)
     CHECK(is_open(file), "descriptor: pread() of what is open");
     CHECK(__CPROVER_w_ok(room, len), "memory: pread() into room that is there");
     (void)at;
-    return counted(PREAD, file, len);
+    return counted(PREAD, (Call){.file = file, .len = len});
 }
 
 ssize_t write(int file, const void *bytes, size_t len)
 {
     CHECK(is_open(file), "descriptor: write() to what is open");
     CHECK(__CPROVER_r_ok(bytes, len), "memory: write() of bytes that are there");
-    return counted(WRITE, file, len);
+    return counted(WRITE, (Call){.file = file, .len = len});
 }
 
 ssize_t pwrite(int file, const void *bytes, size_t len, off_t at)
@@ -206,7 +206,7 @@ ssize_t pwrite(int file, const void *bytes, size_t len, off_t at)
     CHECK(is_open(file), "descriptor: pwrite() to what is open");
     CHECK(__CPROVER_r_ok(bytes, len), "memory: pwrite() of bytes that are there");
     CHECK(at >= 0, "step: pwrite() at a place");
-    return counted(PWRITE, file, len);
+    return counted(PWRITE, (Call){.file = file, .len = len, .at = at, .byte = len > 0 ? *(const uint8_t *)bytes : 0});
 }
 
 int fsync(int file)

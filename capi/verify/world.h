@@ -42,6 +42,8 @@ typedef struct {
     int flags;
     unsigned mode;
     size_t len;
+    off_t at;      /* of pwrite(), and the first byte that it puts there */
+    uint8_t byte;
     ssize_t count; /* of bytes; of an open the descriptor */
 } Call;
 

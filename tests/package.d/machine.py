@@ -203,11 +203,20 @@ def owner():
     return os.readlink(f'/proc/{ran.stdout.split()[-1]}/exe') if ran.returncode == 0 else None
 
 
-class Meanwhile:
-    """Runs a program over and over, which is to print the same each time."""
+# What the loader says where a library is missing, or is of another version than another one.
+LOADERS = re.compile(r"error while loading shared libraries: |symbol lookup error: |version `\S+' not found ")
 
-    def __init__(self, *words):
-        self.words, self.count, self.wrong, self.is_over = words, 0, [], False
+
+def is_debians(status, out, said):
+    """Whether a program couldn't begin for libraries none of which is ours: on the way to another Debian dpkg replaces those, too."""
+    return status in (1, 127) and not out and bool(LOADERS.search(said)) and 'dconf' not in said
+
+
+class Meanwhile:
+    """Runs a program over and over, which is to print the same each time. With `passes`, runs of which that says so don't count."""
+
+    def __init__(self, *words, passes=None):
+        self.words, self.passes, self.count, self.passed, self.wrong, self.is_over = words, passes, 0, [], [], False
         self.wanted = self.once()
         self.thread = threading.Thread(target=self.repeats, daemon=True)
         self.thread.start()
@@ -221,14 +230,18 @@ class Meanwhile:
             self.count += 1
             now = self.once()
             if now != self.wanted:
-                self.wrong.append(now)
+                (self.passed if self.passes and self.passes(*now) else self.wrong).append(now)
 
-    def ends(self):
+    def stops(self):
         self.is_over = True
         self.thread.join()
+
+    def ends(self):
+        """How many runs there were."""
+        self.stops()
         same(f'of {self.count} runs of {self.words[0]} those that print something else', self.wrong[:3], [])
-        if self.count < 5:
-            sys.exit(f'{self.words[0]} ran {self.count} times')
+        if self.count < 5 or len(self.passed) * 10 > self.count:
+            sys.exit(f'{self.words[0]} ran {self.count} times, of which {len(self.passed)} say nothing: {self.passed[:1]}')
         return self.count
 
 

@@ -229,7 +229,7 @@ int lock_try(void)
 #endif
 
 /* As tries.c says, which is not gone through: until it is had, a try fails, or the time is over; here after one or two tries at most. */
-int try_for(uint32_t what, uint32_t milliseconds, Tries *tries, void *it)
+int try_for(uint32_t what, uint32_t milliseconds, Tries *tries, void *it, bool *is_others)
 {
     (void)milliseconds;
     CHECK(what == DCONFDB_WAIT_FOR_LOCK || what == DCONFDB_WAIT_WITHOUT_END, "step: it is waited for a lock");
@@ -241,8 +241,9 @@ int try_for(uint32_t what, uint32_t milliseconds, Tries *tries, void *it)
         if (fault != 0 && (fault != EWOULDBLOCK || tried == DCONFDB_TRIED_NAME))
             return fault;
         if (what == DCONFDB_WAIT_FOR_LOCK && any_bool())
-            return EWOULDBLOCK;
+            break;
     }
+    *is_others = true;
     return EWOULDBLOCK;
 }
 
@@ -280,6 +281,7 @@ static int locks_and_unlocks(void)
     if (fault != 0) {
         CHECK(only_open(-1, -1) && first == NULL, "descriptor: a fault leaves nothing open or listed");
         CHECK(is_flocked(-1), "answer: a fault has no lock");
+        CHECK(!lock.is_others || fault == EWOULDBLOCK, "answer: others have it only where it is busy");
         return 0;
     }
     CHECK(is_flocked(lock.file) && first == &lock && lock.next == NULL, "answer: the lock is had, and listed");

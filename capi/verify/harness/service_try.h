@@ -93,7 +93,7 @@ uint32_t dconfdb_failing_met(DconfdbFailing *failing, bool is_there, bool is_mom
 {
     (void)is_momentary, (void)now;
     CHECK(failing == &service.failing && is_there == !is_written && tries_again, "answer: whether it is written");
-    failing->pause = any_u32();
+    failing->again = is_there ? now + 1 + any_u32() : 0;
     uint32_t said = any_u32();
     GIVEN(said <= DCONFDB_FAULT_OVER);
     return said;

@@ -2,6 +2,7 @@
  * is anything. */
 #include "service/watching.c"
 #include "glib_world.h"
+#include "machines/served.h"
 #include "world.h"
 
 /* narrows libdconfdb/dconfdb.h: char text[512]; => char text[8]; */
@@ -16,6 +17,12 @@ static bool is_old_open = true, is_new_open;
 static unsigned answered, steps;
 static int descriptor;
 static bool has_fd, has_timeout, is_idle;
+
+uint32_t dconfdb_look_due(uint32_t looker, const DconfdbLookKnown *known)
+{
+    CHECK(looker == DCONFDB_LOOKER_SEES, "step: it wants to see the files");
+    return look_due_given(known);
+}
 
 /* ---- stores and snapshots */
 

@@ -49,11 +49,13 @@ int try_for_(void)
     at_next = begins;
     at_next_answer = ends;
     steps_done = 0;
-    int fault = try_for(what, milliseconds, a_try, &asked_for);
+    bool is_others = false;
+    int fault = try_for(what, milliseconds, a_try, &asked_for, &is_others);
     CHECK(!is_amid && step.kind >= DCONFDB_WAIT_HAD, "step: it goes on to the end");
     CHECK(fault != 0 || (step.kind == DCONFDB_WAIT_HAD && try_fault == 0 && try_call != DCONFDB_TRIED_NAME), "answer: had is what a try got");
     CHECK(step.kind != DCONFDB_WAIT_BUSY || (fault == EWOULDBLOCK) == (try_call != DCONFDB_TRIED_LOCK_FILE), "answer: busy, or what has a lease");
     CHECK(step.kind != DCONFDB_WAIT_BUSY || what == DCONFDB_WAIT_FOR_LOCK, "answer: busy is a wait that had an end");
+    CHECK(is_others == (step.kind == DCONFDB_WAIT_BUSY), "answer: others have it where the step says so");
     CHECK(step.kind != DCONFDB_WAIT_STOPPED || fault == try_fault, "answer: the fault of the try");
     if (step.kind == DCONFDB_WAIT_STOPPED)
         REACHED("a try fails");

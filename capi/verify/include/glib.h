@@ -162,6 +162,9 @@ ENDS(GError, g_error_free)
 /* ---- files */
 
 const char *g_get_user_runtime_dir(void);
+
+typedef enum { G_FILE_TEST_IS_DIR = 1 << 2 } GFileTest;
+gboolean g_file_test(const char *name, GFileTest test);
 gboolean g_file_get_contents(const char *name, char **text, gsize *len, GError **error);
 gboolean g_file_set_contents(const char *name, const char *text, gssize len, GError **error);
 gint g_mkdir_with_parents(const char *name, gint mode);

@@ -191,6 +191,15 @@ static void compare_rounds(void)
     }
 }
 
+static void compare_looks(void)
+{
+    for (uint32_t i = 0; i < 128; i++) {
+        const DconfdbLookKnown known = {.until = i & 1, .is_open = i & 2, .is_watched = i & 4, .is_whole = i & 8, .is_told = i & 16, .is_own = i & 32, .is_busy = i & 64};
+        if (dconfdb_look_due(DCONFDB_LOOKER_SEES, &known) != look_due_given(&known))
+            fail("look_due", "another answer than is given");
+    }
+}
+
 void compare_answers(void)
 {
     compare_handing();
@@ -199,4 +208,5 @@ void compare_answers(void)
     compare_settling();
     compare_served();
     compare_rounds();
+    compare_looks();
 }

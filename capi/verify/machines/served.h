@@ -1,4 +1,4 @@
-/* What becomes of the service's changes, and what its thread does next, as the model of the system gives it: compared.c compares it with the archive's. */
+/* What becomes of the service's changes and looks, and what its thread does next, as the model of the system gives it: compared.c compares it with the archive's. */
 #ifndef SERVED_H
 #define SERVED_H
 
@@ -76,6 +76,12 @@ static inline uint32_t round_given(uint32_t task, const DconfdbRound *known)
     if (task < DCONFDB_ROUND_LEAVE && !known->waits && known->again != 0)
         return DCONFDB_ROUND_LEAVE;
     return known->ends && !known->waits ? DCONFDB_ROUND_ENDS : DCONFDB_ROUND_RESTS;
+}
+
+/* Of who wants to see the files. */
+static inline uint32_t look_due_given(const DconfdbLookKnown *known)
+{
+    return !known->is_open ? DCONFDB_LOOK_OPENS : known->is_busy ? DCONFDB_LOOK_LATER : DCONFDB_LOOK_NOW;
 }
 
 #endif

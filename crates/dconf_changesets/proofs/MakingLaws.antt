@@ -1,6 +1,6 @@
 -- What is said to who waits until a change is made.
 use Rattle.std.proofs.Common.{◌≡◌, ◌≢◌, Bool, true, false, not, refl, sym, ◌∙◌}
-use Rattle.std.specs.Prelude.{if◌then◌else◌, ◌||◌}
+use Rattle.std.specs.Prelude.{if◌then◌else◌}
 use Rattle.dconf_changesets.specs.declared.making.ChangeKnown.{ChangeKnown}
 use Rattle.dconf_changesets.specs.declared.making.ChangeTask.{ChangeTask}
 use Rattle.dconf_changesets.specs.declared.making.ChangeTask.TheVariants.{Before, Settle, Put, Others, Tell, GiveUp, Made, Refused, Failed}
@@ -10,8 +10,8 @@ use Rattle.dconf_changesets.specs.Making.{Answers, IsSo, IsToldInOrder, MadeMean
 abbrev answers : Bool → Bool → Bool → Answers
 answers before settled put = record { before = before; settled = settled; put = put }
 
-abbrev known : Bool → Bool → Bool → Bool → Bool → Bool → Bool → Bool → Bool → Bool → ChangeKnown
-known is_empty is_refused has_store has_user is_there is_left is_news is_watched is_locked is_unwritable = record {
+abbrev known : Bool → Bool → Bool → Bool → Bool → Bool → Bool → Bool → Bool → ChangeKnown
+known is_empty is_refused has_store has_user is_there is_left is_news is_watched is_barred = record {
   is_empty = is_empty;
   is_refused = is_refused;
   has_store = has_store;
@@ -20,8 +20,7 @@ known is_empty is_refused has_store has_user is_there is_left is_news is_watched
   is_left = is_left;
   is_news = is_news;
   is_watched = is_watched;
-  is_locked = is_locked;
-  is_unwritable = is_unwritable;
+  is_barred = is_barred;
 }
 
 abbrev said_of : ChangeKnown → Answers → ChangeTask
@@ -30,43 +29,40 @@ said_of k a =
     if not (has_place k) then closed_by k else if is_made a k then Made else fails_by k
 
 -- what is known, and what the tasks answer
-said_by : (e r h u t l n w lk uw b s p : Bool) →
-    said_at_last (answers b s p) (known e r h u t l n w lk uw) ≡ said_of (known e r h u t l n w lk uw) (answers b s p)
-said_by true r h u t l n w lk uw b s p = refl
-said_by false true h u t l n w lk uw b s p = refl
-said_by false false h u t l n w true uw false s p = refl
-said_by false false h u t l n w false true false s p = refl
-said_by false false h u t l n w false false false s p = refl
-said_by false false false u t l n w lk uw true s p = refl
-said_by false false true false t l n w lk uw true s p = refl
-said_by false false true true false false false w lk uw true s p = refl
-said_by false false true true false false true false lk uw true s p = refl
-said_by false false true true false false true true lk uw true s p = refl
-said_by false false true true false true n w true uw true s false = refl
-said_by false false true true false true n w false true true s false = refl
-said_by false false true true false true n w false false true s false = refl
-said_by false false true true false true false w lk uw true s true = refl
-said_by false false true true false true true false lk uw true s true = refl
-said_by false false true true false true true true lk uw true s true = refl
-said_by false false true true true false false w lk uw true true p = refl
-said_by false false true true true false true false lk uw true true p = refl
-said_by false false true true true false true true lk uw true true p = refl
-said_by false false true true true true false w lk uw true true p = refl
-said_by false false true true true true true false lk uw true true p = refl
-said_by false false true true true true true true lk uw true true p = refl
-said_by false false true true true false false w lk uw true false p = refl
-said_by false false true true true false true false lk uw true false p = refl
-said_by false false true true true false true true lk uw true false p = refl
-said_by false false true true true true n w true uw true false false = refl
-said_by false false true true true true n w false true true false false = refl
-said_by false false true true true true n w false false true false false = refl
-said_by false false true true true true false w lk uw true false true = refl
-said_by false false true true true true true false lk uw true false true = refl
-said_by false false true true true true true true lk uw true false true = refl
+said_by : (e r h u t l n w v b s p : Bool) →
+    said_at_last (answers b s p) (known e r h u t l n w v) ≡ said_of (known e r h u t l n w v) (answers b s p)
+said_by true r h u t l n w v b s p = refl
+said_by false true h u t l n w v b s p = refl
+said_by false false h u t l n w true false s p = refl
+said_by false false h u t l n w false false s p = refl
+said_by false false false u t l n w v true s p = refl
+said_by false false true false t l n w v true s p = refl
+said_by false false true true false false false w v true s p = refl
+said_by false false true true false false true false v true s p = refl
+said_by false false true true false false true true v true s p = refl
+said_by false false true true false true n w true true s false = refl
+said_by false false true true false true n w false true s false = refl
+said_by false false true true false true false w v true s true = refl
+said_by false false true true false true true false v true s true = refl
+said_by false false true true false true true true v true s true = refl
+said_by false false true true true false false w v true true p = refl
+said_by false false true true true false true false v true true p = refl
+said_by false false true true true false true true v true true p = refl
+said_by false false true true true true false w v true true p = refl
+said_by false false true true true true true false v true true p = refl
+said_by false false true true true true true true v true true p = refl
+said_by false false true true true false false w v true false p = refl
+said_by false false true true true false true false v true false p = refl
+said_by false false true true true false true true v true false p = refl
+said_by false false true true true true n w true true false false = refl
+said_by false false true true true true n w false true false false = refl
+said_by false false true true true true false w v true false true = refl
+said_by false false true true true true true false v true false true = refl
+said_by false false true true true true true true v true false true = refl
 
 pub made_means_on_the_disk : MadeMeansOnTheDisk
 made_means_on_the_disk a k =
-    said_by k.is_empty k.is_refused k.has_store k.has_user k.is_there k.is_left k.is_news k.is_watched k.is_locked k.is_unwritable a.before a.settled a.put
+    said_by k.is_empty k.is_refused k.has_store k.has_user k.is_there k.is_left k.is_news k.is_watched k.is_barred a.before a.settled a.put
 
 -- ---- what is told first
 
@@ -75,19 +71,18 @@ is_tell Tell = true
 is_tell _ = false
 
 -- how a change fails, or finds no place
-fails : (locked unwritable : Bool) → is_tell (if locked || unwritable then Refused else Failed) ≡ false
-fails true unwritable = refl
-fails false true = refl
-fails false false = refl
+fails : (refused : Bool) → is_tell (if refused then Refused else Failed) ≡ false
+fails true = refl
+fails false = refl
 
 closes : (has_store : Bool) → is_tell (if has_store then Refused else Failed) ≡ false
 closes true = refl
 closes false = refl
 
-gives_up : (place has_store locked unwritable : Bool) →
-    is_tell (if place then (if locked || unwritable then Refused else Failed) else if has_store then Refused else Failed) ≡ false
-gives_up true has_store locked unwritable = fails locked unwritable
-gives_up false has_store locked unwritable = closes has_store
+gives_up : (place has_store refused : Bool) →
+    is_tell (if place then (if refused then Refused else Failed) else if has_store then Refused else Failed) ≡ false
+gives_up true has_store refused = fails refused
+gives_up false has_store refused = closes has_store
 
 -- what comes next once all is written that was asked for before, and once what is there was settled
 abbrev begun : Bool → Bool → Bool → ChangeTask
@@ -132,7 +127,7 @@ untold Failed f e = let bad : Failed ≡ Tell = e in cc
 
 in_order : (task : ChangeTask) (is_so : Bool) (k : ChangeKnown) → IsToldInOrder task is_so k
 in_order Before false k = record {
-  new = λ e. absurd (untold (fails_by k) (fails k.is_locked k.is_unwritable) e);
+  new = λ e. absurd (untold (fails_by k) (fails k.is_barred) e);
   own = λ e. refl;
   over = λ e. refl;
 }
@@ -159,7 +154,7 @@ in_order Put false k = record {
 in_order Others is_so k = record { new = λ e. refl; own = λ e. refl; over = λ e. refl }
 in_order Tell is_so k = record { new = λ e. absurd (let bad : Made ≡ Tell = e in cc); own = λ e. refl; over = λ e. refl }
 in_order GiveUp is_so k = record {
-  new = λ e. absurd (untold (given_up k) (gives_up (has_place k) k.has_store k.is_locked k.is_unwritable) e);
+  new = λ e. absurd (untold (given_up k) (gives_up (has_place k) k.has_store k.is_barred) e);
   own = λ e. refl;
   over = λ e. refl;
 }

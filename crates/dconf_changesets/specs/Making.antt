@@ -18,7 +18,7 @@ begins_with k = if k.is_empty then Made else if k.is_refused then Refused else B
 
 -- what dconf says of the fault by which it was not made
 abbrev pub fails_by : ChangeKnown → ChangeTask
-fails_by k = if k.is_locked || k.is_unwritable then Refused else Failed
+fails_by k = if k.is_barred then Refused else Failed
 
 -- there is no place for it, or it failed
 abbrev pub given_up : ChangeKnown → ChangeTask

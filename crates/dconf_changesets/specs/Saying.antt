@@ -1,5 +1,6 @@
 -- Whether a change says anything new beside the sets of changes that wait.
 use Rattle.std.specs.Prelude.{◌≡◌, ℕ, Bool, true, false, not, ◌&&◌, ◌||◌, if◌then◌else◌, List, [], ◌∷◌, None}
+use Rattle.std.specs.Str.{bytes_eq}
 use Rattle.std.specs.List.{AllByRecursion}
 use Rattle.dconf_model.specs.Locks.{covers}
 use Rattle.dconf_model.specs.Paths.{ends_with_slash}
@@ -13,6 +14,11 @@ use Rattle.dconf_changesets.specs.declared.saying.Said.{Said}
 abbrev pub is_said : List Said → Bool → Bool
 is_said [] stored = stored
 is_said (set ∷ older) stored = if set.has_below || set.says then not set.has_below && set.is_same else is_said older stored
+
+-- two edits of one path: both reset it, or both set the same bytes at the same type
+abbrev pub is_same_word : Bool → List ℕ → List ℕ → Bool → List ℕ → List ℕ → Bool
+is_same_word set type value other other_type other_value =
+    if set && other then bytes_eq type other_type && bytes_eq value other_value else not set && not other
 
 -- ---- the law
 

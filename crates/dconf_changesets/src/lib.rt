@@ -25,7 +25,7 @@ pub use asking::{LookDue, LookKnown, asked_after, look_due, look_number};
 pub use differences::{Base, differs};
 pub use making::{ChangeKnown, ChangeTask, Tried, change_after, change_number, is_unmade};
 pub use rows::{Effect, effect_number, effect_of};
-pub use saying::{Said, is_said};
+pub use saying::{Said, is_said, is_same_word};
 
 /// After a set of changes was changed by another one, each key's word is the other one's if it has one, and else as before.
 pub fn later_counts()

@@ -45,10 +45,8 @@ pub struct ChangeKnown {
     pub is_news: bool,
     /// Somebody is told of such.
     pub is_watched: bool,
-    /// The task that failed last failed since a key is locked.
-    pub is_locked: bool,
-    /// Or since there is no database that could be written.
-    pub is_unwritable: bool,
+    /// By the verdict on the fault of the task that failed last it is refused: a key is locked, or there is no database that could be written.
+    pub is_barred: bool,
 }
 
 /// What comes next, once the first `done` tasks were done, or were not due; `is_so` is the answer to the last one.
@@ -115,7 +113,7 @@ fn begins_with(known: &ChangeKnown) -> ChangeTask
 fn fails_by(known: &ChangeKnown) -> ChangeTask
     ensures { result ≡ fails_by known.now }
 {
-    if known.is_locked || known.is_unwritable {
+    if known.is_barred {
         return ChangeTask::Refused;
     }
     ChangeTask::Failed

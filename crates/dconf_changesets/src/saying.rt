@@ -1,6 +1,6 @@
 //! Whether a change says anything new beside the sets of changes that wait.
 ghost use Rattle.std.specs.Prelude.{◌≡◌};
-ghost use Rattle.dconf_changesets.specs.Saying.{is_said};
+ghost use Rattle.dconf_changesets.specs.Saying.{is_said, is_same_word};
 
 /// What a set says of a change's path.
 #[repr(C)]
@@ -24,4 +24,22 @@ pub fn is_said(said: &[Said], is_stored: bool) -> bool
         }
     }
     is_stored
+}
+
+/// Whether two edits of a path say the same: both reset it, or both set the same bytes at the same type. Bytes in normal form are the same
+/// exactly if the value is.
+pub fn is_same_word(
+    sets: bool,
+    type_text: &[u8],
+    value: &[u8],
+    other_sets: bool,
+    other_type_text: &[u8],
+    other_value: &[u8],
+) -> bool
+    ensures { result ≡ is_same_word sets type_text.now value.now other_sets other_type_text.now other_value.now }
+{
+    if sets && other_sets {
+        return type_text == other_type_text && value == other_value;
+    }
+    !sets && !other_sets
 }

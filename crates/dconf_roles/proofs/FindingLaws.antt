@@ -4,7 +4,7 @@ use Rattle.std.specs.Prelude.{◌&&◌, ◌||◌, if◌then◌else◌, codes}
 use Rattle.std.specs.Str.{bytes_eq}
 use Rattle.dconf_roles.specs.declared.findings.Finding.{Finding}
 use Rattle.dconf_roles.specs.declared.findings.Finding.TheVariants.{Nothing, NotTaken, OtherType, NoDatabase, SetTwice, NotSet}
-use Rattle.dconf_roles.specs.Findings.{NoAlarmIsFalse, is_key, may_be_there, missing}
+use Rattle.dconf_roles.specs.Findings.{NoAlarmIsFalse, is_key, may_be_there, may_have_file, missing}
 
 -- by whether it is known, has a value, that is taken, is of the type; whether it may be there, and what is missing else
 abbrev by : Bool → Bool → Bool → Bool → Bool → Finding → Finding
@@ -85,6 +85,6 @@ no_alarm_is_false k slip = record {
   first = first_by k.is_known;
   set = λ path. set_by k.is_known k.is_taken (is_key path);
   not_set = λ path. not_set_by k.is_known k.is_taken (is_key path);
-  there = λ file. there_by k.is_known k.is_system (bytes_eq file (codes "profile"));
-  database = λ file. database_by k.is_known k.is_system (bytes_eq file (codes "profile"));
+  there = λ file. there_by (may_have_file k) k.is_system (bytes_eq file (codes "profile"));
+  database = λ file. database_by (may_have_file k) k.is_system (bytes_eq file (codes "profile"));
 }

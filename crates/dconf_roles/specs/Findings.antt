@@ -19,10 +19,14 @@ missing what = if what == 0 then NoKey else if what == 1 then NoLockedKey else N
 abbrev pub finding_of : FindingKnown → Bool → Finding
 finding_of k slip = if k.is_known then of_value k else if may_be_there k slip then Nothing else missing k.what
 
+-- it has its file, or will have it, or nobody can say
+abbrev pub may_have_file : FindingKnown → Bool
+may_have_file k = k.is_known || (k.is_made || (k.is_unseen || k.is_among_profiles))
+
 -- A database that a profile names, a file of that name. The system's lie beside the profile of a folder, `profile`; of any other one nobody knows
 -- where they do.
 abbrev pub of_database : FindingKnown → List ℕ → Finding
-of_database k file = if k.is_known || not (k.is_system && bytes_eq file (codes "profile")) then Nothing else NoDatabase
+of_database k file = if may_have_file k || not (k.is_system && bytes_eq file (codes "profile")) then Nothing else NoDatabase
 
 -- set by an earlier line of the same database
 abbrev pub of_again : FindingKnown → Finding
@@ -68,13 +72,13 @@ pub record IsNoFalseAlarm (k : FindingKnown) (slip : Bool) : Type 0 where
   pub unknown : k.is_known ≡ false → may_be_there k slip ≡ false → finding_of k slip ≡ missing k.what
   pub elsewhere : k.is_known ≡ false → may_be_there k slip ≡ true → finding_of k slip ≡ Nothing
   -- a database of the system that isn't there is found, in the profile of a folder alone
-  pub there : (file : List ℕ) → k.is_known ≡ true → of_database k file ≡ Nothing
+  pub there : (file : List ℕ) → may_have_file k ≡ true → of_database k file ≡ Nothing
   -- a key is set twice only after an earlier line, and locked without a value only if no keyfile has one, and nothing else is wrong
   pub again : of_again k ≡ SetTwice → k.is_known ≡ true
   pub first : k.is_known ≡ false → of_again k ≡ Nothing
   pub set : (path : List ℕ) → k.is_known ≡ true → of_unset k path ≡ Nothing
   pub not_set : (path : List ℕ) → k.is_known ≡ false → k.is_taken ≡ true → is_key path ≡ true → of_unset k path ≡ NotSet
-  pub database : (file : List ℕ) → k.is_known ≡ false → k.is_system ≡ true → bytes_eq file (codes "profile") ≡ true → of_database k file ≡ NoDatabase
+  pub database : (file : List ℕ) → may_have_file k ≡ false → k.is_system ≡ true → bytes_eq file (codes "profile") ≡ true → of_database k file ≡ NoDatabase
 
 abbrev pub NoAlarmIsFalse : Type 0
 NoAlarmIsFalse = (k : FindingKnown) (slip : Bool) → IsNoFalseAlarm k slip

@@ -1,7 +1,7 @@
 //! What is found wrong with a key that is set, and with a lock.
 ghost use Rattle.std.specs.Prelude.{◌≡◌, map};
 ghost use Rattle.std.specs.List.{list_any};
-ghost use Rattle.dconf_roles.specs.Findings.{finding_for, finding_of, finding_number, is_key, may_be_there, missing, of_again, of_database, of_double, of_unset, of_value};
+ghost use Rattle.dconf_roles.specs.Findings.{finding_for, finding_of, finding_number, is_key, may_be_there, may_have_file, missing, of_again, of_database, of_double, of_unset, of_value};
 ghost use Rattle.dconf_roles.specs.Slips.{is_slip};
 
 use crate::slips::{Name, has_slip};
@@ -37,7 +37,7 @@ pub struct FindingKnown {
     /// What it is: 0 a key that is set, 1 a lock of a key, 3 a database that a profile names, 4 a key that may be set already, 5 a lock whose key
     /// may not be set, 6 a value with a double, else a lock of a directory.
     pub what: u32,
-    /// A schema has the key, or one below the directory; or the database has its file, as far as can be said; or an earlier line of the same
+    /// A schema has the key, or one below the directory; or the database has its file; or an earlier line of the same
     /// database sets the key; or a keyfile of the site does.
     pub is_known: bool,
     /// A schema is at the key's directory.
@@ -52,6 +52,12 @@ pub struct FindingKnown {
     pub is_of_type: bool,
     /// The database is the system's; or the value is one of a source of `update`.
     pub is_system: bool,
+    /// `update` makes the database's file.
+    pub is_made: bool,
+    /// That can't be looked at.
+    pub is_unseen: bool,
+    /// The profile is one of those in a folder `profiles`, which say nothing of the folder around it.
+    pub is_among_profiles: bool,
 }
 
 /// What is found of a key that is set, or of a lock. What a schema without a path may have is passed over, unless it is a slip away from a
@@ -104,10 +110,17 @@ pub fn finding_number(known: &FindingKnown, name: &[u8], others: &[Name<'_>]) ->
 fn of_database(known: &FindingKnown, file: &[u8]) -> Finding
     ensures { result ≡ of_database known.now file.now }
 {
-    if known.is_known || !(known.is_system && file == "profile".as_bytes()) {
+    if may_have_file(known) || !(known.is_system && file == "profile".as_bytes()) {
         return Finding::Nothing;
     }
     Finding::NoDatabase
+}
+
+/// Whether the database has its file, or will have it, or nobody can say.
+fn may_have_file(known: &FindingKnown) -> bool
+    ensures { result ≡ may_have_file known.now }
+{
+    known.is_known || (known.is_made || (known.is_unseen || known.is_among_profiles))
 }
 
 fn of_again(known: &FindingKnown) -> Finding

@@ -1,6 +1,6 @@
 -- What is done about what waits, whatever is known.
 use Rattle.std.proofs.Common.{◌≡◌, Bool, true, false, not, refl}
-use Rattle.std.specs.Prelude.{◌&&◌, if◌then◌else◌, ◌==◌, nat_lt, nat_le}
+use Rattle.std.specs.Prelude.{◌&&◌, ◌||◌, if◌then◌else◌, ◌==◌, nat_lt, nat_le}
 use Rattle.dconf_rounds.specs.declared.writers.NeedTask.{NeedTask}
 use Rattle.dconf_rounds.specs.declared.writers.NeedTask.TheVariants as need
 use Rattle.dconf_rounds.specs.declared.writers.LineTask.{LineTask}
@@ -24,15 +24,28 @@ is_begun false false false true e = absurd (let bad : need.Here ≡ need.Begin =
 is_begun false false false false e = absurd (let bad : need.Over ≡ need.Begin = e in cc)
 
 -- begun where it is wanted: what else is so
-may_begin : (soon wanted thread store ended own wake : Bool) → soon && ((wanted && (not thread && (store && (not ended && own)))) && wake) ≡ true
+may_begin : (soon wanted thread ended own wake : Bool) → soon && ((wanted && (not thread && (not ended && own))) && wake) ≡ true
     → (thread ≡ false) × (ended ≡ false) × (own ≡ true)
-may_begin true true false true false true wake e = (refl, refl, refl)
-may_begin false wanted thread store ended own wake e = absurd (let bad : false ≡ true = e in cc)
-may_begin true false thread store ended own wake e = absurd (let bad : false ≡ true = e in cc)
-may_begin true true true store ended own wake e = absurd (let bad : false ≡ true = e in cc)
-may_begin true true false false ended own wake e = absurd (let bad : false ≡ true = e in cc)
-may_begin true true false true true own wake e = absurd (let bad : false ≡ true = e in cc)
-may_begin true true false true false false wake e = absurd (let bad : false ≡ true = e in cc)
+may_begin true true false false true wake e = (refl, refl, refl)
+may_begin false wanted thread ended own wake e = absurd (let bad : false ≡ true = e in cc)
+may_begin true false thread ended own wake e = absurd (let bad : false ≡ true = e in cc)
+may_begin true true true ended own wake e = absurd (let bad : false ≡ true = e in cc)
+may_begin true true false true own wake e = absurd (let bad : false ≡ true = e in cc)
+may_begin true true false false false wake e = absurd (let bad : false ≡ true = e in cc)
+
+-- what begins to wait
+is_first : (news adds waits turned : Bool) → adds ≡ true → waits ≡ false → news || ((adds && not waits) || turned) ≡ true
+is_first true adds waits turned a w = refl
+is_first false true false turned a w = refl
+is_first false true true turned a w = absurd (let bad : true ≡ false = w in cc)
+is_first false false waits turned a w = absurd (let bad : false ≡ true = a in cc)
+
+-- not in a child
+does_none : (thread ended own : Bool) → own ≡ false → thread && (not ended && own) ≡ false
+does_none false ended own e = refl
+does_none true true own e = refl
+does_none true false false e = refl
+does_none true false true e = absurd (let bad : true ≡ false = e in cc)
 
 woken_by : (d n o : Bool) → d ≡ true → n ≡ true → need_by false false (d && n) (o && not d) ≡ need.Wake
 woken_by true true o p q = refl
@@ -144,10 +157,12 @@ what_waits_is_written_or_told a k =
             begun = λ done e.
                 let makes : Bool = nat_lt done 1 && (begins k && not k.has_wake) in
                 let begun : Bool = nat_lt done 2 && (begins k && k.has_wake) in
-                may_begin (nat_lt done 2) (wants k) k.has_thread k.has_store k.has_ended (k.begun_in == k.process) k.has_wake
+                may_begin (nat_lt done 2) (wants k) k.has_thread k.has_ended (k.begun_in == k.process) k.has_wake
                 (is_begun makes begun (nat_lt done 3 && (does k && is_new k)) (nat_lt done 4 && (k.is_owed && not (does k))) e);
             woken = λ d n. woken_by (does k) (is_new k) k.is_owed d n;
+            first = λ a w. is_first k.is_news k.adds k.waits (k.listens && k.has_turned) a w;
             here = λ d o. here_by (does k) (is_new k) k.is_owed d o;
+            child = λ e. does_none k.has_thread k.has_ended (k.begun_in == k.process) e;
           };
       line =
           record {

@@ -18,17 +18,21 @@ use Rattle.dconf_rounds.specs.declared.writers.EndTask.TheVariants as end
 abbrev pub wants : WriterKnown → Bool
 wants k = k.is_wanted || k.listens
 
--- it isn't, for a store in the process that began it, before the end
+-- in the process that began it, before the end
+abbrev pub works : WriterKnown → Bool
+works k = is_at_work k.has_ended k.begun_in k.process
+
+-- it isn't
 abbrev pub begins : WriterKnown → Bool
-begins k = wants k && (not k.has_thread && (k.has_store && is_at_work k.has_ended k.begun_in k.process))
+begins k = wants k && (not k.has_thread && works k)
 
 -- it does what is new, until the end
 abbrev pub does : WriterKnown → Bool
-does k = k.has_thread && not k.has_ended
+does k = k.has_thread && works k
 
--- something is new for it: of one that doesn't watch the files who listens is none
+-- something is new for it: of one that doesn't watch the files who listens is none, and what begins to wait is no more where something does already
 abbrev pub is_new : WriterKnown → Bool
-is_new k = k.is_news || (k.listens && k.has_turned)
+is_new k = k.is_news || ((k.adds && not k.waits) || (k.listens && k.has_turned))
 
 abbrev pub need_after : ℕ → WriterKnown → NeedTask
 need_after done k =
@@ -47,8 +51,12 @@ pub record IsGoodNeed (k : WriterKnown) : Type 0 where
   pub begun : (done : ℕ) → need_after done k ≡ need.Begin → (k.has_thread ≡ false) × (k.has_ended ≡ false) × ((k.begun_in == k.process) ≡ true)
   -- what is new for the thread wakes it
   pub woken : does k ≡ true → is_new k ≡ true → need_after 2 k ≡ need.Wake
+  -- what begins to wait is new, where nothing else does
+  pub first : k.adds ≡ true → k.waits ≡ false → is_new k ≡ true
   -- and what no thread does is done here
   pub here : does k ≡ false → k.is_owed ≡ true → need_after 2 k ≡ need.Here
+  -- in a child of fork() none does, whatever was known of one
+  pub child : (k.begun_in == k.process) ≡ false → does k ≡ false
 
 -- ---- the turn
 

@@ -34,9 +34,9 @@ pub struct Known {
     pub moment: u64,
     /// Which try was the last that failed by a fault that lasts; 0: none did.
     pub failed: u64,
-    /// How many tries there were when the program began to end.
+    /// How many tries there were when the program began to end; the greatest number: it goes on.
     pub last_try: u64,
-    /// The program ends, or nobody holds what the thread works for.
+    /// The program ends, or nobody holds what the thread works for; or the thread is there for what waits alone.
     pub ends: bool,
     /// Nobody does, and the program goes on.
     pub is_let_go: bool,
@@ -53,7 +53,7 @@ pub struct Known {
     pub is_asked: bool,
     /// Of something that waits nobody knows whether it changes anything.
     pub asks: bool,
-    /// What others change is told without a look at the files.
+    /// What others change is told without a look at the files, or is seen in the turn to write.
     pub is_watched: bool,
     /// and others have theirs.
     pub is_others: bool,

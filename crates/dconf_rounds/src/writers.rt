@@ -1,7 +1,7 @@
 //! Who writes what waits: whether a thread is begun for that, or woken; how it comes to its turn; and what becomes of both at the end.
 ghost use Rattle.std.specs.Prelude.{◌≡◌, true};
 ghost use Rattle.dconf_rounds.specs.Syncs.{sync_after, sync_number};
-ghost use Rattle.dconf_rounds.specs.Writers.{answered, begins, does, end_after, end_number, facts, first_wait, is_new, is_own, is_settled, line_after, line_number, need_after, need_number, own_sync, wants, writer_number};
+ghost use Rattle.dconf_rounds.specs.Writers.{answered, begins, does, end_after, end_number, facts, first_wait, is_new, is_own, is_settled, line_after, line_number, need_after, need_number, own_sync, wants, works, writer_number};
 
 use crate::rounds::is_at_work;
 use crate::syncs::{SyncKnown, sync_number};
@@ -81,8 +81,6 @@ pub struct WriterKnown {
     pub process: u32,
     /// What else a sync knows.
     pub sync: SyncKnown,
-    /// There is a place for a store.
-    pub has_store: bool,
     /// The program ends, or nobody holds what the thread works for.
     pub has_ended: bool,
     pub has_thread: bool,
@@ -94,6 +92,10 @@ pub struct WriterKnown {
     pub is_wanted: bool,
     /// Something is new for it.
     pub is_news: bool,
+    /// Something begins to wait to be written;
+    pub adds: bool,
+    /// and something else did before: for that the thread is awake, or is to try again.
+    pub waits: bool,
     /// Somebody has to do it.
     pub is_owed: bool,
     /// Somebody listens who didn't before, or whose main context didn't turn before;
@@ -281,11 +283,12 @@ fn end_number(done: u32, is_so: bool, known: &WriterKnown) -> u32
     }
 }
 
-/// Whether something is new for the thread: of one that doesn't watch the files who listens is none.
+/// Whether something is new for the thread: of one that doesn't watch the files who listens is none, and what begins to wait is no more where
+/// something does already.
 fn is_new(known: &WriterKnown) -> bool
     ensures { result ≡ is_new known.now }
 {
-    known.is_news || (known.listens && known.has_turned)
+    known.is_news || ((known.adds && !known.waits) || (known.listens && known.has_turned))
 }
 
 /// Whether one is to be there: also for who listens, and never reads.
@@ -299,16 +302,20 @@ fn wants(known: &WriterKnown) -> bool
 fn begins(known: &WriterKnown) -> bool
     ensures { result ≡ begins known.now }
 {
-    wants(known)
-        && (!known.has_thread
-            && (known.has_store && is_at_work(known.has_ended, known.begun_in, known.process)))
+    wants(known) && (!known.has_thread && works(known))
 }
 
-/// Whether a thread does what is new.
+/// Whether a thread does what is new: in a child there is none, whatever was known before fork().
 fn does(known: &WriterKnown) -> bool
     ensures { result ≡ does known.now }
 {
-    known.has_thread && !known.has_ended
+    known.has_thread && works(known)
+}
+
+fn works(known: &WriterKnown) -> bool
+    ensures { result ≡ works known.now }
+{
+    is_at_work(known.has_ended, known.begun_in, known.process)
 }
 
 /// Whether this is the process that began it: it is no child of that by fork(), in which what waits is its parent's.

@@ -7,9 +7,9 @@ use Rattle.dconf_waiting.specs.Patiences.{later_by}
 abbrev pub numbered : ℕ → Looker
 numbered number = if number == 0 then Reads else if number == 1 then Failed else Tells
 
--- there is a store, which was opened first, and its owner is at work
-abbrev pub may_look : Bool → Bool → Bool → Bool
-may_look has_store has_opened is_at_work = has_store && (has_opened && is_at_work)
+-- the store was opened first, or could not be: then it may be by now; and its owner is at work
+abbrev pub may_look : Bool → Bool → Bool
+may_look has_opened is_at_work = has_opened && is_at_work
 
 -- who reads doesn't look each time, and never where the files are watched
 abbrev pub is_due : Looker → Bool → ℕ → ℕ → Bool

@@ -8,6 +8,10 @@ use Rattle.dconf_waiting.specs.declared.patience.Patience.{Patience}
 abbrev pub later_by : ℕ → ℕ → ℕ
 later_by now time = min (now + time) 18446744073709551615
 
+-- who sets or syncs, the program's end, and who wants a lock there that is held for moments
+abbrev pub patience_for : ℕ → ℕ
+patience_for who = if who == 0 then 10000000 else if who == 1 then 5000000 else 2000000
+
 -- for a minute at most, from when it began
 abbrev pub latest_of : Patience → ℕ → ℕ
 latest_of p now = if p.latest == 0 then later_by now 60000000 else p.latest

@@ -22,20 +22,19 @@ pub enum Looker {
 }
 
 /// When the next look is due, if this one is made; of who tells, how long it waits for it; 0 if none is made. `due`: when one is, unless somebody
-/// watches the files. There is a store, which was opened first, and its owner is at work. In numbers: 0 reads, 1 has failed, and else tells.
+/// watches the files. The store was opened first, or could not be, and its owner is at work. In numbers: 0 reads, 1 has failed, and else tells.
 pub fn next_look(
     looker: u32,
     due: u64,
     now: u64,
-    has_store: bool,
     has_opened: bool,
     is_at_work: bool,
     is_watched: bool,
 ) -> u64
-    ensures { result ≡ next_look (numbered looker) is_watched due now (may_look has_store has_opened is_at_work) }
+    ensures { result ≡ next_look (numbered looker) is_watched due now (may_look has_opened is_at_work) }
 {
     let looker = numbered(looker);
-    if !may_look(has_store, has_opened, is_at_work) || !is_due(looker, is_watched, due, now) {
+    if !may_look(has_opened, is_at_work) || !is_due(looker, is_watched, due, now) {
         return 0;
     }
     now.saturating_add(span(looker))
@@ -51,10 +50,10 @@ fn numbered(number: u32) -> Looker
     }
 }
 
-fn may_look(has_store: bool, has_opened: bool, is_at_work: bool) -> bool
-    ensures { result ≡ may_look has_store has_opened is_at_work }
+fn may_look(has_opened: bool, is_at_work: bool) -> bool
+    ensures { result ≡ may_look has_opened is_at_work }
 {
-    has_store && (has_opened && is_at_work)
+    has_opened && is_at_work
 }
 
 fn is_due(looker: Looker, is_watched: bool, due: u64, now: u64) -> bool

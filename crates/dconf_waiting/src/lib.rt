@@ -25,7 +25,7 @@ pub use fate::{Fate, Waiter, WaitingEdit, fate_number, fate_of};
 pub use fresh::{Looker, next_look};
 pub use line::{Tally, settle};
 pub use newest::{found, put};
-pub use patience::{Patience, Progress};
+pub use patience::{Patience, Progress, patience_for};
 
 /// Of each key the newest edit that waits is found; and if it goes, the one before it.
 pub fn the_newest_is_found()

@@ -1,7 +1,7 @@
 //! How long somebody waits until what waits is written. All moments are of one clock, in microseconds.
 ghost use Rattle.std.specs.Prelude.{◌≡◌, ◌≤◌, ◌<◌, ◌+◌, ◌↔◌, IsTrue};
 ghost use Rattle.dconf_files.specs.Stamps.{is_same_time};
-ghost use Rattle.dconf_waiting.specs.Patiences.{renewed_by};
+ghost use Rattle.dconf_waiting.specs.Patiences.{patience_for, renewed_by};
 
 use dconf_files::FileTime;
 
@@ -10,6 +10,23 @@ const LONGEST_CROWD: u64 = 60_000_000;
 
 /// How long the program's end waits for a thread that neither writes nor is to try again.
 const LONGEST_REST: u64 = 2_000_000;
+
+/// How long whoever sets or syncs waits for the turn; and how long the program's end does.
+const LONGEST_ASKED: u64 = 10_000_000;
+
+const LONGEST_END: u64 = 5_000_000;
+
+/// How long it is waited for what waits, or for the turn, unless others have turns meanwhile: by who sets or syncs (0), at the end (1), and (else)
+/// for a lock that is wanted for moments, at the end.
+pub fn patience_for(who: u32) -> u64
+    ensures { result ≡ patience_for who }
+{
+    match who {
+        0 => LONGEST_ASKED,
+        1 => LONGEST_END,
+        _ => LONGEST_REST,
+    }
+}
 
 /// How long it is waited: so long, and as long again after each turn that another program has, but not for ever.
 #[repr(C)]

@@ -5,11 +5,11 @@ ghost use Rattle.dconf_changesets.specs.Asking.{asked_after, look_due, look_numb
 ghost use Rattle.dconf_changesets.specs.Differences.{differs};
 ghost use Rattle.dconf_changesets.specs.Making.{change_after, change_number, is_unmade};
 ghost use Rattle.dconf_changesets.specs.Rows.{effect_number, effect_of};
-ghost use Rattle.dconf_changesets.specs.Saying.{is_said};
+ghost use Rattle.dconf_changesets.specs.Saying.{is_said, is_same_word};
 
 use dconf_changesets::{
     Base, ChangeKnown, LookKnown, Said, Tried, asked_after, change_number, differs, effect_number,
-    effect_of, is_said, is_unmade, look_number, shared_within,
+    effect_of, is_said, is_same_word, is_unmade, look_number, shared_within,
 };
 
 /// What becomes of the row of a path in a set of changes where one is set, or reset: 0 it stays, 1 it goes, 2 it takes the change's value,
@@ -57,6 +57,28 @@ pub extern "C" fn dconfdb_is_said(said: &[Said], is_stored: bool) -> bool
     ensures { result ≡ is_said said.now is_stored }
 {
     is_said(said, is_stored)
+}
+
+/// Whether two edits of a path say the same: both reset it, or both set the same bytes at the same type.
+#[unsafe(no_mangle)]
+pub extern "C" fn dconfdb_is_same_word(
+    sets: bool,
+    type_text: &[u8],
+    value: &[u8],
+    other_sets: bool,
+    other_type_text: &[u8],
+    other_value: &[u8],
+) -> bool
+    ensures { result ≡ is_same_word sets type_text.now value.now other_sets other_type_text.now other_value.now }
+{
+    is_same_word(
+        sets,
+        type_text,
+        value,
+        other_sets,
+        other_type_text,
+        other_value,
+    )
 }
 
 /// What becomes of a look at the files: 0 none is needed, 1 the store is opened, 2 it is made, 3 later. `looker`: 0 who wants to see them,

@@ -40,20 +40,17 @@ pub extern "C" fn dconfdb_failing_met(
 }
 
 /// When the next look is due, if this one is made; or 0. Of 0 who reads, of 1 who did and whose look failed; and of who is about to tell
-/// of a change, how long it waits for the newest. `is_watched`: somebody watches the files.
+/// of a change, how long it waits for the newest. `has_opened`: the store was opened first, or could not be. `is_watched`: somebody watches the files.
 #[unsafe(no_mangle)]
 pub extern "C" fn dconfdb_next_look(
     looker: u32,
     due: u64,
     now: u64,
-    has_store: bool,
     has_opened: bool,
     is_at_work: bool,
     is_watched: bool,
 ) -> u64
-    ensures { result ≡ next_look (numbered looker) is_watched due now (may_look has_store has_opened is_at_work) }
+    ensures { result ≡ next_look (numbered looker) is_watched due now (may_look has_opened is_at_work) }
 {
-    next_look(
-        looker, due, now, has_store, has_opened, is_at_work, is_watched,
-    )
+    next_look(looker, due, now, has_opened, is_at_work, is_watched)
 }

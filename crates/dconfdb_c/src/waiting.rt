@@ -4,10 +4,10 @@ ghost use Rattle.std.specs.Prelude.{◌≡◌, ◌≤◌, ◌<◌, ◌+◌, ◌�
 ghost use Rattle.std.specs.List.Sorted.{IsPermutation};
 ghost use Rattle.dconf_waiting.specs.Newest.{IsPut, found};
 ghost use Rattle.dconf_waiting.specs.Fates.{IsStillWaiting, marked, tallied};
-ghost use Rattle.dconf_waiting.specs.Patiences.{renewed_by};
+ghost use Rattle.dconf_waiting.specs.Patiences.{patience_for, renewed_by};
 
 use dconf_files::FileTime;
-use dconf_waiting::{Patience, Progress, Tally, Waiter, found, put, settle};
+use dconf_waiting::{Patience, Progress, Tally, Waiter, found, patience_for, put, settle};
 
 /// The number of the newest edit of a key that waits; 0 if none does. If `puts`, the edit of that number is the newest from then on.
 #[unsafe(no_mangle)]
@@ -41,6 +41,15 @@ pub extern "C" fn dconfdb_waiting_line(
     ensures tallied { tally.new ≡ tallied is_written line.new tally.old }
 {
     settle(line, is_written, tally)
+}
+
+/// How many microseconds it is waited, unless others have turns meanwhile: by who sets or syncs (0), at the program's end (1), and (else) for a lock
+/// that is wanted there for moments.
+#[unsafe(no_mangle)]
+pub extern "C" fn dconfdb_patience_for(who: u32) -> u64
+    ensures { result ≡ patience_for who }
+{
+    patience_for(who)
 }
 
 /// Whether it is waited on: fewer changes are settled than there were when the wait began, no later try than those of then has failed

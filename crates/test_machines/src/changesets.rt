@@ -212,8 +212,7 @@ const PLAIN: ChangeKnown = ChangeKnown {
     is_left: true,
     is_news: true,
     is_watched: false,
-    is_locked: false,
-    is_unwritable: false,
+    is_barred: false,
 };
 
 fn are_made() -> bool {
@@ -234,7 +233,7 @@ fn are_made() -> bool {
         ..PLAIN
     };
     let locked = ChangeKnown {
-        is_locked: true,
+        is_barred: true,
         ..PLAIN
     };
     let userless = ChangeKnown {

@@ -275,6 +275,9 @@ const FINE: FindingKnown = FindingKnown {
     is_taken: true,
     is_of_type: true,
     is_system: true,
+    is_made: false,
+    is_unseen: false,
+    is_among_profiles: false,
 };
 
 const UNKNOWN: FindingKnown = FindingKnown {
@@ -346,7 +349,28 @@ fn named_in(name: &str, is_known: bool, is_system: bool) -> u32 {
 }
 
 fn databases_are_looked_for() -> bool {
-    named_in("profile", false, true) == 6
+    let missing = FindingKnown {
+        what: 3,
+        is_known: false,
+        ..FINE
+    };
+    let made = FindingKnown {
+        is_made: true,
+        ..missing
+    };
+    let unseen = FindingKnown {
+        is_unseen: true,
+        ..missing
+    };
+    let among = FindingKnown {
+        is_among_profiles: true,
+        ..missing
+    };
+    finding_number(&missing, "profile".as_bytes(), &[]) == 6
+        && finding_number(&made, "profile".as_bytes(), &[]) == 0
+        && finding_number(&unseen, "profile".as_bytes(), &[]) == 0
+        && finding_number(&among, "profile".as_bytes(), &[]) == 0
+        && named_in("profile", false, true) == 6
         && named_in("profile", true, true) == 0
         && named_in("profile", false, false) == 0
         && named_in("site", false, true) == 0

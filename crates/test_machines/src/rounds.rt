@@ -385,13 +385,14 @@ const NOBODY: WriterKnown = WriterKnown {
         has_looked: false,
         is_to_settle: false,
     },
-    has_store: true,
     has_ended: false,
     has_thread: false,
     has_wake: true,
     has_line: false,
     is_wanted: true,
     is_news: true,
+    adds: false,
+    waits: false,
     is_owed: true,
     listens: false,
     has_turned: false,
@@ -436,7 +437,22 @@ fn threads_are_begun_and_woken() -> bool {
         has_turned: true,
         ..quiet
     };
-    writer_number(0, 0, true, &hears) == 2
+    let first = WriterKnown {
+        adds: true,
+        ..awake
+    };
+    let behind = WriterKnown {
+        waits: true,
+        ..first
+    };
+    let lost = WriterKnown {
+        process: 8,
+        ..first
+    };
+    writer_number(0, 0, true, &first) == 3
+        && writer_number(0, 0, true, &behind) == 5
+        && writer_number(0, 0, true, &lost) == 4
+        && writer_number(0, 0, true, &hears) == 2
         && writer_number(0, 0, true, &quiet) == 5
         && writer_number(0, 0, true, &turned) == 3
         && writer_number(0, 0, true, &deaf) == 1

@@ -217,14 +217,13 @@ fn are_due() -> bool {
         && sleep_until(0, 1_006, 5) == Some(2)
         && sleep_until(1_005, 9_000, 5) == Some(1)
         && sleep_until(1, 9_000, 5) == Some(0)
-        && next_look(0, 5, 5, true, true, true, false) == 10_005
-        && next_look(0, 5, 5, true, true, true, true) == 0
-        && next_look(0, 6, 5, true, true, true, false) == 0
-        && next_look(1, 6, 5, true, true, true, true) == 1_000_005
-        && next_look(2, 6, 5, true, true, true, true) == 200_005
-        && next_look(2, 6, 5, false, true, true, false) == 0
-        && next_look(2, 6, 5, true, false, true, false) == 0
-        && next_look(0, 5, 5, true, true, false, false) == 0
+        && next_look(0, 5, 5, true, true, false) == 10_005
+        && next_look(0, 5, 5, true, true, true) == 0
+        && next_look(0, 6, 5, true, true, false) == 0
+        && next_look(1, 6, 5, true, true, true) == 1_000_005
+        && next_look(2, 6, 5, true, true, true) == 200_005
+        && next_look(2, 6, 5, false, true, false) == 0
+        && next_look(0, 5, 5, true, false, false) == 0
 }
 
 #[test]
