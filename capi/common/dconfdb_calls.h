@@ -1396,6 +1396,10 @@ enum {
  * moment (`is_momentary`); or if nobody tries again of themselves. */
 uint32_t dconfdb_failing_met(DconfdbFailing *failing, bool is_there, bool is_momentary, bool tries_again, uint64_t now);
 
+/* The same of a look at the files, that is repeated of itself or not. What mostly passes in a moment is awaited then; and all else is said at once, since
+ * what is shown may not be what the files hold. */
+uint32_t dconfdb_failing_look(DconfdbFailing *failing, bool is_there, bool is_momentary, bool is_repeated, uint64_t now);
+
 /* Who looks at files that nobody watches. */
 enum {
     DCONFDB_LOOKER_READS,
