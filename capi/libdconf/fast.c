@@ -90,6 +90,7 @@ static bool begin_thread(Engine *self)
     return true;
 }
 
+/* `lock` is held. */
 static DconfdbWriter known_now(const Engine *self)
 {
     return (DconfdbWriter){.begun_in = self->process, .process = (uint32_t)getpid()};
@@ -148,14 +149,14 @@ static bool is_redundant(Engine *self, const DconfdbSnapshot *now, const Dconfdb
 }
 
 /* `lock` is held. What becomes of the changes beside what waits. */
-static uint32_t entry_of(Engine *self, bool may_write, const DconfdbSnapshot *now, const Edits *edits, DConfChangeset *changes)
+static uint32_t entry_of(Engine *self, bool has_user, const DconfdbSnapshot *now, const Edits *edits, DConfChangeset *changes)
 {
     g_autofree DconfdbNewEdit *known = g_new0(DconfdbNewEdit, edits->edits->len);
     for (guint at = 0; at < edits->edits->len; at++) {
         const DconfdbEdit *edit = edit_at(edits, at);
         g_autoptr(GVariant) value = NULL;
         dconf_changeset_get(changes, edit->path, &value);
-        known[at] = known_by_rights(edit, may_write, now);
+        known[at] = known_by_rights(edit, has_user, now);
         known[at].is_same = is_redundant(self, or_nothing(now), edit, value);
     }
     bool is_there;
@@ -165,9 +166,9 @@ static uint32_t entry_of(Engine *self, bool may_write, const DconfdbSnapshot *no
 /* Lets the changes wait, unless they are refused, or nothing of them is left. Gives what becomes of them. */
 static uint32_t add_waiting(Engine *self, const DconfdbSnapshot *now, const Edits *edits, DConfChangeset *changes)
 {
-    bool may_write = is_open(self);
+    bool has_user = engine_has_user(self);
     g_mutex_lock(&self->lock);
-    uint32_t entry = entry_of(self, may_write, now, edits, changes);
+    uint32_t entry = entry_of(self, has_user, now, edits, changes);
     if (entry != DCONFDB_ENTRY_REFUSED && entry != DCONFDB_ENTRY_EMPTY) {
         if (!self->waiting)
             self->waiting = dconf_changeset_new();
@@ -198,6 +199,7 @@ static gboolean take(Engine *self, const DconfdbSnapshot *now, const Edits *edit
 
 gboolean engine_change_fast(Engine *self, DConfChangeset *changes, GError **error)
 {
+    engine_begin_here(self);
     DconfdbSnapshot *now = engine_newest(self);
     Edits edits = edits_of(changes);
     gboolean is_done = take(self, now, &edits, changes, error);
@@ -210,11 +212,14 @@ gboolean engine_change_fast(Engine *self, DConfChangeset *changes, GError **erro
 void engine_sync(Engine *self)
 {
     DconfdbError fault = DCONFDB_ERROR_INIT;
-    DconfdbWriter known = known_now(self);
-    known.added = 1;
-    known.sync.has_looked = true;
     uint32_t task = DCONFDB_WRITER_BEGINS;
     uint64_t again;
+    engine_begin_here(self);
+    g_mutex_lock(&self->lock);
+    DconfdbWriter known = known_now(self);
+    g_mutex_unlock(&self->lock);
+    known.added = 1;
+    known.sync.has_looked = true;
     while ((task = dconfdb_writer_after(DCONFDB_WRITER_SYNC, task, true, &known)) < DCONFDB_SYNC_YES) {
         if (task == DCONFDB_SYNC_WRITE)
             known.settled = flush(self, FALSE, &fault, &again);

@@ -9,7 +9,7 @@
 
 #include <dconf.h>
 
-/* ---- a client's store (engine.c) */
+/* ---- a client's store (engine.c, reads.c) */
 
 /* What the source of a client has heard of its files. */
 typedef struct {
@@ -24,13 +24,13 @@ typedef struct {
 typedef struct {
     GWeakRef client;
     GMainContext *context; /* signals come in it */
-    uint32_t process;      /* that made it: a child of fork() makes a client of its own */
     gint is_reopened;      /* other files may be the store's, and are to be watched; atomic */
 
     GMutex turn; /* held while the store is changed, which may take long. It guards: */
     DconfdbFailing failing; /* what waits can't be written */
 
     GMutex lock;             /* held for moments. It guards: */
+    uint32_t process;        /* whose is what waits, and who writes it */
     StorePlace place;        /* no folder: none was found yet. It stays the same */
     DconfdbStore *store;     /* NULL: it could not be opened yet. It stays the same */
     Warned warned;           /* the faults that were logged, and are there still */
@@ -79,8 +79,8 @@ void engine_end_write(Engine *self);
 /* Whether the profile has a user's database: without one nothing can be written. */
 gboolean engine_has_user(Engine *self);
 
-/* Whether it is at work: in a child of fork() nothing is written, as what waits is the parent's. */
-bool engine_is_at_work(const Engine *self);
+/* Before anything waits or is written: in a child of fork() nothing does yet, as what waits is the parent's, and so is who writes it. */
+void engine_begin_here(Engine *self);
 
 /* `lock` is held. The set of that number, as dconfdb_asked_after has it; NULL: it is empty. */
 DConfChangeset *engine_set(Engine *self, size_t number, const GQueue *read_through);

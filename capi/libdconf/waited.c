@@ -291,7 +291,7 @@ static bool make(Try *try)
     DconfdbSnapshot *now = engine_look(try->engine);
     Edits edits = edits_of(try->changes);
     DconfdbChanging changing = {.has_store = try->store, .has_user = engine_has_user(try->engine)};
-    g_autofree DconfdbNewEdit *known = known_of(&edits, is_open(try->engine), now);
+    g_autofree DconfdbNewEdit *known = known_of(&edits, changing.has_user, now);
     changing.is_there = edits_are_there(known, edits.edits->len);
     leave_out(&edits, known);
     changing.is_left = edits.edits->len > 0;
@@ -309,7 +309,7 @@ static bool make(Try *try)
 /* False: it could not be written, by no fault of its own, and goes on waiting. What is refused is taken back. */
 gboolean write_waiting(Engine *self, gboolean tries_again, DconfdbError *fault)
 {
-    g_autoptr(DConfChangeset) taken = engine_is_at_work(self) ? take_waiting(self) : NULL;
+    g_autoptr(DConfChangeset) taken = take_waiting(self);
     if (!taken)
         return TRUE;
     g_autoptr(GHashTable) unmade = g_hash_table_new_full(g_str_hash, g_str_equal, g_free, NULL);

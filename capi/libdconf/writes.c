@@ -49,11 +49,6 @@ void turn_end(Engine *self, FolderLock *lock)
     engine_end_write(self);
 }
 
-bool is_open(Engine *self)
-{
-    return engine_has_user(self) && engine_is_at_work(self);
-}
-
 /* As dconfdb_store_change, with the turn to write: all counts as set now. */
 static gboolean put(Engine *self, const Edits *edits, DconfdbError *fault)
 {
@@ -93,7 +88,7 @@ typedef struct {
 static bool is_refused(Engine *engine, const Edits *edits)
 {
     DconfdbSnapshot *now = engine_look(engine);
-    g_autofree DconfdbNewEdit *known = known_of(edits, is_open(engine), now);
+    g_autofree DconfdbNewEdit *known = known_of(edits, engine_has_user(engine), now);
     dconfdb_snapshot_unref(now);
     bool is_there;
     return dconfdb_entry(known, edits->edits->len, &is_there) == DCONFDB_ENTRY_REFUSED;
@@ -105,7 +100,7 @@ static void learn(Change *self)
     self->now = engine_look(self->engine);
     self->known.has_store = engine_store(self->engine, &self->fault);
     self->known.has_user = engine_has_user(self->engine);
-    g_autofree DconfdbNewEdit *known = known_of(&self->edits, is_open(self->engine), self->now);
+    g_autofree DconfdbNewEdit *known = known_of(&self->edits, self->known.has_user, self->now);
     self->known.is_there = edits_are_there(known, self->edits.edits->len);
     self->told = effective(&self->edits, known, self->changes);
     leave_out(&self->edits, known);
@@ -193,6 +188,7 @@ static gboolean answer(uint32_t outcome, const DconfdbError *fault, GError **err
 
 gboolean engine_change_sync(Engine *engine, DConfChangeset *changes, gchar **tag, GError **error)
 {
+    engine_begin_here(engine);
     Change self = {.engine = engine, .changes = changes, .edits = edits_of(changes), .fault = DCONFDB_ERROR_INIT};
     self.known.is_empty = dconf_changeset_is_empty(changes);
     self.known.is_refused = !self.known.is_empty && is_refused(engine, &self.edits);

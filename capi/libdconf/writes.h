@@ -51,9 +51,6 @@ void end_writing(Engine *self);
 bool turn_begin(Engine *self, DconfdbStore *store, FolderLock *lock, Turn *turn);
 void turn_end(Engine *self, FolderLock *lock);
 
-/* Whether somebody may write in the user's database: there is one, and the engine is at work. */
-bool is_open(Engine *self);
-
 /* ---- what waits (waited.c) */
 
 /* `lock` is held. All these are asked for in this moment. */
