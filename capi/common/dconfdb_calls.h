@@ -106,7 +106,7 @@ enum {
     DCONFDB_TURN_CREATE,      /* make NAME.new, empty, in the place of any other, with the permission bits `number` */
     DCONFDB_TURN_APPEND,      /* write the bytes from `number` on to it, or some of them; answer how many */
     DCONFDB_TURN_SYNC,        /* give it the permission bits `number`, if `has_number`, and have it on the disk */
-    DCONFDB_TURN_SET_ASIDE,   /* give NAME another name too, NAME~1 or so, that is free; answer 0, or 1 if it can't have one */
+    DCONFDB_TURN_SET_ASIDE,   /* give NAME another name too, NAME~1 or so, that is free, unless it has one; answer 0, or 1 if it can't have one */
     DCONFDB_TURN_EXCHANGE,    /* give NAME.new such a free name, and have it change places with NAME */
     DCONFDB_TURN_RENAME,      /* rename NAME.new to NAME */
     DCONFDB_TURN_SYNC_FOLDER, /* have the folder's names on the disk */
