@@ -1142,6 +1142,18 @@ enum {
     DCONFDB_WAY_RISES /* to the folder above */
 };
 
+/* Who watches. */
+enum {
+    DCONFDB_WATCHER_LIBRARY,
+    DCONFDB_WATCHER_MODULE,
+    DCONFDB_WATCHER_CLIENT,
+    DCONFDB_WATCHER_COMMAND,
+    DCONFDB_WATCHER_SERVICE
+};
+
+/* Whether it minds much that happens: then a folder is waited for in /etc, too. */
+bool dconfdb_minds_much(uint32_t who);
+
 /* Of a name in a folder; the root's path is empty. `minds`: much that happens is minded. `is_last`: it is the file's own name. `mode` and
  * `links` are st_mode and st_nlink of what stands there, 0 where nothing does. `is_unseen`: that can't be seen, or not where a link leads. `followed`: so
  * many links were followed on the way. `is_profile`: if the file changes, other files may be the store's. */

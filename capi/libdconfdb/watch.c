@@ -12,12 +12,12 @@
 
 enum { SECOND = 1000000, NANOSECONDS = 1000 };
 
-Watch *watch_new(bool minds_etc)
+Watch *watch_new(uint32_t who)
 {
     Watch *watch = calloc(1, sizeof *watch);
     if (!watch)
         return NULL;
-    *watch = (Watch){.inotify = -1, .minds_etc = minds_etc};
+    *watch = (Watch){.inotify = -1, .minds_etc = dconfdb_minds_much(who)};
     (void)dconfdb_notice_told(&watch->notice, DCONFDB_NOTICE_BEGINS, DCONFDB_NOTICE_NOTHING, false, 0);
     return watch;
 }

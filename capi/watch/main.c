@@ -197,7 +197,7 @@ static bool prepare(Watching *watch, DconfdbError *error)
 {
     bool are_all = false;
     watch->names_read = place_files(&watch->place, &watch->profiles, &are_all, error);
-    watch->names = watch_new(true);
+    watch->names = watch_new(DCONFDB_WATCHER_COMMAND);
     if (!watch->names_read || !watch->names)
         return false;
     begin(watch);

@@ -7,6 +7,10 @@ use Rattle.dconf_watches.specs.declared.name.NameWatch.{NameWatch}
 use Rattle.dconf_watches.specs.declared.name.Way.{Way}
 use Rattle.dconf_watches.specs.declared.event.Heard.{Heard}
 
+-- The command and the service are few: they may be woken by much that is none of theirs. Programs are many.
+abbrev pub minds_much : ℕ → Bool
+minds_much who = (who == 3) || (who == 4)
+
 -- much happens in /etc: only who minds that waits there
 abbrev pub is_busy : Bool → List ℕ → Bool
 is_busy minds folder = not minds && bytes_eq folder (codes "/etc")

@@ -1,6 +1,6 @@
 //! What is watched of a name on the way to a file.
 ghost use Rattle.std.specs.Prelude.{◌≡◌};
-ghost use Rattle.dconf_watches.specs.Names.{heard_as, is_busy, is_busy_in, is_dot, is_dots, is_missed, is_needed, unless, watch_at, watch_of, way_at, way_of};
+ghost use Rattle.dconf_watches.specs.Names.{heard_as, is_busy, is_busy_in, is_dot, is_dots, is_missed, is_needed, minds_much, unless, watch_at, watch_of, way_at, way_of};
 
 use crate::event::Heard;
 
@@ -113,6 +113,14 @@ pub fn heard_as(found: Found, is_last: bool, role: Heard) -> Heard
         (_, true) => role,
         (_, false) => Heard::Path,
     }
+}
+
+/// Whether who watches minds much that happens: 3 the command, and 4 the service, do, of which there are few; 0 the library's caller, 1 a program's
+/// module, and 2 a client, don't.
+pub fn minds_much(who: u32) -> bool
+    ensures { result ≡ minds_much who }
+{
+    who == 3 || who == 4
 }
 
 /// Whether much happens in a folder, which is not minded.
