@@ -106,7 +106,7 @@ enum {
     DCONFDB_TURN_CREATE,      /* make NAME.new, empty, in the place of any other, with the permission bits `number` */
     DCONFDB_TURN_APPEND,      /* write the bytes from `number` on to it, or some of them; answer how many */
     DCONFDB_TURN_SYNC,        /* give it the permission bits `number`, if `has_number`, and have it on the disk */
-    DCONFDB_TURN_SET_ASIDE,   /* give NAME another name too, NAME~1 or so, that is free; answer 0, or 1 if it can't have one */
+    DCONFDB_TURN_SET_ASIDE,   /* give NAME another name too, NAME~1 or so, that is free, unless it has one; answer 0, or 1 if it can't have one */
     DCONFDB_TURN_EXCHANGE,    /* give NAME.new such a free name, and have it change places with NAME */
     DCONFDB_TURN_RENAME,      /* rename NAME.new to NAME */
     DCONFDB_TURN_SYNC_FOLDER, /* have the folder's names on the disk */
@@ -593,6 +593,20 @@ enum {
 };
 
 uint32_t dconfdb_beside(uint32_t purpose, const DconfdbFileStamp *old, const DconfdbFileStamp *now, const DconfdbPartSeen *seen);
+
+/* Of a file that is IF_READABLE: whether it is the same, as this process may read it or not; and by what it is known from then on: what changed of it isn't
+ * asked of again until more does. */
+bool dconfdb_known_after(const DconfdbFileStamp *old, const DconfdbFileStamp *now, bool may_be_read, DconfdbFileStamp *known);
+
+/* Which file of a store is read. */
+enum {
+    DCONFDB_SIZE_MACHINE, /* it says in one word which kind of store the machine has */
+    DCONFDB_SIZE_PROFILE,
+    DCONFDB_SIZE_DATABASE
+};
+
+/* A file of more bytes isn't read. */
+uint64_t dconfdb_largest(uint32_t kind);
 
 /* What stands under a name. `is_read`: it is the very file that was read. */
 typedef struct {
@@ -1107,6 +1121,7 @@ typedef struct {
     uint32_t way;
     uint32_t comes; /* what is heard if something comes there */
     bool is_needed; /* without it something would be missed */
+    bool is_missed; /* something is, whatever is watched */
 } DconfdbWatchedName;
 
 /* What is watched. */
@@ -1127,11 +1142,23 @@ enum {
     DCONFDB_WAY_RISES /* to the folder above */
 };
 
+/* Who watches. */
+enum {
+    DCONFDB_WATCHER_LIBRARY,
+    DCONFDB_WATCHER_MODULE,
+    DCONFDB_WATCHER_CLIENT,
+    DCONFDB_WATCHER_COMMAND,
+    DCONFDB_WATCHER_SERVICE
+};
+
+/* Whether it minds much that happens: then a folder is waited for in /etc, too. */
+bool dconfdb_minds_much(uint32_t who);
+
 /* Of a name in a folder; the root's path is empty. `minds`: much that happens is minded. `is_last`: it is the file's own name. `mode` and
- * `links` are st_mode and st_nlink of what stands there, 0 where nothing does. `followed`: so many links were followed on the way. `is_profile`: if the
- * file changes, other files may be the store's. */
-void dconfdb_watched_name(bool minds, const uint8_t *folder, size_t folder_len, const uint8_t *name, size_t name_len, bool is_last, uint32_t mode,
-                          uint64_t links, uint64_t followed, bool is_profile, DconfdbWatchedName *watched);
+ * `links` are st_mode and st_nlink of what stands there, 0 where nothing does. `is_unseen`: that can't be seen, or not where a link leads. `followed`: so
+ * many links were followed on the way. `is_profile`: if the file changes, other files may be the store's. */
+void dconfdb_watched_name(bool minds, const uint8_t *folder, size_t folder_len, const uint8_t *name, size_t name_len, bool is_last, bool is_unseen,
+                          uint32_t mode, uint64_t links, uint64_t followed, bool is_profile, DconfdbWatchedName *watched);
 
 /* A folder may come between the look at its name and the watch there: so the names are gone through in rounds. All bits 0 at first. */
 typedef struct {
@@ -1156,8 +1183,9 @@ enum {
 uint32_t dconfdb_watch_round(DconfdbWatchRounds *rounds, uint32_t what, bool is_known, bool is_had, bool is_needed);
 
 /* What is heard of inotify's event at a name; or what was heard before, if that means more. `has_name`: it isn't the folder's own.
- * `is_same`: it is of the name that is watched, at which that stands by now. */
-uint32_t dconfdb_heard(uint32_t before, uint32_t watch, uint32_t comes, uint32_t mask, bool has_name, bool is_same, uint32_t mode, uint64_t links);
+ * `is_same`: it is of the name that is watched, at which that stands by now, unless it can't be seen (`is_unseen`). */
+uint32_t dconfdb_heard(uint32_t before, uint32_t watch, uint32_t comes, uint32_t mask, bool has_name, bool is_same, bool is_unseen, uint32_t mode,
+                       uint64_t links);
 
 /* ---- when what waits is written. All moments are of one clock, in microseconds; 0 is none. */
 
@@ -1320,6 +1348,8 @@ typedef struct {
     bool is_amid;        /* that one changes the files: what it has seen in its turn is the newest */
     bool is_late;        /* it is waited no longer for the turn */
     bool is_to_settle;   /* who looks wants to know what of that which waits is there already */
+    bool was_unseen;     /* one of those files couldn't be looked at when the profile was read, */
+    bool is_unseen;      /* or can't be now */
 } DconfdbGlance;
 
 /* The task that is due after that one. */
@@ -1377,6 +1407,10 @@ enum {
 /* It was tried again: the fault is there or not. It lasts if it is there for a second and a half, or ten seconds if it mostly passes in a
  * moment (`is_momentary`); or if nobody tries again of themselves. */
 uint32_t dconfdb_failing_met(DconfdbFailing *failing, bool is_there, bool is_momentary, bool tries_again, uint64_t now);
+
+/* The same of a look at the files, that is repeated of itself or not. What mostly passes in a moment is awaited then; and all else is said at once, since
+ * what is shown may not be what the files hold. */
+uint32_t dconfdb_failing_look(DconfdbFailing *failing, bool is_there, bool is_momentary, bool is_repeated, uint64_t now);
 
 /* Who looks at files that nobody watches. */
 enum {

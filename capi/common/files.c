@@ -178,7 +178,7 @@ static int read_open(int file, Standing *it, FileWanted *is_wanted, FileBytes *b
 
 /* What has the name is looked at before it is opened: a state of later might be that of a newer file, which would never be read; and a pipe or
  * a device is not opened, since who writes into it would notice. */
-int file_read(int folder, const char *name, bool maps, FileWanted *is_wanted, size_t most, FileBytes *bytes, FileState *state)
+int file_read(int folder, const char *name, bool maps, FileWanted *is_wanted, uint64_t most, FileBytes *bytes, FileState *state)
 {
     struct stat found;
     Opening opening = {folder, -1, name};

@@ -49,7 +49,7 @@ typedef bool FileWanted(const uint8_t *head, size_t len);
  * an error. EOVERFLOW: it has more than `most` bytes. EISDIR: it is a folder. EINVAL: it is no regular file. A large one that
  * isn't mapped is read no further than its head if the rest isn't wanted (NULL: it is). Of a file that can't be
  * read the state is that of before, if there is any. */
-int file_read(int folder, const char *name, bool maps, FileWanted *is_wanted, size_t most, FileBytes *bytes, FileState *state);
+int file_read(int folder, const char *name, bool maps, FileWanted *is_wanted, uint64_t most, FileBytes *bytes, FileState *state);
 
 void file_release(FileBytes *bytes);
 

@@ -43,7 +43,7 @@ static bool has_listeners(DconfdbBackend *self)
 void watch_turn(DconfdbBackend *self)
 {
     if (!self->watch)
-        self->watch = watch_new(false);
+        self->watch = watch_new(DCONFDB_WATCHER_MODULE);
     else
         watch_pass_time(self->watch, has_listeners(self));
     if (self->watch) /* else no memory is left: the next turn tries it again */

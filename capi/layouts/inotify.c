@@ -5,9 +5,10 @@
 #include <sys/inotify.h>
 #include <sys/stat.h>
 
-void dconfdb_watched_name(bool minds, const uint8_t *folder, size_t folder_len, const uint8_t *name, size_t name_len, bool is_last, uint32_t mode,
-                          uint64_t links, uint64_t followed, bool is_profile, void *watched);
-uint32_t dconfdb_heard(uint32_t before, uint32_t watch, uint32_t comes, uint32_t mask, bool has_name, bool is_same, uint32_t mode, uint64_t links);
+void dconfdb_watched_name(bool minds, const uint8_t *folder, size_t folder_len, const uint8_t *name, size_t name_len, bool is_last, bool is_unseen,
+                          uint32_t mode, uint64_t links, uint64_t followed, bool is_profile, void *watched);
+uint32_t dconfdb_heard(uint32_t before, uint32_t watch, uint32_t comes, uint32_t mask, bool has_name, bool is_same, bool is_unseen, uint32_t mode,
+                       uint64_t links);
 
 enum { OF_FILE = 0, OF_FOLDER = 1, NOTHING = 2, ITSELF = 1, PASSAGE = 2, OWN = 3, AWAITED = 4 };
 
@@ -15,7 +16,7 @@ enum { OF_FILE = 0, OF_FOLDER = 1, NOTHING = 2, ITSELF = 1, PASSAGE = 2, OWN = 3
 static bool is_watched_so(uint32_t mode, uint64_t links, bool is_last, uint32_t watch, uint32_t asked)
 {
     _Alignas(16) uint32_t name[WATCHED_NAME / NUMBER];
-    dconfdb_watched_name(true, (const uint8_t *)"/a", 2, (const uint8_t *)"b", 1, is_last, mode, links, 0, false, name);
+    dconfdb_watched_name(true, (const uint8_t *)"/a", 2, (const uint8_t *)"b", 1, is_last, false, mode, links, 0, false, name);
     return name[0] == watch && name[1] == asked;
 }
 
@@ -33,9 +34,9 @@ static void tries_names(void)
 /* What is heard at a name, at which a file or a link stands by then, and of its folder. */
 static bool is_heard(uint32_t watch, uint32_t mask, uint32_t of_file, uint32_t of_link, uint32_t of_folder)
 {
-    return dconfdb_heard(NOTHING, watch, OF_FILE, mask, true, true, S_IFREG, 1) == of_file
-        && dconfdb_heard(NOTHING, watch, OF_FILE, mask, true, true, S_IFLNK, 1) == of_link
-        && dconfdb_heard(NOTHING, watch, OF_FILE, mask, false, false, 0, 0) == of_folder;
+    return dconfdb_heard(NOTHING, watch, OF_FILE, mask, true, true, false, S_IFREG, 1) == of_file
+        && dconfdb_heard(NOTHING, watch, OF_FILE, mask, true, true, false, S_IFLNK, 1) == of_link
+        && dconfdb_heard(NOTHING, watch, OF_FILE, mask, false, false, false, 0, 0) == of_folder;
 }
 
 static void tries_events(void)
@@ -58,9 +59,9 @@ static void tries_events(void)
 static void tries_kinds(void)
 {
     static const uint32_t others[] = {S_IFDIR, S_IFIFO, S_IFSOCK, S_IFCHR, S_IFBLK};
-    is_so(dconfdb_heard(NOTHING, AWAITED, OF_FILE, IN_CREATE, true, true, S_IFREG | 0644, 2) == OF_FILE, "S_IFREG");
+    is_so(dconfdb_heard(NOTHING, AWAITED, OF_FILE, IN_CREATE, true, true, false, S_IFREG | 0644, 2) == OF_FILE, "S_IFREG");
     for (size_t i = 0; i < sizeof others / sizeof *others; i++)
-        is_so(dconfdb_heard(NOTHING, AWAITED, OF_FILE, IN_CREATE, true, true, others[i] | 0755, 1) == OF_FILE, "S_IFMT");
+        is_so(dconfdb_heard(NOTHING, AWAITED, OF_FILE, IN_CREATE, true, true, false, others[i] | 0755, 1) == OF_FILE, "S_IFMT");
 }
 
 void tries_inotify(void)

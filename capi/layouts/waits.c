@@ -14,8 +14,8 @@ void dconfdb_wait_answered(void *wait, uint32_t tried, uint32_t fault, uint64_t 
 void dconfdb_taking_answered(void *taking, const void *stood);
 uint32_t dconfdb_notice_told(void *notice, uint32_t what, uint32_t event, bool listens, uint64_t now);
 uint64_t dconfdb_notice_answered(void *notice, bool yes, uint64_t now);
-void dconfdb_watched_name(bool minds, const uint8_t *folder, size_t folder_len, const uint8_t *name, size_t name_len, bool is_last, uint32_t mode,
-                          uint64_t links, uint64_t followed, bool is_profile, void *watched);
+void dconfdb_watched_name(bool minds, const uint8_t *folder, size_t folder_len, const uint8_t *name, size_t name_len, bool is_last, bool is_unseen,
+                          uint32_t mode, uint64_t links, uint64_t followed, bool is_profile, void *watched);
 uint32_t dconfdb_watch_round(void *rounds, uint32_t what, bool is_known, bool is_had, bool is_needed);
 
 /* The first has an end, the second hasn't. */
@@ -241,10 +241,12 @@ static void finds_notice(void)
 /* A name on the way to a file, at which nothing stands: it is waited for, and nothing is behind it. */
 static void finds_watched_name(void)
 {
-    Written name = room_of("DconfdbWatchedName"), other = name;
-    dconfdb_watched_name(true, (const uint8_t *)"/a", 2, (const uint8_t *)"b", 1, false, 0, 0, 0, false, name.bytes);
-    dconfdb_watched_name(true, (const uint8_t *)"/a", 2, (const uint8_t *)".", 1, false, 0, 0, 0, false, other.bytes);
+    Written name = room_of("DconfdbWatchedName"), other = name, unseen = name;
+    dconfdb_watched_name(true, (const uint8_t *)"/a", 2, (const uint8_t *)"b", 1, false, false, 0, 0, 0, false, name.bytes);
+    dconfdb_watched_name(true, (const uint8_t *)"/a", 2, (const uint8_t *)".", 1, false, false, 0, 0, 0, false, other.bytes);
+    dconfdb_watched_name(true, (const uint8_t *)"/a", 2, (const uint8_t *)"b", 1, false, true, 0, 0, 0, false, unseen.bytes);
     takes(&name, "is_needed", flag_of(&name, &other), FLAG);
+    takes(&name, "is_missed", flag_of(&unseen, &name), FLAG);
     finds_number(&name, "watch", 2);
     finds_number(&name, "asked", 0x3c0);
     finds_number(&name, "way", 0);

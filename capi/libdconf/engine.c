@@ -21,7 +21,7 @@ static void warn_of_faults(Engine *self, const DconfdbError *error)
 {
     g_autoptr(GPtrArray) texts = g_ptr_array_new_with_free_func(g_free);
     g_mutex_lock(&self->lock);
-    warned_renew(&self->warned, self->store, error, keep, texts);
+    warned_renew(&self->warned, self->store, error, self->source != NULL, keep, texts);
     g_mutex_unlock(&self->lock);
     for (guint i = 0; i < texts->len; i++)
         g_warning("%s", (const char *)texts->pdata[i]);

@@ -101,7 +101,7 @@ static GSource *source_new(Engine *engine)
     FileSource *self = (FileSource *)source;
     g_source_set_name(source, "dconf");
     self->engine = engine_ref(engine);
-    self->watch = watch_new(false);
+    self->watch = watch_new(DCONFDB_WATCHER_CLIENT);
     if (!self->watch)
         g_error("no memory is left"); /* as GLib ends a program then */
     return source;

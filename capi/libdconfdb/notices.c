@@ -81,7 +81,7 @@ static void watch_anew(Notices *it, const DconfdbStore *store)
 /* The first dispatch is at once: what happened before the files were watched is not told by inotify. */
 static bool begin(Notices *it, const DconfdbStore *store)
 {
-    it->watch = watch_new(false);
+    it->watch = watch_new(DCONFDB_WATCHER_LIBRARY);
     errno = it->watch ? 0 : ENOMEM;
     if (it->watch)
         it->polled = epoll_create1(EPOLL_CLOEXEC);

@@ -23,15 +23,13 @@ typedef struct {
     int fault;         /* of that; or 0 */
 } Asked;
 
-/* The file that says which kind of store this machine has: a word takes no more. */
+/* The file that says which kind of store this machine has. */
 static const char machine_file[] = "/etc/dconfdb/store";
-
-enum { LARGEST_WORD = 4096 };
 
 static void read_machine_file(Asked *asked)
 {
     FileState state;
-    asked->fault = file_read(NO_FOLDER, machine_file, false, NULL, LARGEST_WORD, &asked->machine, &state);
+    asked->fault = file_read(NO_FOLDER, machine_file, false, NULL, dconfdb_largest(DCONFDB_SIZE_MACHINE), &asked->machine, &state);
     asked->environment.machine = (DconfdbBytes){bytes_of(asked->machine.at), asked->machine.len};
     asked->environment.is_unreadable = asked->fault != 0;
 }

@@ -9,11 +9,6 @@
 #include <stdlib.h>
 #include <string.h>
 
-/* A profile has at most so many bytes. */
-#ifndef LARGEST_PROFILE
-#define LARGEST_PROFILE 16777216
-#endif
-
 /* Who is told a fault: the caller, or the store keeps it. NULL: nobody. */
 static DconfdbError *told_of(DconfdbStore *store, uint32_t telling, DconfdbError *error)
 {
@@ -154,7 +149,8 @@ static bool look_at_next(DconfdbStore *store, Look *look, DconfdbError *error)
     look_release(look);
     if (!find_path(look))
         return refuse_memory(error);
-    int fault = look->path ? file_read(NO_FOLDER, look->path, false, NULL, LARGEST_PROFILE, &look->text, &state) : 0;
+    uint64_t most = dconfdb_largest(DCONFDB_SIZE_PROFILE);
+    int fault = look->path ? file_read(NO_FOLDER, look->path, false, NULL, most, &look->text, &state) : 0;
     const DconfdbProfileLook known = {.which = look->next.step,
                                       .dir = look->next.dir,
                                       .errnum = (uint32_t)fault,

@@ -4,9 +4,10 @@
 
 #include "files.h"
 
-/* One that can't be looked at isn't there. */
+/* Of one that can't be looked at nothing is known. */
 typedef struct {
     uint64_t asked;
+    bool is_unseen; /* there is such a one */
     FileState first, other; /* the first one, and the first of the others that is there */
 } Profiles;
 

@@ -9,11 +9,6 @@
 
 #include <time.h>
 
-/* A file has at most so many bytes. */
-#ifndef LARGEST_FILE
-#define LARGEST_FILE 4294967295U
-#endif
-
 /* A look at the files of a store: the snapshot that comes of it, and what was read of the file that it is at. */
 typedef struct {
     const DconfdbStore *store;
@@ -33,13 +28,13 @@ static Asked asked_of(const Look *look, size_t at)
     return (Asked){store->files[at], at, !is_users, store->options.is_lenient, is_users ? look->turn : NO_FOLDER};
 }
 
-/* A mapped file may change owners, permissions and names: as it is now it is known until they change again. */
+/* A mapped file may change owners, permissions and names. */
 static bool __attribute__((noinline)) may_still_be_read(Part *old, const FileState *state)
 {
-    bool may = file_may_be_read(old->name);
-    if (may)
-        old->state.touched = state->touched;
-    return may;
+    FileState known = old->state;
+    bool is_same = dconfdb_known_after(&old->state, state, file_may_be_read(old->name), &known);
+    old->state = known;
+    return is_same;
 }
 
 static bool are_same(const FileState *one, const FileState *other)
@@ -75,7 +70,7 @@ static int read_at(Look *look, const Asked *asked)
     int cancels = is_held ? 0 : hold_cancellation();
     look->opened = file_clock();
     int fault = file_read(asked->turn, is_in_turn ? look->store->own_name : asked->name, asked->maps, dconfdb_is_database_head,
-                          LARGEST_FILE, &look->bytes, &look->state);
+                          dconfdb_largest(DCONFDB_SIZE_DATABASE), &look->bytes, &look->state);
     if (!is_held)
         cancel_as_before(cancels);
     return fault;

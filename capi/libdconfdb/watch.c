@@ -12,12 +12,12 @@
 
 enum { SECOND = 1000000, NANOSECONDS = 1000 };
 
-Watch *watch_new(bool minds_etc)
+Watch *watch_new(uint32_t who)
 {
     Watch *watch = calloc(1, sizeof *watch);
     if (!watch)
         return NULL;
-    *watch = (Watch){.inotify = -1, .minds_etc = minds_etc};
+    *watch = (Watch){.inotify = -1, .minds_etc = dconfdb_minds_much(who)};
     (void)dconfdb_notice_told(&watch->notice, DCONFDB_NOTICE_BEGINS, DCONFDB_NOTICE_NOTHING, false, 0);
     return watch;
 }
@@ -44,14 +44,14 @@ bool watch_is_whole(const Watch *watch)
 static uint32_t hear_one(const Watched *one, const struct inotify_event *event, uint32_t before)
 {
     bool has_name = event->len > 0, is_same = has_name && one->path && strcmp(strrchr(one->path, '/') + 1, event->name) == 0;
-    Stands stands = is_same ? stands_at(one->path) : (Stands){0, 0};
-    return dconfdb_heard(before, one->name.watch, one->name.comes, event->mask, has_name, is_same, stands.mode, stands.links);
+    Stands stands = is_same ? stands_at(one->path) : (Stands){.is_unseen = false};
+    return dconfdb_heard(before, one->name.watch, one->name.comes, event->mask, has_name, is_same, stands.is_unseen, stands.mode, stands.links);
 }
 
 /* What is heard of an event, after that: of one that isn't of a folder, by none that is watched. */
 static uint32_t hear_event(const Watch *watch, const struct inotify_event *event, uint32_t before)
 {
-    uint32_t heard = dconfdb_heard(before, DCONFDB_WATCH_NOTHING, DCONFDB_NOTICE_NOTHING, event->mask, true, false, 0, 0);
+    uint32_t heard = dconfdb_heard(before, DCONFDB_WATCH_NOTHING, DCONFDB_NOTICE_NOTHING, event->mask, true, false, false, 0, 0);
     for (size_t i = 0; i < watch->count; i++)
         if (watch->all[i].number == event->wd)
             heard = hear_one(&watch->all[i], event, heard);

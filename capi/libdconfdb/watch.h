@@ -14,8 +14,8 @@ typedef enum { WATCH_FILES, WATCH_LOOK, WATCH_REST } WatchStep;
 /* What is watched, and when the files are looked at, by one thread at a time. */
 typedef struct Watch Watch;
 
-/* Watches nothing yet. Much happens in /etc: only if that is minded is a folder waited for in it. NULL: no memory is left. */
-Watch *watch_new(bool minds_etc);
+/* Watches nothing yet, for one of DCONFDB_WATCHER_*. NULL: no memory is left. */
+Watch *watch_new(uint32_t who);
 void watch_free(Watch *watch);
 
 /* The next step: the caller carries it out, and answers. WATCH_FILES is to be answered by what watch_files or watch_begin give,

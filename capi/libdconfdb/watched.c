@@ -2,7 +2,9 @@
 #define _GNU_SOURCE
 #include "watched.h"
 #include "lists.h"
+#include "stood.h"
 
+#include <errno.h>
 #include <limits.h>
 #include <stdio.h>
 #include <stdlib.h>
@@ -67,10 +69,16 @@ static void watch_one(Watch *watch, DconfdbWatchRounds *rounds, const char *fold
     dconfdb_watch_round(rounds, DCONFDB_WATCHING_NAME, is_known, is_had, name->is_needed);
 }
 
+/* Where nothing is, or nothing can be seen. */
+static Stands not_seen(int fault)
+{
+    return (Stands){.is_unseen = file_fault(DCONFDB_TO_LOOK, fault) != 0};
+}
+
 Stands stands_at(const char *path)
 {
     struct stat found;
-    return lstat(path, &found) == 0 ? (Stands){found.st_mode, found.st_nlink} : (Stands){0, 0};
+    return lstat(path, &found) == 0 ? (Stands){found.st_mode, found.st_nlink, false} : not_seen(errno);
 }
 
 /* A path on the way to a file. */
@@ -82,15 +90,19 @@ typedef struct {
     bool is_too_long; /* it goes on, but there is no room for the rest */
 } Way;
 
-/* Goes on where a link leads, and then to what is behind it. False: it leads nowhere, as the system has it, too; or there is no room. */
-static bool follow(Way *way, const char *link, const char *behind)
+/* A name of a path. */
+typedef struct {
+    const char *at, *behind; /* the name, and what comes after it */
+    size_t len;
+    char path[PATH_MAX];   /* up to the name */
+    char target[PATH_MAX]; /* where it leads, if it is a link that is followed */
+} Name;
+
+/* Goes on where a link leads, and then to what is behind it. False: there is no room. */
+static bool follow(Way *way, const char *target, const char *behind)
 {
-    char target[PATH_MAX], rest[sizeof way->rest];
-    ssize_t len = readlink(link, target, sizeof target - 1);
-    if (len <= 0)
-        return false;
+    char rest[sizeof way->rest];
     way->links++;
-    target[len] = 0;
     int size = snprintf(rest, sizeof rest, "%s/%s", target, behind);
     way->is_too_long = size < 0 || (size_t)size >= sizeof rest;
     if (way->is_too_long)
@@ -119,48 +131,72 @@ static bool go_up(Way *way, const char *behind)
 }
 
 /* Goes on as it is said. False: the path ends. */
-static bool go_on(Way *way, uint32_t where, const char *path, const char *behind)
+static bool go_on(Way *way, uint32_t where, const Name *name)
 {
     switch (where) {
-    case DCONFDB_WAY_FOLLOWS: return follow(way, path, behind);
-    case DCONFDB_WAY_ENTERS: return enter(way, path, behind);
-    case DCONFDB_WAY_STAYS: return enter(way, way->folder, behind);
-    case DCONFDB_WAY_RISES: return go_up(way, behind);
+    case DCONFDB_WAY_FOLLOWS: return follow(way, name->target, name->behind);
+    case DCONFDB_WAY_ENTERS: return enter(way, name->path, name->behind);
+    case DCONFDB_WAY_STAYS: return enter(way, way->folder, name->behind);
+    case DCONFDB_WAY_RISES: return go_up(way, name->behind);
     default: return false;
     }
 }
 
-/* One name of a path, and those behind it. True: the path goes on. */
-static bool watch_name(Watch *watch, DconfdbWatchRounds *rounds, Way *way, const char *name, size_t len, const char *behind)
+static DconfdbWatchedName watched_so(const Watch *watch, const Way *way, const Name *name, Stands stands)
 {
     DconfdbWatchedName watched = {.is_needed = false};
-    char path[PATH_MAX];
-    int size = snprintf(path, sizeof path, "%s/%.*s", way->folder, (int)len, name);
-    way->is_too_long = size < 0 || (size_t)size >= sizeof path;
+    dconfdb_watched_name(watch->minds_etc, (const uint8_t *)way->folder, strlen(way->folder), (const uint8_t *)name->at, name->len, *name->behind == 0,
+                         stands.is_unseen, stands.mode, stands.links, way->links, way->is_profile, &watched);
+    return watched;
+}
+
+/* Gives 0, or errno. */
+static int read_link(Name *name)
+{
+    ssize_t len = readlink(name->path, name->target, sizeof name->target - 1);
+    if (len <= 0)
+        return len < 0 ? errno : ENOENT;
+    name->target[len] = 0;
+    return 0;
+}
+
+/* What is watched of a name, and where it leads. */
+static DconfdbWatchedName look_at(const Watch *watch, const Way *way, Name *name)
+{
+    DconfdbWatchedName watched = watched_so(watch, way, name, stands_at(name->path));
+    int fault = watched.way == DCONFDB_WAY_FOLLOWS ? read_link(name) : 0;
+    return fault == 0 ? watched : watched_so(watch, way, name, not_seen(fault));
+}
+
+/* One name of a path, and those behind it. True: the path goes on. */
+static bool watch_name(Watch *watch, DconfdbWatchRounds *rounds, Way *way, Name *name)
+{
+    int size = snprintf(name->path, sizeof name->path, "%s/%.*s", way->folder, (int)name->len, name->at);
+    way->is_too_long = size < 0 || (size_t)size >= sizeof name->path;
     if (way->is_too_long)
         return false;
-    Stands stands = stands_at(path);
-    dconfdb_watched_name(watch->minds_etc, (const uint8_t *)way->folder, strlen(way->folder), (const uint8_t *)name, len, *behind == 0, stands.mode,
-                         stands.links, way->links, way->is_profile, &watched);
+    DconfdbWatchedName watched = look_at(watch, way, name);
     if (watched.watch == DCONFDB_WATCH_ITSELF)
-        watch_one(watch, rounds, path, NULL, &watched);
+        watch_one(watch, rounds, name->path, NULL, &watched);
     else if (watched.watch != DCONFDB_WATCH_NOTHING)
-        watch_one(watch, rounds, *way->folder ? way->folder : "/", path, &watched);
-    return go_on(way, watched.way, path, behind);
+        watch_one(watch, rounds, *way->folder ? way->folder : "/", name->path, &watched);
+    dconfdb_watch_round(rounds, DCONFDB_WATCHING_NAME, false, false, watched.is_missed);
+    return go_on(way, watched.way, name);
 }
 
 /* The folders on the way to a file, each link of it, and the file's own name. A path for which there is no room is missed. */
 static void watch_path(Watch *watch, DconfdbWatchRounds *rounds, const char *path, bool is_profile)
 {
     Way way = {.folder = "", .is_profile = is_profile};
+    Name name;
     int size = snprintf(way.rest, sizeof way.rest, "%s", path);
     way.is_too_long = size < 0 || (size_t)size >= sizeof way.rest;
     bool goes_on = !way.is_too_long;
     while (goes_on) {
-        const char *name = way.rest + strspn(way.rest, "/");
-        size_t len = strcspn(name, "/");
-        const char *behind = name + len + strspn(name + len, "/");
-        goes_on = len > 0 && watch_name(watch, rounds, &way, name, len, behind);
+        name.at = way.rest + strspn(way.rest, "/");
+        name.len = strcspn(name.at, "/");
+        name.behind = name.at + name.len + strspn(name.at + name.len, "/");
+        goes_on = name.len > 0 && watch_name(watch, rounds, &way, &name);
     }
     if (way.is_too_long)
         dconfdb_watch_round(rounds, DCONFDB_WATCHING_NAME, false, false, true);

@@ -26,10 +26,11 @@ struct Watch {
 /* Watches nothing any longer. */
 void forget_watched(Watch *watch);
 
-/* What stands at a path, as stat says it; both are 0 where nothing does. */
+/* What stands at a path, as stat says it; both are 0 where nothing does, or where it can't be seen. */
 typedef struct {
     uint32_t mode;
     uint64_t links;
+    bool is_unseen;
 } Stands;
 
 Stands stands_at(const char *path);

@@ -7,9 +7,8 @@
 #include <stdlib.h>
 #include <unistd.h>
 
-/* In microseconds: how long its end waits for a write, and as long again after each turn of another program; and in milliseconds, how often
- * it asks. */
-enum { LONGEST_END = 5000000, TICK = 20 };
+/* In milliseconds: how often its end asks whether it is over. */
+enum { TICK = 20 };
 
 static void say(const char *text)
 {
@@ -52,7 +51,7 @@ static void begin_end(Service *service)
     service->is_ending = true;
     g_clear_handle_id(&service->owner, g_bus_unown_name);
     Ending *ending = g_new(Ending, 1);
-    *ending = (Ending){.service = service, .time = {.each = LONGEST_END}};
+    *ending = (Ending){.service = service, .time = {.each = dconfdb_patience_for(DCONFDB_PATIENCE_END)}};
     g_timeout_add_full(G_PRIORITY_LOW, TICK, end_when_settled, ending, g_free);
 }
 

@@ -72,7 +72,7 @@ static Writer *writer_new(Service *service, const char *name, DconfdbStore *stor
     writer->object = g_strconcat("/ca/desrt/dconf/Writer/", name, NULL);
     writer->store = store;
     writer->told = dconfdb_store_snapshot(store);
-    writer->watch = watch_new(true);
+    writer->watch = watch_new(DCONFDB_WATCHER_SERVICE);
     g_mutex_init(&writer->turn);
     return writer;
 }

@@ -77,7 +77,7 @@ static bool look(Writer *writer)
     while ((task = dconfdb_glance_after(task, &it.known)) < DCONFDB_GLANCE_SEEN)
         carry_out(writer, task, &it);
     dconfdb_snapshot_unref(it.before);
-    warned_renew(&writer->warned, writer->store, it.known.is_done ? NULL : &it.error, warn, NULL);
+    warned_renew(&writer->warned, writer->store, it.known.is_done ? NULL : &it.error, true, warn, NULL);
     return task == DCONFDB_GLANCE_SEEN;
 }
 

@@ -150,7 +150,7 @@ static bool look(Watching *watch)
     while ((task = dconfdb_glance_after(task, &it.known)) < DCONFDB_GLANCE_SEEN)
         carry_out(watch, task, &it);
     bool is_done = task == DCONFDB_GLANCE_SEEN && it.is_told;
-    warned_renew(&watch->warned, watch->store, is_done ? NULL : &it.error, say, NULL);
+    warned_renew(&watch->warned, watch->store, is_done ? NULL : &it.error, true, say, NULL);
     return is_done;
 }
 
@@ -197,7 +197,7 @@ static bool prepare(Watching *watch, DconfdbError *error)
 {
     bool are_all = false;
     watch->names_read = place_files(&watch->place, &watch->profiles, &are_all, error);
-    watch->names = watch_new(true);
+    watch->names = watch_new(DCONFDB_WATCHER_COMMAND);
     if (!watch->names_read || !watch->names)
         return false;
     begin(watch);
@@ -219,7 +219,7 @@ static int start(Watching *watch)
     }
     watch->before = dconfdb_store_snapshot(watch->store);
     watch_opened_anew(watch->names);
-    warned_renew(&watch->warned, watch->store, NULL, say, NULL);
+    warned_renew(&watch->warned, watch->store, NULL, true, say, NULL);
     return watch_until_interrupted(watch);
 }
 

@@ -61,9 +61,9 @@ bool refuse_memory(DconfdbError *error)
 
 /* ---- the watch */
 
-Watch *watch_new(bool minds_etc)
+Watch *watch_new(uint32_t who)
 {
-    (void)minds_etc;
+    CHECK(who == DCONFDB_WATCHER_LIBRARY, "step: the library's caller watches");
     CHECK(!has_watch, "memory: one watch");
     has_watch = any_bool();
     return has_watch ? (Watch *)a_watch : NULL;

@@ -16,13 +16,19 @@ int file_look(const char *name, FileState *state)
     return any_fault();
 }
 
-int file_read(int folder, const char *name, bool maps, FileWanted *is_wanted, size_t most, FileBytes *bytes, FileState *state)
+uint64_t dconfdb_largest(uint32_t kind)
+{
+    CHECK(kind == DCONFDB_SIZE_DATABASE, "step: the size of a database");
+    return UINT32_MAX;
+}
+
+int file_read(int folder, const char *name, bool maps, FileWanted *is_wanted, uint64_t most, FileBytes *bytes, FileState *state)
 {
     bool is_users = store.user_file && (folder == TURN ? name == store.user_file + 3 : name == store.user_file);
     CHECK(!has_bytes_read, "memory: what was read before is a part's, or released");
     CHECK(is_users || name == store.files[0] || name == store.files[1], "step: a file of the store; in a turn the user's alone in its folder");
     CHECK(is_cancel_held(), "step: no cancellation comes while a file is open");
-    CHECK(maps == !is_users && is_wanted == dconfdb_is_database_head && most == LARGEST_FILE, "step: the user's file alone isn't mapped");
+    CHECK(maps == !is_users && is_wanted == dconfdb_is_database_head && most == UINT32_MAX, "step: the user's file alone isn't mapped");
     int fault = any_fault();
     state->is_there = any_bool();
     *bytes = (FileBytes){NULL, 0, false};
@@ -44,6 +50,13 @@ uint32_t dconfdb_beside(uint32_t purpose, const DconfdbFileStamp *old, const Dco
     if (any_bool())
         return DCONFDB_BESIDE_SAME;
     return purpose == DCONFDB_PART_KEEP && any_bool() ? DCONFDB_BESIDE_IF_READABLE : DCONFDB_BESIDE_OTHER;
+}
+
+bool dconfdb_known_after(const DconfdbFileStamp *old, const DconfdbFileStamp *now, bool may_be_read, DconfdbFileStamp *known)
+{
+    CHECK(old == &old_parts[0].state || old == &old_parts[1].state, "step: an old part's file");
+    *known = may_be_read ? *now : *old;
+    return may_be_read;
 }
 
 uint64_t file_clock(void)

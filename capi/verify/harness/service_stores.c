@@ -100,9 +100,9 @@ void g_error_free(GError *error) { free(error); }
 
 /* ---- who watches, and who is kept by the name */
 
-Watch *watch_new(bool minds_etc)
+Watch *watch_new(uint32_t who)
 {
-    (void)minds_etc;
+    CHECK(who == DCONFDB_WATCHER_SERVICE, "step: the service watches");
     return malloc(1);
 }
 

@@ -89,9 +89,9 @@ void heed_others(DconfdbStore *store, const DconfdbSnapshot *before, const Dconf
     REACHED("what waits is to be overtaken");
 }
 
-void warned_renew(Warned *warned, const DconfdbStore *store, const DconfdbError *error, Warns *warns, void *it)
+void warned_renew(Warned *warned, const DconfdbStore *store, const DconfdbError *error, bool is_repeated, Warns *warns, void *it)
 {
-    (void)error, (void)it;
+    (void)error, (void)is_repeated, (void)it;
     CHECK(warned == &writer.warned && store == writer.store && warns == warn, "step: what is wrong is said");
 }
 

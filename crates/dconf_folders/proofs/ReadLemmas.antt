@@ -3,6 +3,7 @@ use Rattle.std.proofs.Common.{ℕ, ◌≡◌, ◌<◌, true, false, Option, Some
 use Rattle.dconf_model.specs.Bytes.{longest_file}
 use Rattle.dconf_model.specs.Reads.{IsOverSize}
 use Rattle.dconf_model.specs.Folders.{Event, file_of, content, content_of, read_content}
+use Rattle.dconf_folders.specs.Asides.{is_none_or}
 use Rattle.dconf_folders.specs.MemoryFolders.{events_of, AddsTouches}
 use Rattle.dconf_folders.specs.declared.calls.Call.{Call}
 use Rattle.dconf_folders.proofs.Untouched.{same_file, seen_noted}
@@ -29,5 +30,9 @@ module _ (old calls : List Call) (same : calls ≡ old) (es : List Event) (past 
   pub is_there : is_some file ≡ true → read_content es name ≡ None → ⊥
   is_there t n = there_of file seen_now t n
 
-  pub is_free : file ≡ None → file_of es name ≡ None
-  is_free n = same_file (events_of calls) es (subst (λ cs. AddsTouches (events_of cs) es) (sym same) past) name ∙ sym is ∙ n
+-- of two names what the calls say holds of all that may have been done
+pub is_free_for : (old calls again : List Call) → calls ≡ old → again ≡ old → (es : List Event) → AddsTouches (events_of old) es → (name aside : List ℕ) (file other : Option ℕ)
+    → file ≡ file_of (events_of calls) name → other ≡ file_of (events_of again) aside → is_none_or file other ≡ true → is_none_or (file_of es name) (file_of es aside) ≡ true
+is_free_for old calls again same too es past name aside file other one two free =
+    ap (λ o. is_none_or o (file_of es aside)) (same_file (events_of old) es past name ∙ sym (one ∙ ap (λ cs. file_of (events_of cs) name) same))
+    ∙ ap (λ o. is_none_or file o) (same_file (events_of old) es past aside ∙ sym (two ∙ ap (λ cs. file_of (events_of cs) aside) too)) ∙ free

@@ -2,6 +2,7 @@
 ghost use Rattle.std.specs.Prelude.{◌≡◌, ◌≤◌, ◌∷◌, IfOk, IfSome, OnOk, OnErr, length};
 ghost use Rattle.dconf_model.specs.Folders.{files_made, file_of, content, is_file, is_synced};
 ghost use Rattle.dconf_model.specs.Folders.Event.{append, link, rename};
+ghost use Rattle.dconf_folders.specs.Asides.{is_none_or};
 ghost use Rattle.dconf_folders.specs.MemoryFolders.{event_of, events_of};
 ghost use Rattle.dconf_folders.specs.Crashes.{was_named};
 
@@ -116,6 +117,17 @@ fn is_file(found: Option<usize>, file: usize) -> bool
     match found {
         Some(other) => other == file,
         None => false,
+    }
+}
+
+/// Whether the second file is none, or the first one.
+pub(crate) fn is_none_or(file: Option<usize>, other: Option<usize>) -> bool
+    ensures { result ≡ is_none_or file other }
+{
+    match (file, other) {
+        (_, None) => true,
+        (None, Some(_)) => false,
+        (Some(file), Some(other)) => file == other,
     }
 }
 

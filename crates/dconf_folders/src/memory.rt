@@ -1,12 +1,13 @@
 //! A folder in memory, whose device fails when it is told to.
-ghost use Rattle.std.specs.Prelude.{◌≡◌, ◌⊎◌, ◌≤◌, ◌-◌, ◌↔◌, [], ◌∷◌, true, false, string_bytes, List, None, IfOk, IfSome, IsSome, OnOk, OnErr, IsErrOf, option_map, length};
-ghost use Rattle.dconf_model.specs.Folders.{Event, file_of, read_content};
+ghost use Rattle.std.specs.Prelude.{◌≡◌, ◌⊎◌, ◌≤◌, ◌-◌, ◌↔◌, [], ◌∷◌, true, false, string_bytes, List, None, IfOk, IfSome, IsSome, IsTrue, OnOk, OnErr, IsErrOf, option_map, length};
+ghost use Rattle.dconf_model.specs.Folders.{Event, read_content};
 ghost use Rattle.dconf_model.specs.Folders.Event.{rename, touch};
 ghost use Rattle.dconf_model.specs.Reads.{IsOverSize};
+ghost use Rattle.dconf_folders.specs.Asides.{is_free_for};
 ghost use Rattle.dconf_folders.specs.Failures.{HasCause, failed_by};
 ghost use Rattle.dconf_folders.specs.MemoryFolders.{event_of, events_of, IsPast, failures_of, failing_call};
 
-use crate::calls::{Call, append_call, content, file_of, link_call, push, rename_call};
+use crate::calls::{Call, append_call, content, file_of, is_none_or, link_call, push, rename_call};
 use crate::{Folder, FolderFault, LARGEST_FILE, Old, aside_name};
 use std::alloc::Global;
 
@@ -126,22 +127,19 @@ impl MemoryFolder {
         file_of(&self.calls, name).is_some()
     }
 
-    fn is_free(&self, name: &str) -> bool
-        ensures { result ≡ true → (es : List Event) → IsPast self.now es → file_of es name.now ≡ None }
+    fn is_free_for(&self, name: &str, aside: &str) -> bool
+        ensures { result ≡ true → (es : List Event) → IsPast self.now es → IsTrue (is_free_for name.now aside.now es) }
     {
-        match file_of(&self.calls, name) {
-            Some(_) => false,
-            None => true,
-        }
+        is_none_or(file_of(&self.calls, name), file_of(&self.calls, aside))
     }
 
-    /// Another name for what is set aside, that no file has, if there is memory for it.
+    /// Another name for what is set aside, that no other file has, if there is memory for it.
     fn free_name(&self, name: &str) -> Option<String>
-        ensures { IfSome result (λ aside. (es : List Event) → IsPast self.now es → file_of es (string_bytes aside) ≡ None) }
+        ensures { IfSome result (λ aside. (es : List Event) → IsPast self.now es → IsTrue (is_free_for name.now (string_bytes aside) es)) }
     {
         for n in 1..MOST_ASIDE {
             let aside = aside_name(self.alloc, name, n).ok()?;
-            if self.is_free(aside.as_str()) {
+            if self.is_free_for(name, aside.as_str()) {
                 return Some(aside);
             }
         }

@@ -65,6 +65,13 @@ beside_number Same = 0
 beside_number Other = 1
 beside_number IfReadable = 2
 
+-- what changed of a file that is held, and may be read, isn't asked of again until more does; all else is as it was read
+abbrev pub known_as : FileStamp → FileStamp → FileStamp
+known_as old now = record old { touched = now.touched }
+
+abbrev pub known_after : FileStamp → FileStamp → Bool → FileStamp
+known_after old now may = if may then known_as old now else old
+
 abbrev pub purpose_of : ℕ → Purpose
 purpose_of n = if n == 0 then Keep else if n == 1 then Take else if n == 2 then Tell else Try
 
@@ -87,5 +94,8 @@ pub record WhatIsKeptIsTheSame : Type 0 where
   pub bytes : (old now : FileStamp) (s : DconfdbPartSeen) → beside Take old now s ≡ Same → (s.read_code == 0) ≡ true → s.has_bytes ≡ true
   -- what couldn't be is kept where it couldn't be before, for the same reason
   pub fault : (old now : FileStamp) (s : DconfdbPartSeen) → beside Take old now s ≡ Same → (s.read_code == 0) ≡ false → has_same_fault s ≡ true
+  -- a file that is known otherwise is the one that was read exactly if it was so before; and it is asked of no more
+  pub known : (old now : FileStamp) (s : DconfdbPartSeen) → s.is_held ≡ true → said_of (known_as old now) now s ≡ said_of old now s
+  pub settled : (old now : FileStamp) → is_same_time (known_as old now).touched now.touched ≡ true
   -- and no file is kept that is said to be another one
   pub one : (old now : FileStamp) (s : DconfdbPartSeen) → beside Take old now s ≡ Same → is_other (said_of old now s) ≡ false

@@ -1,5 +1,5 @@
 //! What was made of a file once, beside what the file is now: whether it is kept, whether it is the newest, and whether a file is the one that a
-//! change would have made. By [`beside`].
+//! change would have made. By [`beside`]. And how large a file may be, by [`largest`].
 //!
 //! Nothing is kept here, and nothing is asked of the host.
 #![tactic(auto)]
@@ -7,8 +7,10 @@
 ghost use Rattle.dconf_parts.specs.Parts.{WhatIsKeptIsTheSame};
 
 mod parts;
+mod sizes;
 
-pub use parts::{DconfdbPartSeen, Likeness, Purpose, beside, beside_number};
+pub use parts::{DconfdbPartSeen, Likeness, Purpose, beside, beside_number, known_after};
+pub use sizes::{Kind, largest, largest_number};
 
 /// What is kept is of the same file, as far as the host tells; and what was read and is kept is the same bytes, or fails by the same fault.
 pub fn what_is_kept_is_the_same()

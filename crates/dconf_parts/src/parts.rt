@@ -1,7 +1,7 @@
 //! What was made of a file, beside what the file is now.
 ghost use Rattle.std.specs.Prelude.{◌≡◌};
 ghost use Rattle.dconf_files.specs.Stamps.{is_same_time};
-ghost use Rattle.dconf_parts.specs.Parts.{as_tried, beside, beside_number, by_stat, has_same_fault, is_as_read, is_one_file, newest, purpose_of, read, same_if};
+ghost use Rattle.dconf_parts.specs.Parts.{as_tried, beside, beside_number, by_stat, has_same_fault, is_as_read, is_one_file, known_after, known_as, newest, purpose_of, read, same_if};
 
 use dconf_files::{FileStamp, FileTime, Sameness, same_file};
 
@@ -77,6 +77,27 @@ pub fn beside_number(purpose: u32, old: &FileStamp, now: &FileStamp, seen: &Dcon
         Likeness::Same => 0,
         Likeness::Other => 1,
         Likeness::IfReadable => 2,
+    }
+}
+
+/// By what a file that is the same if it may be read is known from then on: it may, or not.
+pub fn known_after(old: &FileStamp, now: &FileStamp, may_be_read: bool) -> FileStamp
+    ensures { result ≡ known_after old.now now.now may_be_read }
+{
+    if may_be_read {
+        known_as(old, now)
+    } else {
+        *old
+    }
+}
+
+/// What changed of it isn't asked of again until more does.
+fn known_as(old: &FileStamp, now: &FileStamp) -> FileStamp
+    ensures { result ≡ known_as old.now now.now }
+{
+    FileStamp {
+        touched: now.touched,
+        ..*old
     }
 }
 

@@ -3,7 +3,7 @@ use Rattle.std.proofs.Common.{◌≡◌, ◌⊎◌, inl, inr, Bool, true, false,
 use Rattle.std.specs.Prelude.{◌&&◌, ◌||◌, if◌then◌else◌, nat_lt, ◌==◌}
 use Rattle.dconf_rounds.specs.declared.glances.Glance.{Glance}
 use Rattle.dconf_rounds.specs.declared.glances.Glance.TheVariants.{Refresh, Open, OpenAgain, Hand, Heed, Watch, Settle, Again, Seen, Failed}
-use Rattle.dconf_rounds.specs.Glances.{refreshes, opens, hands, heeds, settles, watches_anew, glance_after, is_told, NothingNewIsMissed}
+use Rattle.dconf_rounds.specs.Glances.{are_as_read, refreshes, opens, hands, heeds, settles, watches_anew, glance_after, is_told, NothingNewIsMissed}
 
 abbrev begin_by : Bool → Bool → Glance
 begin_by kept opens = if kept then Refresh else if opens then Open else OpenAgain
@@ -133,7 +133,7 @@ nothing_new_is_missed done k =
       seen = λ f s. seen_by b (refreshes k) o h e w t k.is_done (sym (is_mine f) ∙ s);
       failed = λ f s. failed_by b (refreshes k) o h e w t k.is_done (sym (is_mine f) ∙ s);
       kept = λ f s. kept_by b (refreshes k) o h e w t k.is_done (sym (is_mine f) ∙ s);
-      once = λ f p q. free k.is_barred (barred k.is_amid false k.is_shown k.is_late) (begin_by (refreshes k) o) f ∙ kept_once k.is_open k.keeps_profile ((k.first == 0) && (k.second == 0)) o p q;
+      once = λ f p q. free k.is_barred (barred k.is_amid false k.is_shown k.is_late) (begin_by (refreshes k) o) f ∙ kept_once k.is_open k.keeps_profile (are_as_read k) o p q;
       settled = λ f s. is_read (nat_lt done 7) k.is_done k.is_to_settle (settled_by b (refreshes k) o h e w t k.is_done (sym (is_mine f) ∙ s));
       handed = λ y n. seen_in (glance_after done k) other k.is_shown (is_other y) (handed_by k.is_amid c k.is_shown k.is_late (sym (ap is_told (is_other y)) ∙ n));
       shown = λ y n. shown_by k.is_amid c k.is_shown k.is_late (sym (is_other y) ∙ n);

@@ -180,11 +180,11 @@ nothing_due_is_passed_over done k =
       watched = watch_by a (nat_lt done 2) k.has_turned k.ends l t c d end;
       works = three (task_after done k) (has_work k)
           (λ e. works (and_left k.waits (k.is_in_line || (k.is_asked || nat_le k.again k.moment))
-              (and_right (nat_lt done 4) (takes k) (take_is_due a b l t c d end (no_task end Take over refl) e))))
+          (and_right (nat_lt done 4) (takes k) (take_is_due a b l t c d end (no_task end Take over refl) e))))
           (λ e. works (and_left k.waits (k.has_asked && not (is_waiting k))
-              (and_right (nat_lt done 5) (writes k) (write_is_due a b l t c d end (no_task end Write over refl) e))))
+          (and_right (nat_lt done 5) (writes k) (write_is_due a b l t c d end (no_task end Write over refl) e))))
           (λ e. works_on k.waits k.is_in_line (not (k.again == 0))
-              (and_right (nat_lt done 6) (leaves k) (leave_is_due a b l t c d end (no_task end Leave over refl) e)));
+          (and_right (nat_lt done 6) (leaves k) (leave_is_due a b l t c d end (no_task end Leave over refl) e)));
       forward = forward_by done a b l t c d end (and_left (nat_lt done 1) k.has_untold) (and_left (nat_lt done 2) (watches k))
           (and_left (nat_lt done 3) (looks_first k)) (and_left (nat_lt done 4) (takes k)) (and_left (nat_lt done 5) (writes k))
           (and_left (nat_lt done 6) (leaves k)) over;

@@ -6,9 +6,13 @@ use Rattle.dconf_rounds.specs.declared.glances.Glance.TheVariants.{Refresh, Open
 
 -- ---- what is due
 
--- it is open, and both profiles are the ones that were read, for sure, or count as they were read
+-- both profiles are the ones that were read, for sure: what can't be looked at may be another one
+abbrev pub are_as_read : GlanceKnown → Bool
+are_as_read k = ((k.first == 0) && (k.second == 0)) && not (k.was_unseen || k.is_unseen)
+
+-- it is open, and both are, or count as they were read
 abbrev pub refreshes : GlanceKnown → Bool
-refreshes k = k.is_open && (k.keeps_profile || ((k.first == 0) && (k.second == 0)))
+refreshes k = k.is_open && (k.keeps_profile || are_as_read k)
 
 abbrev pub is_another : ℕ → Bool
 is_another sameness = not (sameness == 0) && not (sameness == 2)

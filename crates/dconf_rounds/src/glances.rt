@@ -1,6 +1,6 @@
 //! What whoever looks at the files of a store does next.
 ghost use Rattle.std.specs.Prelude.{◌≡◌};
-ghost use Rattle.dconf_rounds.specs.Glances.{after_barred, begins_with, glance_after, glance_number, hands, heeds, is_another, opens, refreshes, settles, watches_anew};
+ghost use Rattle.dconf_rounds.specs.Glances.{after_barred, are_as_read, begins_with, glance_after, glance_number, hands, heeds, is_another, opens, refreshes, settles, watches_anew};
 
 /// What comes next, in this order; of the first three, one does.
 #[derive(Clone, Copy)]
@@ -55,6 +55,9 @@ pub struct GlanceKnown {
     pub is_late: bool,
     /// Who looks wants to know what of that which waits is there already.
     pub is_to_settle: bool,
+    /// One of those files couldn't be looked at when the profile was read, or can't be now.
+    pub was_unseen: bool,
+    pub is_unseen: bool,
 }
 
 /// What comes next, once the first `done` tasks were done, or were not due.
@@ -144,7 +147,14 @@ fn opens(known: &GlanceKnown) -> bool
 fn refreshes(known: &GlanceKnown) -> bool
     ensures { result ≡ refreshes known.now }
 {
-    known.is_open && (known.keeps_profile || (known.first == 0 && known.second == 0))
+    known.is_open && (known.keeps_profile || are_as_read(known))
+}
+
+/// What can't be looked at may be another one.
+fn are_as_read(known: &GlanceKnown) -> bool
+    ensures { result ≡ are_as_read known.now }
+{
+    (known.first == 0 && known.second == 0) && !(known.was_unseen || known.is_unseen)
 }
 
 fn is_another(sameness: u32) -> bool

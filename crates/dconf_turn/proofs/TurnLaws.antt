@@ -13,13 +13,13 @@ use Rattle.dconf_turn.specs.declared.turn.State.TheVariants.{Locking, Reading, M
 use Rattle.dconf_turn.specs.declared.step.Outcome.TheVariants.{Made, Kept, Either, Unsettled, Same, Unsynced}
 use Rattle.dconf_turn.specs.declared.step.Answer.{Answer}
 use Rattle.dconf_turn.specs.declared.step.Answer.TheVariants.{Yes, No}
-use Rattle.dconf_turn.specs.Jobs.{Job, IsFree, IsOwn, IsLockApart}
-use Rattle.dconf_turn.specs.Hosts.{DidStep, IsLockMade, IsLinked, IsNoted}
+use Rattle.dconf_turn.specs.Jobs.{Job, IsFree, IsFreeFor, IsOwn, IsLockApart}
+use Rattle.dconf_turn.specs.Hosts.{DidStep, IsLockMade, IsLinked, WasLinked, IsNoted}
 use Rattle.dconf_turn.specs.Steps.{step_of, steps_left, nothing_to_make, KnowsAfter, IsSaid, GoesOn, Follows, EndsWell, IsRead}
 use Rattle.dconf_turn.specs.Sayings.{IsKept, IsSame, IsWhole, Says}
 use Rattle.dconf_turn.specs.Progress.{Apart, Holds, Staged, Placed, IsAsideAt, IsEarly, IsCleared, Stands, IsAnswered}
 use Rattle.dconf_turn.proofs.ApartLaws.{created_apart, removed_apart, linked_apart, made, appended, appended_apart, touched_apart, synced, linked, moved}
-use Rattle.dconf_turn.proofs.OwnNames.{differs, aside_is_not_name, aside_is_not_new, new_own, aside_own, name_not_own, was_free}
+use Rattle.dconf_turn.proofs.OwnNames.{differs, aside_is_not_name, aside_is_not_new, new_own, aside_own, name_not_own, was_free, was_free_for}
 use Rattle.dconf_turn.proofs.PlacedLaws.{by_rename, by_exchange, changed, gone, beside_rename, beside_exchange}
 use Rattle.dconf_turn.proofs.SayingLaws.{kept, early_apart, kept_whole, placed_whole, unsettled, settled_made, kept_synced, kept_settled, same_before, same_now, says_removed, says_noted, is_gone, named_noted}
 
@@ -146,13 +146,25 @@ module _ (keeps : Bool) (job : Job) (old es now : List Event) (apart : IsLockApa
       free_of : (aside : List ℕ) → IsFree job es aside → IsFree job old aside
       free_of aside f = was_free keeps job old es apart a aside f
 
+      free_for : (aside : List ℕ) → IsFree job es aside → IsFreeFor job old aside
+      free_for aside f = let g = free_of aside f in (g.0, inl g.1)
+
       is_own : (aside : List ℕ) → IsFree job es aside → own aside
       is_own aside f = aside_own keeps job old aside k (free_of aside f)
 
-      set_aside : IsLinked job es now → Staged old now own new job.bytes × (IsTrue keeps → IsAsideAt job old now)
-      set_aside d = (
+      abbrev IsAsideNow : Type 0
+      IsAsideNow = Staged old now own new job.bytes × (IsTrue keeps → IsAsideAt job old now)
+
+      was_linked : WasLinked job es now → IsAsideNow
+      was_linked d =
+          let same : file_of es d.0 ≡ file_of old job.name = d.2 ∙ a.names job.name not_own in
+          (staged_now d.3, λ x. (d.0, was_free_for keeps job old es apart a d.0 d.1 same, ap (λ l. file_of l d.0) d.3 ∙ same))
+
+      set_aside : IsLinked job es now ⊎ WasLinked job es now → IsAsideNow
+      set_aside (inr d) = was_linked d
+      set_aside (inl d) = (
         subst (λ l. Staged old l own new job.bytes) (sym d.2) (linked old es own new job.bytes s job.name d.0 (is_own d.0 d.1) (λ e. aside_is_not_new job.name d.0 d.1.0 (sym e))),
-        λ x. (d.0, free_of d.0 d.1, ap (λ l. file_of l d.0) d.2 ∙ ap (λ b. cond b (file_of es job.name) (file_of es d.0)) (itself d.0) ∙ a.names job.name not_own),
+        λ x. (d.0, free_for d.0 d.1, ap (λ l. file_of l d.0) d.2 ∙ ap (λ b. cond b (file_of es job.name) (file_of es d.0)) (itself d.0) ∙ a.names job.name not_own),
       )
 
       kept_aside : (now ≡ es) ⊎ IsLinked job es now → IsKept keeps job old now
@@ -181,7 +193,7 @@ module _ (keeps : Bool) (job : Job) (old es now : List Event) (apart : IsLockApa
         exchanged_aside : IsAsideAt job old exchanged
         exchanged_aside = (
           aside,
-          free_of aside f,
+          free_for aside f,
           changed old mid own job.name job.bytes aside mid_staged (is_own aside f) not_own ∙ mid_staged.holds.apart.names job.name not_own,
         )
 
@@ -278,13 +290,13 @@ module _ (t : Turn) where
 
   pub was_set_aside : (n : ℕ) → (e : t.state ≡ SettingAside) → (z : n ≡ 0) → IsAnswered t (Yes n) (at_state t Renaming)
   was_set_aside n e z =
-      became t _ (Yes n) SettingAside e (λ job old es now apart s d. ⊎_elim (λ (h : (n ≡ 0) × IsLinked job es now). set_aside t.keeps job old es now apart s.0 s.1 h.1)
+      became t _ (Yes n) SettingAside e (λ job old es now apart s d. ⊎_elim (λ (h : (n ≡ 0) × (IsLinked job es now ⊎ WasLinked job es now)). set_aside t.keeps job old es now apart s.0 s.1 h.1)
       (λ (h : (0 < n) × (now ≡ es)). (let lt = h.0 in absurd (omega arith))) d)
       (λ z. omega arith) (omega arith) (λ x. refl, λ x. absurd (omega arith)) refl (λ x. x) (refl, refl) refl
 
   pub has_no_aside : (n : ℕ) → (e : t.state ≡ SettingAside) → (z : 0 < n) → IsAnswered t (Yes n) (at_state t Exchanging)
   has_no_aside n e z =
-      became t _ (Yes n) SettingAside e (λ job old es now apart s d. ⊎_elim (λ (h : (n ≡ 0) × IsLinked job es now). (let is = h.0 in absurd (omega arith)))
+      became t _ (Yes n) SettingAside e (λ job old es now apart s d. ⊎_elim (λ (h : (n ≡ 0) × (IsLinked job es now ⊎ WasLinked job es now)). (let is = h.0 in absurd (omega arith)))
       (λ (h : (0 < n) × (now ≡ es)). (staged_now t.keeps job old es now apart s.0 h.1, s.1)) d)
       (λ z. omega arith) (omega arith) (λ x. absurd (omega arith), λ x. refl) refl (λ x. x) (refl, refl) refl
 

@@ -1,22 +1,24 @@
 -- Wrong machines, of each of which it is proved that it has not the promise of an answer: in an empty folder and a file `a` of
 -- one byte, or whatever the folder.
-use Rattle.std.proofs.Common.{ℕ, ◌≡◌, ◌⊎◌, true, false, List, [], ◌∷◌, Some, None, refl, sym, ◌∙◌, ap, arith, ⊎_elim, inl, inr}
+use Rattle.std.proofs.Common.{ℕ, ◌≡◌, ◌<◌, ◌⊎◌, true, false, cond, List, [], ◌∷◌, Some, None, refl, sym, ◌∙◌, ap, arith, ⊎_elim, inl, inr}
 use Rattle.std.specs.Bool.{IsTrue}
 use Rattle.std.proofs.lemmas.Option.{none-some}
 use Rattle.dconf_model.specs.Folders.{Event, file_of, content, is_synced, MayLeave}
-use Rattle.dconf_model.specs.Folders.Event.{create, append, sync, touch, rename}
+use Rattle.dconf_model.specs.Folders.Event.{create, append, sync, touch, rename, link}
 use Rattle.dconf_model.specs.Replacing.{new_name}
+use Rattle.dconf_model.proofs.SameBytes.{other_path}
 use Rattle.dconf_turn.specs.declared.turn.Turn.{Turn}
 use Rattle.dconf_turn.specs.declared.turn.State.{State}
 use Rattle.dconf_turn.specs.declared.turn.State.TheVariants.{Locking, Reading, Making, Writing, Syncing, Renaming, SyncingFolder, Removing, Noting, Unlocking}
 use Rattle.dconf_turn.specs.declared.step.Outcome.TheVariants.{Made, Kept}
 use Rattle.dconf_turn.specs.declared.step.Answer.TheVariants.{Yes, No}
 use Rattle.dconf_turn.specs.declared.step.Step.TheVariants.{Rename, SetAside}
+use Rattle.dconf_turn.specs.Hosts.{DidStep, IsLinked, WasLinked}
 use Rattle.dconf_turn.specs.Jobs.{Job, IsOwn, IsLockApart}
 use Rattle.dconf_turn.specs.Sayings.{IsKept, IsMade}
 use Rattle.dconf_turn.specs.Progress.{Holds, Staged, Placed, IsAnswered}
 use Rattle.dconf_turn.proofs.ApartLaws.{nothing_yet, made, appended, synced}
-use Rattle.dconf_turn.proofs.OwnNames.{new_own, name_not_own}
+use Rattle.dconf_turn.proofs.OwnNames.{aside_is_not_name, new_own, name_not_own}
 use Rattle.dconf_turn.proofs.PlacedLaws.{by_rename}
 
 abbrev a : List ℕ
@@ -138,3 +140,15 @@ no_bits h = none-some 384 (h.knows.file (omega arith)).0
 -- it forgets that the old file is to be set aside
 pub no_aside : IsAnswered (record (turn Syncing) { keeps = true }) (Yes 0) (record (turn Renaming) { keeps = true }) → ⊥
 no_aside h = let bad : Rename ≡ SetAside = h.on.1 refl in cc
+
+-- ---- a wrong host
+
+-- it says that the old file is set aside, which has no other name
+pub nothing_linked : DidStep SetAside (Yes 0) job (create a ∷ []) (create a ∷ []) → ⊥
+nothing_linked d =
+    ⊎_elim (λ (h : (0 ≡ 0) × (IsLinked job (create a ∷ []) (create a ∷ []) ⊎ WasLinked job (create a ∷ []) (create a ∷ []))).
+    ⊎_elim (λ (l : IsLinked job (create a ∷ []) (create a ∷ [])). (let bad : create a ∷ [] ≡ link a l.0 ∷ create a ∷ [] = l.2 in cc))
+    (λ (w : WasLinked job (create a ∷ []) (create a ∷ [])).
+    (let none : file_of (create a ∷ []) w.0 ≡ None = ap (λ b. cond b (Some 0) None) (other_path w.0 a (aside_is_not_name a w.0 w.1)) in
+    let bad : None ≡ Some 0 = sym none ∙ w.2 in cc)) h.1)
+    (λ (h : (0 < 0) × (create a ∷ [] ≡ create a ∷ [])). (let lt = h.0 in absurd (omega arith))) d

@@ -17,6 +17,10 @@ IsAside name other = (end : List ℕ) × (other ≡ name ++ (codes "~" ++ end))
 abbrev pub IsFree : Job → List Event → List ℕ → Type 0
 IsFree job es other = IsAside job.name other × (file_of es other ≡ None)
 
+-- and no other file has it: none has, or the file has it already
+abbrev pub IsFreeFor : Job → List Event → List ℕ → Type 0
+IsFreeFor job es other = IsAside job.name other × ((file_of es other ≡ None) ⊎ (file_of es other ≡ file_of es job.name))
+
 -- The new file's name, the lock's, and where the old file is to be set aside a name that was free.
 abbrev pub IsOwn : Bool → Job → List Event → List ℕ → Type 0
 IsOwn keeps job old other = (other ≡ new_name job.name) ⊎ ((job.lock ≡ Some other) ⊎ (IsTrue keeps × IsFree job old other))

@@ -8,7 +8,7 @@ use Rattle.dconf_turn.specs.declared.turn.State.TheVariants.{Locking, Reading, M
 use Rattle.dconf_turn.specs.declared.step.Step.TheVariants.{Lock}
 use Rattle.dconf_turn.specs.declared.step.Outcome.TheVariants.{Kept}
 use Rattle.dconf_turn.specs.declared.step.Answer.{Answer}
-use Rattle.dconf_turn.specs.Jobs.{Job, IsFree, IsOwn, IsLockApart}
+use Rattle.dconf_turn.specs.Jobs.{Job, IsFreeFor, IsOwn, IsLockApart}
 use Rattle.dconf_turn.specs.Sayings.{Says}
 use Rattle.dconf_turn.specs.Hosts.{DidStep, IsLockMade}
 use Rattle.dconf_turn.specs.Steps.{step_of, steps_left, KnowsAfter, IsSaid, GoesOn, Follows, EndsWell, IsDone, IsRefusal}
@@ -49,9 +49,9 @@ pub record Placed (old now : List Event) (own : List ℕ → Type 0) (name bytes
   pub crash : (c : Option (List ℕ)) → MayHaveLeft now (length old) name c → MayLeave old name c ⊎ (c ≡ Some bytes)
   pub others : (other : List ℕ) (c : Option (List ℕ)) → other ≢ name → ¬ own other → MayHaveLeft now (length old) other c → MayLeave old other c
 
--- a name that was free stands for the old file
+-- a name that no other file had stands for the old file
 abbrev pub IsAsideAt : Job → List Event → List Event → Type 0
-IsAsideAt job old now = (aside : List ℕ) × IsFree job old aside × (file_of now aside ≡ file_of old job.name)
+IsAsideAt job old now = (aside : List ℕ) × IsFreeFor job old aside × (file_of now aside ≡ file_of old job.name)
 
 -- nothing was done, but perhaps the lock's file made
 abbrev pub IsEarly : Job → List Event → List Event → Type 0

@@ -3,7 +3,7 @@ use Rattle.std.specs.Prelude.{ℕ, ◌≡◌, ◌≢◌, ◌⊎◌, Bool, List, 
 use Rattle.dconf_model.specs.Folders.{Event, MayLeave, MayHaveLeft, IsSettled, Grows, read_content}
 use Rattle.dconf_turn.specs.declared.step.Outcome.{Outcome}
 use Rattle.dconf_turn.specs.declared.step.Outcome.TheVariants.{Made, Kept, Either, Unsettled, Same, Unsynced}
-use Rattle.dconf_turn.specs.Jobs.{Job, IsFree, IsOwn}
+use Rattle.dconf_turn.specs.Jobs.{Job, IsFreeFor, IsOwn}
 
 -- Each name but the turn's own is as it was, whatever a crash at any moment does.
 pub record IsKept (keeps : Bool) (job : Job) (old now : List Event) : Type 0 where
@@ -21,10 +21,10 @@ pub record IsWhole (keeps : Bool) (job : Job) (old now : List Event) : Type 0 wh
       MayHaveLeft now (length old) other c → MayLeave old other c
   pub others_read : (other : List ℕ) → other ≢ job.name → ¬ IsOwn keeps job old other → read_content now other ≡ read_content old other
 
--- what the name was is under a name that was free
+-- what the name was is under a name that no other file had
 pub record HasAside (job : Job) (old now : List Event) : Type 0 where
   pub aside : List ℕ
-  pub free : IsFree job old aside
+  pub free : IsFreeFor job old aside
   pub read : read_content now aside ≡ read_content old job.name
 
 -- It holds the new bytes, also after a crash. What was set aside stays.

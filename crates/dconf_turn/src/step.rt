@@ -16,7 +16,7 @@ pub enum Step {
     Append(usize),
     /// Gives NAME.new these permission bits, if any, and has it on the disk, whole.
     Sync(Option<u32>),
-    /// Gives what NAME is another name, NAME~1 or the like, that is free. The answer is 0, or another number if it can't have one.
+    /// Gives what NAME is another name, NAME~1 or the like, that is free, unless it has one already. The answer is 0, or another number if it can't have one.
     SetAside,
     /// Gives NAME.new such a free name, and has it change places with NAME.
     Exchange,

@@ -53,6 +53,10 @@ failing_after f is_there is_momentary tries_again now =
       is_said = is_said_after f is_momentary tries_again now;
     }
 
+-- a look that fails by what mostly is so for a moment may succeed when it is repeated; any other fault of one is said at once
+abbrev pub is_awaited : Bool → Bool → Bool
+is_awaited is_momentary is_repeated = is_momentary && is_repeated
+
 abbrev pub word_number : Word → ℕ
 word_number Nothing = 0
 word_number Say = 1

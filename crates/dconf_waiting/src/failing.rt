@@ -1,6 +1,6 @@
 //! What is said of a fault while it lasts, and when what failed by it is tried again. All moments are of one clock, in microseconds.
 ghost use Rattle.std.specs.Prelude.{◌≡◌};
-ghost use Rattle.dconf_waiting.specs.Faults.{due_after, failed_after, failing_after, is_said_after, lasts, longest, no_fault, since_of, word_number, word_of};
+ghost use Rattle.dconf_waiting.specs.Faults.{due_after, failed_after, failing_after, is_awaited, is_said_after, lasts, longest, no_fault, since_of, word_number, word_of};
 
 use crate::due::pause_after;
 
@@ -57,6 +57,26 @@ impl Failing {
             Word::Said => 2,
             Word::Over => 3,
         }
+    }
+
+    /// The same of a look at the files. As long as they can't be read, what is shown may not be what they hold: so that is said at once, unless it
+    /// is mostly so for a moment, and the look is repeated.
+    pub fn met_looking(
+        &mut self,
+        is_there: bool,
+        is_momentary: bool,
+        is_repeated: bool,
+        now: u64,
+    ) -> u32
+        ensures said { result ≡ word_number (word_of self.old is_there is_momentary (is_awaited is_momentary is_repeated) now) }
+        ensures after { self.new ≡ failing_after self.old is_there is_momentary (is_awaited is_momentary is_repeated) now }
+    {
+        self.met(
+            is_there,
+            is_momentary,
+            is_awaited(is_momentary, is_repeated),
+            now,
+        )
     }
 
     /// What is said of it. It is said once, as soon as it lasts, and then not until it is over.
@@ -151,6 +171,13 @@ fn no_fault(tries: u64) -> Failing
         is_there: false,
         is_said: false,
     }
+}
+
+/// Whether it is awaited that a look succeeds.
+fn is_awaited(is_momentary: bool, is_repeated: bool) -> bool
+    ensures { result ≡ is_awaited is_momentary is_repeated }
+{
+    is_momentary && is_repeated
 }
 
 fn longest(is_momentary: bool) -> u64

@@ -1,15 +1,16 @@
 -- What is heard of what happens in a folder.
 use Rattle.dconf_watches.specs.declared.name.Found.{Found}
-use Rattle.dconf_watches.specs.declared.name.Found.TheVariants.{Missing, Link, File}
+use Rattle.dconf_watches.specs.declared.name.Found.TheVariants.{Missing, Link, File, Unseen}
 use Rattle.dconf_watches.specs.declared.name.NameWatch.{NameWatch}
 use Rattle.dconf_watches.specs.declared.event.Event.{Event}
 use Rattle.dconf_watches.specs.declared.event.Event.TheVariants.{Made, Came, Went, Access, Gone, Lost, Other}
 use Rattle.dconf_watches.specs.declared.event.Of.{Of}
 use Rattle.dconf_watches.specs.declared.event.Heard.{Heard}
 
--- a link leads to another path
+-- a link leads to another path, and what can't be seen may be one
 abbrev pub came : Heard → Found → Heard
 came comes Link = Heard.Path
+came comes Unseen = Heard.Path
 came comes found = comes
 
 -- a new file is written after it is made; all else is whole at once

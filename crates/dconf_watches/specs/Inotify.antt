@@ -91,3 +91,7 @@ found_by mode links =
     else if kind_in mode == a_folder then Found.Folder
     else if kind_in mode == a_regular_file then if links == 1 then Found.File else Found.Other
     else Found.Other
+
+-- the same where it may be that it can't be seen, or not where a link leads
+abbrev pub seen_by : Bool → ℕ → ℕ → Found
+seen_by is_unseen mode links = if is_unseen then Found.Unseen else found_by mode links

@@ -2,10 +2,14 @@
 use Rattle.std.specs.Prelude.{ℕ, List, Bool, true, false, not, ◌&&◌, ◌||◌, codes, length, ◌==◌, if◌then◌else◌}
 use Rattle.std.specs.Str.{bytes_eq}
 use Rattle.dconf_watches.specs.declared.name.Found.{Found}
-use Rattle.dconf_watches.specs.declared.name.Found.TheVariants.{Missing, Link, Folder}
+use Rattle.dconf_watches.specs.declared.name.Found.TheVariants.{Missing, Link, Folder, Unseen}
 use Rattle.dconf_watches.specs.declared.name.NameWatch.{NameWatch}
 use Rattle.dconf_watches.specs.declared.name.Way.{Way}
 use Rattle.dconf_watches.specs.declared.event.Heard.{Heard}
+
+-- The command and the service are few: they may be woken by much that is none of theirs. Programs are many.
+abbrev pub minds_much : ℕ → Bool
+minds_much who = (who == 3) || (who == 4)
 
 -- much happens in /etc: only who minds that waits there
 abbrev pub is_busy : Bool → List ℕ → Bool
@@ -23,6 +27,7 @@ unless busy watch = if busy then NameWatch.Nothing else watch
 abbrev pub watch_of_last : Found → NameWatch
 watch_of_last Missing = NameWatch.Awaited
 watch_of_last Link = NameWatch.Awaited
+watch_of_last Unseen = NameWatch.Awaited
 watch_of_last found = NameWatch.Own
 
 -- one on the way: what is no folder and no link is waited for otherwise
@@ -40,6 +45,11 @@ is_needed NameWatch.Nothing = false
 is_needed NameWatch.Itself = false
 is_needed watch = true
 
+-- what can't be seen may be a link, or a folder, that leads on to what nobody watches
+abbrev pub is_missed : Found → Bool
+is_missed Unseen = true
+is_missed found = false
+
 abbrev pub way_of : Found → Bool → Way
 way_of Link last = Way.Follows
 way_of Folder false = Way.Enters
@@ -48,6 +58,7 @@ way_of found last = Way.Ends
 -- what it means if something comes to the file's own name; a link has the path go on elsewhere
 abbrev pub heard_as_last : Found → Heard → Heard
 heard_as_last Link role = Heard.Path
+heard_as_last Unseen role = Heard.Path
 heard_as_last found role = role
 
 abbrev pub heard_as : Found → Bool → Heard → Heard

@@ -1,13 +1,14 @@
 -- Names, events and what is heard as numbers.
 use Rattle.std.specs.Prelude.{ℕ, List, Bool, not, nat_lt, ◌≡◌, if◌then◌else◌, ◌==◌}
+use Rattle.dconf_watches.specs.declared.name.Found.{Found}
 use Rattle.dconf_watches.specs.declared.name.NameWatch.{NameWatch}
 use Rattle.dconf_watches.specs.declared.name.Way.{Way}
 use Rattle.dconf_watches.specs.declared.name.Way.TheVariants.{Ends, Follows, Enters, Stays, Rises}
 use Rattle.dconf_watches.specs.declared.event.Of.{Of}
 use Rattle.dconf_watches.specs.declared.event.Heard.{Heard}
 use Rattle.dconf_watches.specs.declared.numbers.WatchedName.{WatchedName}
-use Rattle.dconf_watches.specs.Inotify.{asked_of, found_by}
-use Rattle.dconf_watches.specs.Names.{heard_as, is_busy, is_busy_in, is_needed, watch_at, watch_of, way_at, way_of}
+use Rattle.dconf_watches.specs.Inotify.{asked_of, seen_by}
+use Rattle.dconf_watches.specs.Names.{heard_as, is_busy, is_busy_in, is_missed, is_needed, watch_at, watch_of, way_at, way_of}
 
 -- to what of a name: an event has a name, if it isn't the folder's own
 abbrev pub of_what : Bool → Bool → Of
@@ -50,14 +51,15 @@ within followed way = way
 abbrev pub role_of : Bool → Heard
 role_of is_profile = if is_profile then Heard.Path else Heard.File
 
-abbrev pub watched_so : Bool → List ℕ → List ℕ → Bool → ℕ → ℕ → NameWatch
-watched_so minds folder name last mode links =
-    watch_at name (watch_of (found_by mode links) last (is_busy minds folder) (is_busy_in minds folder name))
+abbrev pub watched_so : Bool → List ℕ → List ℕ → Bool → Found → NameWatch
+watched_so minds folder name last found = watch_at name (watch_of found last (is_busy minds folder) (is_busy_in minds folder name))
 
--- a name on the way, at which a file of that mode stands, and which has so many names, after so many links
-pub record IsWatchedName (it : WatchedName) (minds : Bool) (folder name : List ℕ) (last : Bool) (mode links followed : ℕ) (is_profile : Bool) : Type 0 where
-  pub watched : it.watch ≡ name_watch_number (watched_so minds folder name last mode links)
-  pub asked : it.asked ≡ asked_of (watched_so minds folder name last mode links)
-  pub goes : it.way ≡ way_number (within followed (way_at name (way_of (found_by mode links) last)))
-  pub needed : it.is_needed ≡ is_needed (watched_so minds folder name last mode links)
-  pub heard : it.comes ≡ heard_number (heard_as (found_by mode links) last (role_of is_profile))
+-- a name on the way, at which a file of that mode stands, and which has so many names, if that can be seen, after so many links
+pub record IsWatchedName (it : WatchedName) (minds : Bool) (folder name : List ℕ) (last is_unseen : Bool) (mode links followed : ℕ) (is_profile : Bool) : Type 0 where
+  pub watched : it.watch ≡ name_watch_number (watched_so minds folder name last (seen_by is_unseen mode links))
+  pub asked : it.asked ≡ asked_of (watched_so minds folder name last (seen_by is_unseen mode links))
+  pub goes : it.way ≡ way_number (within followed (way_at name (way_of (seen_by is_unseen mode links) last)))
+  pub needed : it.is_needed ≡ is_needed (watched_so minds folder name last (seen_by is_unseen mode links))
+  pub heard : it.comes ≡ heard_number (heard_as (seen_by is_unseen mode links) last (role_of is_profile))
+  -- what can't be seen is missed
+  pub missed : it.is_missed ≡ is_missed (seen_by is_unseen mode links)

@@ -98,12 +98,13 @@ fn made(comes: Heard, found: Found) -> Heard
     }
 }
 
-/// A link leads to another path.
+/// A link leads to another path, and what can't be seen may be one.
 fn came(comes: Heard, found: Found) -> Heard
     ensures { result ≡ came comes found }
 {
     match found {
         Found::Link => Heard::Path,
+        Found::Unseen => Heard::Path,
         _ => comes,
     }
 }

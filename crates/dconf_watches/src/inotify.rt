@@ -1,6 +1,6 @@
 //! The numbers of inotify and of stat: what is asked for, what is told, and what stands at a name.
 ghost use Rattle.std.specs.Prelude.{◌≡◌};
-ghost use Rattle.dconf_watches.specs.Inotify.{asked_of, event_in, found_by, has};
+ghost use Rattle.dconf_watches.specs.Inotify.{asked_of, event_in, found_by, has, seen_by};
 
 use crate::event::Event;
 use crate::name::{Found, NameWatch};
@@ -88,5 +88,16 @@ pub fn found_by(mode: u32, links: u64) -> Found
         S_IFDIR => Found::Folder,
         S_IFREG if links == 1 => Found::File,
         _ => Found::Other,
+    }
+}
+
+/// The same where it may be that it can't be seen, or not where a link leads.
+pub fn seen_by(is_unseen: bool, mode: u32, links: u64) -> Found
+    ensures { result ≡ seen_by is_unseen mode links }
+{
+    if is_unseen {
+        Found::Unseen
+    } else {
+        found_by(mode, links)
     }
 }

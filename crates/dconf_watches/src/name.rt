@@ -1,6 +1,6 @@
 //! What is watched of a name on the way to a file.
 ghost use Rattle.std.specs.Prelude.{◌≡◌};
-ghost use Rattle.dconf_watches.specs.Names.{heard_as, is_busy, is_busy_in, is_dot, is_dots, is_needed, unless, watch_at, watch_of, way_at, way_of};
+ghost use Rattle.dconf_watches.specs.Names.{heard_as, is_busy, is_busy_in, is_dot, is_dots, is_missed, is_needed, minds_much, unless, watch_at, watch_of, way_at, way_of};
 
 use crate::event::Heard;
 
@@ -15,6 +15,8 @@ pub enum Found {
     File,
     /// All else: it has its content as soon as it has the name.
     Other,
+    /// It can't be seen what does: anything may.
+    Unseen,
 }
 
 /// What is watched of it.
@@ -54,6 +56,7 @@ pub fn watch_of(found: Found, is_last: bool, is_busy_above: bool, is_busy: bool)
     match (found, is_last) {
         (Found::Missing, true) => NameWatch::Awaited,
         (Found::Link, true) => NameWatch::Awaited,
+        (Found::Unseen, true) => NameWatch::Awaited,
         (_, true) => NameWatch::Own,
         (Found::Link, false) => NameWatch::Passage,
         (Found::Folder, false) => unless(is_busy, NameWatch::Itself),
@@ -78,6 +81,16 @@ pub fn is_needed(watch: NameWatch) -> bool
     }
 }
 
+/// Whether something is missed, whatever is watched: what can't be seen may lead on to what nobody watches.
+pub fn is_missed(found: Found) -> bool
+    ensures { result ≡ is_missed found }
+{
+    match found {
+        Found::Unseen => true,
+        _ => false,
+    }
+}
+
 /// Where the path goes on.
 pub fn way_of(found: Found, is_last: bool) -> Way
     ensures { result ≡ way_of found is_last }
@@ -89,16 +102,25 @@ pub fn way_of(found: Found, is_last: bool) -> Way
     }
 }
 
-/// What it means if something comes there: of a file's own name what the file is; but a link, and a name on the way, make another
-/// path.
+/// What it means if something comes there: of a file's own name what the file is; but a link, or what may be one, and a name on the way, make
+/// another path.
 pub fn heard_as(found: Found, is_last: bool, role: Heard) -> Heard
     ensures { result ≡ heard_as found is_last role }
 {
     match (found, is_last) {
         (Found::Link, true) => Heard::Path,
+        (Found::Unseen, true) => Heard::Path,
         (_, true) => role,
         (_, false) => Heard::Path,
     }
+}
+
+/// Whether who watches minds much that happens: 3 the command, and 4 the service, do, of which there are few; 0 the library's caller, 1 a program's
+/// module, and 2 a client, don't.
+pub fn minds_much(who: u32) -> bool
+    ensures { result ≡ minds_much who }
+{
+    who == 3 || who == 4
 }
 
 /// Whether much happens in a folder, which is not minded.

@@ -1,20 +1,21 @@
 //! The same as plain numbers, for a caller that is not Rust.
 ghost use Rattle.std.specs.Prelude.{◌≡◌};
 ghost use Rattle.dconf_watches.specs.Events.{louder, meaning};
-ghost use Rattle.dconf_watches.specs.Inotify.{event_in, found_by};
+ghost use Rattle.dconf_watches.specs.Inotify.{event_in, seen_by};
 ghost use Rattle.dconf_watches.specs.Names.{heard_as, way_at, way_of};
 ghost use Rattle.dconf_watches.specs.Numbers.{IsWatchedName, heard_number, heard_of, name_watch_number, name_watch_of, of_what, role_of, watched_so, way_number, within};
 
 use crate::event::{Heard, Of, louder, meaning};
-use crate::inotify::{asked_of, event_in, found_by};
+use crate::inotify::{asked_of, event_in, seen_by};
 use crate::name::{
-    NameWatch, Way, heard_as, is_busy, is_busy_in, is_needed, watch_at, watch_of, way_at, way_of,
+    Found, NameWatch, Way, heard_as, is_busy, is_busy_in, is_missed, is_needed, watch_at, watch_of,
+    way_at, way_of,
 };
 
 /// What is watched of a name: 0 nothing, 1 the folder itself, 2 a name on the way, 3 the file's own, 4 that, and what is made there;
 /// what inotify is asked for; where the path goes on: 0 nowhere, 1 where the link leads, 2 in the folder, 3 where it was, 4 in the folder
-/// above; what it means if something comes there: 0 the file may have changed, 1 other files may be the store's; and whether
-/// something would be missed without it.
+/// above; what it means if something comes there: 0 the file may have changed, 1 other files may be the store's; whether
+/// something would be missed without it; and whether something is, whatever is watched.
 #[repr(C)]
 #[derive(Clone, Copy)]
 pub struct WatchedName {
@@ -23,31 +24,34 @@ pub struct WatchedName {
     way: u32,
     comes: u32,
     is_needed: bool,
+    is_missed: bool,
 }
 
 /// A name in that folder, which is no link; the root's path is empty. `is_last`: it is the path's last one. At it a file of that mode
-/// stands, which has so many names: the mode is 0 where nothing does. `minds` who minds much that happens. So many links were followed on the
+/// stands, which has so many names: the mode is 0 where nothing does; unless it can't be seen, or not where a link leads. `minds` who minds much that happens. So many links were followed on the
 /// way. `is_profile`: if the file changes other files may be the store's.
 pub fn watched_name(
     minds: bool,
     folder: &[u8],
     name: &[u8],
     is_last: bool,
+    is_unseen: bool,
     mode: u32,
     links: u64,
     followed: u64,
     is_profile: bool,
 ) -> WatchedName
-    ensures { IsWatchedName result minds folder.now name.now is_last mode links followed is_profile }
+    ensures { IsWatchedName result minds folder.now name.now is_last is_unseen mode links followed is_profile }
 {
-    let found = found_by(mode, links);
-    let watch = watched_so(minds, folder, name, is_last, mode, links);
+    let found = seen_by(is_unseen, mode, links);
+    let watch = watched_so(minds, folder, name, is_last, found);
     WatchedName {
         watch: watch_number(watch),
         asked: asked_of(watch),
         way: way_number(within(followed, way_at(name, way_of(found, is_last)))),
         comes: heard_number_of(heard_as(found, is_last, role_of(is_profile))),
         is_needed: is_needed(watch),
+        is_missed: is_missed(found),
     }
 }
 
@@ -73,17 +77,9 @@ fn role_of(is_profile: bool) -> Heard
     if is_profile { Heard::Path } else { Heard::File }
 }
 
-fn watched_so(
-    minds: bool,
-    folder: &[u8],
-    name: &[u8],
-    is_last: bool,
-    mode: u32,
-    links: u64,
-) -> NameWatch
-    ensures { result ≡ watched_so minds folder.now name.now is_last mode links }
+fn watched_so(minds: bool, folder: &[u8], name: &[u8], is_last: bool, found: Found) -> NameWatch
+    ensures { result ≡ watched_so minds folder.now name.now is_last found }
 {
-    let found = found_by(mode, links);
     let watch = watch_of(
         found,
         is_last,
@@ -103,17 +99,18 @@ pub fn heard_number(
     mask: u32,
     has_name: bool,
     is_same: bool,
+    is_unseen: bool,
     mode: u32,
     links: u64,
 ) -> u32
-    ensures { result ≡ heard_number (louder (heard_of before) (meaning (name_watch_of watch) (heard_of comes) (event_in mask) (of_what has_name is_same) (found_by mode links))) }
+    ensures { result ≡ heard_number (louder (heard_of before) (meaning (name_watch_of watch) (heard_of comes) (event_in mask) (of_what has_name is_same) (seen_by is_unseen mode links))) }
 {
     let now = meaning(
         watch_of_number(watch),
         heard_of(comes),
         event_in(mask),
         of_what(has_name, is_same),
-        found_by(mode, links),
+        seen_by(is_unseen, mode, links),
     );
     heard_number_of(louder(heard_of(before), now))
 }

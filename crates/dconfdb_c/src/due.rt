@@ -1,7 +1,7 @@
 //! When who rests is to wake, when who reads is to look at the files, and what is said of a fault.
 ghost use Rattle.std.specs.Prelude.{ℕ, ◌≡◌, ◌≤◌, ◌<◌, ◌+◌, ◌*◌, ◌⊎◌, IsTrue, false};
 ghost use Rattle.dconf_waiting.specs.Dues.{IsFirstOf};
-ghost use Rattle.dconf_waiting.specs.Faults.{failing_after, word_number, word_of};
+ghost use Rattle.dconf_waiting.specs.Faults.{failing_after, is_awaited, word_number, word_of};
 ghost use Rattle.dconf_waiting.specs.Fresh.{may_look, next_look, numbered};
 
 use dconf_waiting::{Failing, next_look, sleep_until};
@@ -37,6 +37,21 @@ pub extern "C" fn dconfdb_failing_met(
     ensures after { failing.new ≡ failing_after failing.old is_there is_momentary tries_again now }
 {
     failing.met(is_there, is_momentary, tries_again, now)
+}
+
+/// The same of a look at the files, that is repeated of itself or not: what mostly passes in a moment is awaited then, and all else is said at once.
+#[unsafe(no_mangle)]
+pub extern "C" fn dconfdb_failing_look(
+    failing: &mut Failing,
+    is_there: bool,
+    is_momentary: bool,
+    is_repeated: bool,
+    now: u64,
+) -> u32
+    ensures said { result ≡ word_number (word_of failing.old is_there is_momentary (is_awaited is_momentary is_repeated) now) }
+    ensures after { failing.new ≡ failing_after failing.old is_there is_momentary (is_awaited is_momentary is_repeated) now }
+{
+    failing.met_looking(is_there, is_momentary, is_repeated, now)
 }
 
 /// When the next look is due, if this one is made; or 0. Of 0 who reads, of 1 who did and whose look failed; and of who is about to tell

@@ -2,10 +2,11 @@
 ghost use Rattle.std.specs.Prelude.{◌≡◌};
 ghost use Rattle.dconf_files.specs.Handings.{handed_after, handing_number, handing_value, what_of};
 ghost use Rattle.dconf_files.specs.Stamps.{sameness_number, sameness_of};
-ghost use Rattle.dconf_parts.specs.Parts.{beside, beside_number, purpose_of};
+ghost use Rattle.dconf_parts.specs.Parts.{beside, beside_number, known_after, purpose_of};
+ghost use Rattle.dconf_parts.specs.Sizes.{kind_of, largest};
 
 use dconf_files::{FileStamp, MadeFile, handing_numbers, sameness_number};
-use dconf_parts::{DconfdbPartSeen, beside_number};
+use dconf_parts::{DconfdbPartSeen, beside_number, known_after, largest_number};
 
 /// Whether a file is the one that was read from that moment on: 0 it is, 1 it is another one or has
 /// changed, 2 it may have. `is_held`: it has been open or mapped since.
@@ -33,6 +34,29 @@ pub extern "C" fn dconfdb_beside(
     ensures { result ≡ beside_number (beside (purpose_of purpose) old.now now.now seen.now) }
 {
     beside_number(purpose, old, now, seen)
+}
+
+/// By what a file that is the same if it may be read is known from then on; and whether it is, as it may be read or not.
+#[unsafe(no_mangle)]
+pub extern "C" fn dconfdb_known_after(
+    old: &FileStamp,
+    now: &FileStamp,
+    may_be_read: bool,
+    known: &mut FileStamp,
+) -> bool
+    ensures is { result ≡ may_be_read }
+    ensures known { known.new ≡ known_after old.now now.now may_be_read }
+{
+    *known = known_after(old, now, may_be_read);
+    may_be_read
+}
+
+/// How many bytes a file may have that is read: 0 the one that says which kind of store the machine has, 1 a profile, else a database.
+#[unsafe(no_mangle)]
+pub extern "C" fn dconfdb_largest(kind: u32) -> u64
+    ensures { result ≡ largest (kind_of kind) }
+{
+    largest_number(kind)
 }
 
 /// What comes next with what was just made: what 0 a lock, 1 a file, else a folder, once that was done: 0 nothing, 1 it was made, 2 it got its user,

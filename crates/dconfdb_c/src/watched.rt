@@ -1,14 +1,23 @@
 //! What is watched of the names on the way to a file, and what is heard of them.
 ghost use Rattle.std.specs.Prelude.{◌≡◌, ◌≢◌};
 ghost use Rattle.dconf_watches.specs.Events.{louder, meaning};
-ghost use Rattle.dconf_watches.specs.Inotify.{event_in, found_by};
+ghost use Rattle.dconf_watches.specs.Inotify.{event_in, seen_by};
+ghost use Rattle.dconf_watches.specs.Names.{minds_much};
 ghost use Rattle.dconf_watches.specs.Numbers.{IsWatchedName, heard_number, heard_of, name_watch_of, of_what};
 ghost use Rattle.dconf_watches.specs.Rounds.{after_number, after_round, begun, gone_through, rounds_of, sight_of};
 
-use dconf_watches::{Sight, WatchRounds, WatchedName, heard_number, watched_name};
+use dconf_watches::{Sight, WatchRounds, WatchedName, heard_number, minds_much, watched_name};
+
+/// Whether who watches minds much that happens: 0 the library's caller, 1 the module, 2 libdconf, 3 the command, 4 the service.
+#[unsafe(no_mangle)]
+pub extern "C" fn dconfdb_minds_much(who: u32) -> bool
+    ensures { result ≡ minds_much who }
+{
+    minds_much(who)
+}
 
 /// What is watched of a name in that folder, which is no link; the root's path is empty. `is_last`: it is the path's last name. `mode` and
-/// `links` are what stat says of what stands there, 0 where nothing does. `minds` who minds much that happens. So many links were followed on the way.
+/// `links` are what stat says of what stands there, 0 where nothing does; unless it can't be seen, or not where a link leads. `minds` who minds much that happens. So many links were followed on the way.
 /// `is_profile`: if the file changes other files may be the store's.
 #[unsafe(no_mangle)]
 pub extern "C" fn dconfdb_watched_name(
@@ -16,16 +25,17 @@ pub extern "C" fn dconfdb_watched_name(
     folder: &[u8],
     name: &[u8],
     is_last: bool,
+    is_unseen: bool,
     mode: u32,
     links: u64,
     followed: u64,
     is_profile: bool,
     watched: &mut WatchedName,
 )
-    ensures { IsWatchedName watched.new minds folder.now name.now is_last mode links followed is_profile }
+    ensures { IsWatchedName watched.new minds folder.now name.now is_last is_unseen mode links followed is_profile }
 {
     *watched = watched_name(
-        minds, folder, name, is_last, mode, links, followed, is_profile,
+        minds, folder, name, is_last, is_unseen, mode, links, followed, is_profile,
     );
 }
 
@@ -54,7 +64,7 @@ pub extern "C" fn dconfdb_watch_round(
 
 /// What is heard of an event of that mask, and before it: 0 the file may have changed, 1 other files may be the store's, 2 nothing. `watch`
 /// and `comes` are of the watched name. The event has a name or not, which is that one or not; `mode` and `links` are of what stands
-/// there by now.
+/// there by now, unless that can't be seen.
 #[unsafe(no_mangle)]
 pub extern "C" fn dconfdb_heard(
     before: u32,
@@ -63,10 +73,13 @@ pub extern "C" fn dconfdb_heard(
     mask: u32,
     has_name: bool,
     is_same: bool,
+    is_unseen: bool,
     mode: u32,
     links: u64,
 ) -> u32
-    ensures { result ≡ heard_number (louder (heard_of before) (meaning (name_watch_of watch) (heard_of comes) (event_in mask) (of_what has_name is_same) (found_by mode links))) }
+    ensures { result ≡ heard_number (louder (heard_of before) (meaning (name_watch_of watch) (heard_of comes) (event_in mask) (of_what has_name is_same) (seen_by is_unseen mode links))) }
 {
-    heard_number(before, watch, comes, mask, has_name, is_same, mode, links)
+    heard_number(
+        before, watch, comes, mask, has_name, is_same, is_unseen, mode, links,
+    )
 }

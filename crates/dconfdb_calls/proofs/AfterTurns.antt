@@ -13,7 +13,7 @@ use Rattle.dconfdb_calls.specs.Turns.{HaveOwn, MakesFile, TurnsGiveValues, chang
 use Rattle.dconfdb_calls.specs.Changed.{AreMadeInTurn, IsChanged, change_meant}
 use Rattle.dconfdb_calls.specs.declared.changes.DconfdbChange.{DconfdbChange}
 
-after_all : (others : List MaybeBytes) (gs : List Given) (own : OwnValues) (cs : List DconfdbChange) (l m : Layers) → StoreHolds others own gs l → AreMadeInTurn cs l m → StoreHolds others (own_after gs own (map change_meant cs)) gs m
+pub after_all : (others : List MaybeBytes) (gs : List Given) (own : OwnValues) (cs : List DconfdbChange) (l m : Layers) → StoreHolds others own gs l → AreMadeInTurn cs l m → StoreHolds others (own_after gs own (map change_meant cs)) gs m
 after_all others gs own [] l m h same = subst (StoreHolds others own gs) same h
 after_all others gs own (c ∷ cs) l m h made =
     after_all others gs (own_changed gs own (change_meant c)) cs made.0 m (after_change others own gs l made.0 h (change_meant c) made.1 made.3) made.4

@@ -1,5 +1,6 @@
 mod ChangeTurns
 mod AfterTurns
+mod Mixed
 mod LineLaws
 mod KeylessLaws
 mod SinceLaws

@@ -11,5 +11,6 @@ pub mod Salvaged
 pub mod Keyless
 pub mod Changed
 pub mod Turns
+pub mod MixedTurns
 pub mod Since
 pub mod Fates

@@ -41,7 +41,7 @@ pub use fates::Fate;
 pub use fault::Fault;
 pub use given::hand_out;
 pub use keyless::keyless_file;
-pub use laws::turns_give_values;
+pub use laws::{mixed_turns_give_all, turns_give_values, unlocked_turns_count};
 pub use lines::{GoodLines, good_lines};
 pub use names::{directory_locks, directory_names};
 pub use opened::{BadFile, DconfdbUnsound, open_layer, open_layer_after};

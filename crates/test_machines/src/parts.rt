@@ -1,6 +1,6 @@
 //! What a file is, beside what was made of it.
 use dconf_files::{FileStamp, FileTime};
-use dconf_parts::{DconfdbPartSeen, beside_number};
+use dconf_parts::{DconfdbPartSeen, beside_number, known_after, largest_number};
 use std::test::Fail;
 
 const KEEP: u32 = 0;
@@ -103,8 +103,28 @@ fn are_taken() -> bool {
         && stands(TRY, 1, 1, other_bytes) == 1
 }
 
+/// What changed of a file that may be read isn't asked of again.
+fn are_known() -> bool {
+    let held = DconfdbPartSeen {
+        is_held: true,
+        ..sound()
+    };
+    let read = known_after(&file(1, 1), &file(1, 2), true);
+    let unread = known_after(&file(1, 1), &file(1, 2), false);
+    beside_number(KEEP, &read, &file(1, 2), &held) == 0
+        && beside_number(KEEP, &read, &file(1, 3), &held) == 2
+        && beside_number(KEEP, &unread, &file(1, 2), &held) == 2
+}
+
+fn sizes_are_known() -> bool {
+    largest_number(0) == 4096
+        && largest_number(1) == 16_777_216
+        && largest_number(2) == 4_294_967_295
+}
+
 #[test]
 fn what_was_made_of_a_file_is_kept_or_not(rt: HostRuntime) -> Result<(), Fail> {
     assert!(rt; are_kept() && are_taken());
+    assert!(rt; are_known() && sizes_are_known());
     Ok(())
 }

@@ -259,7 +259,9 @@ fn a_site_is_looked_at_as_update_looks_at_it(rt: HostRuntime) -> Result<(), Fail
     assert!(rt; what_update_makes_is_known() && what_is_hidden_is_left_out() && stems_are_found());
     assert!(rt; texts_of_a_site_are_read());
     assert!(rt; entry_number(&bad, &name, 0, &name) == 18);
-    assert!(rt; machines_folder(true) == b"/etc/dconf/db" && machines_folder(false) == b"/etc/dconfdb");
+    assert!(rt;
+        machines_folder(true) == b"/etc/dconf/db" && machines_folder(false) == b"/etc/dconfdb"
+    );
     Ok(())
 }
 

@@ -1,8 +1,8 @@
 //! What is done in turn by who writes what waits, by who has it written, or ends, or wants to know that it is on the disk, and by who looks at
 //! the files.
 use dconf_rounds::{
-    GlanceKnown, Known, SyncKnown, TellKnown, WriterKnown, glance_number, has_work, is_at_work, passes_over,
-    sync_number, task_number, telling_number, writer_number,
+    GlanceKnown, Known, SyncKnown, TellKnown, WriterKnown, glance_number, has_work, is_at_work,
+    passes_over, sync_number, task_number, telling_number, writer_number,
 };
 use dconf_seen::Known as SeenKey;
 use std::test::Fail;
@@ -155,6 +155,16 @@ fn looks_end() -> bool {
         is_amid: false,
         is_late: false,
         is_to_settle: false,
+        was_unseen: false,
+        is_unseen: false,
+    };
+    let hidden = GlanceKnown {
+        is_unseen: true,
+        ..same
+    };
+    let found = GlanceKnown {
+        was_unseen: true,
+        ..same
     };
     let barred = GlanceKnown {
         is_barred: true,
@@ -198,6 +208,8 @@ fn looks_end() -> bool {
         ..same
     };
     glance_number(0, &same) == 1
+        && glance_number(0, &hidden) == 3
+        && glance_number(0, &found) == 3
         && glance_number(0, &unsure) == 3
         && glance_number(0, &other) == 2
         && glance_number(0, &shut) == 2

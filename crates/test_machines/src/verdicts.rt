@@ -371,6 +371,11 @@ fn faults_are_said() -> bool {
         && failing.failed == 0
         && failing.met(true, false, false, 9) == 1
         && failing.met(true, false, true, 10) == 0
+        && failing.met(false, false, true, 11) == 3
+        && failing.met_looking(true, true, true, 12) == 0
+        && failing.met_looking(true, false, true, 13) == 1
+        && failing.met_looking(false, false, true, 14) == 3
+        && failing.met_looking(true, true, false, 15) == 1
 }
 
 /// The calls, by their numbers.

@@ -1,7 +1,7 @@
 //! What is watched of the names on the way to a file, and what is heard of what inotify tells.
 use dconf_watches::{
     Event, Found, NameWatch, Sight, WatchRounds, Way, asked_of, event_in, found_by, heard_number,
-    is_busy, is_busy_in, is_needed, watch_at, way_at,
+    is_busy, is_busy_in, is_missed, is_needed, minds_much, seen_by, watch_at, way_at,
 };
 use std::test::Fail;
 
@@ -15,7 +15,7 @@ const LINK: u32 = 0o120777;
 
 /// What is heard at a file's own name, at which that stands by then, of a mask that has its name.
 fn heard_at(watch: u32, mask: u32, mode: u32) -> u32 {
-    heard_number(NOTHING, watch, 0, mask, true, true, mode, 1)
+    heard_number(NOTHING, watch, 0, mask, true, true, false, mode, 1)
 }
 
 fn events_are_read() -> bool {
@@ -40,6 +40,10 @@ fn what_stands_is_read() -> bool {
         && matches!(found_by(LINK, 1), Found::Link)
         && matches!(found_by(0o040755, 2), Found::Folder)
         && matches!(found_by(0o010644, 1), Found::Other)
+        && matches!(seen_by(false, FILE, 1), Found::File)
+        && matches!(seen_by(true, 0, 0), Found::Unseen)
+        && is_missed(Found::Unseen)
+        && !is_missed(Found::Missing)
 }
 
 fn names_are_heard() -> bool {
@@ -49,10 +53,11 @@ fn names_are_heard() -> bool {
         && heard_at(3, 0x80, FILE) == 0
         && heard_at(3, 0x200, 0) == 1
         && heard_at(2, 0x8, FILE) == 2
-        && heard_number(NOTHING, 3, 0, 0x8, true, false, FILE, 1) == 2
-        && heard_number(NOTHING, 3, 0, 0x4, false, false, 0, 0) == 1
-        && heard_number(1, 3, 0, 0x8, true, true, FILE, 1) == 1
-        && heard_number(NOTHING, 0, 2, 0x4000, true, false, 0, 0) == 1
+        && heard_number(NOTHING, 3, 0, 0x8, true, false, false, FILE, 1) == 2
+        && heard_number(NOTHING, 3, 0, 0x4, false, false, false, 0, 0) == 1
+        && heard_number(1, 3, 0, 0x8, true, true, false, FILE, 1) == 1
+        && heard_number(NOTHING, 0, 2, 0x4000, true, false, false, 0, 0) == 1
+        && heard_number(NOTHING, 4, 0, 0x100, true, true, true, 0, 0) == 1
 }
 
 fn all_that_is_heard_is_asked_for() -> bool {
@@ -118,6 +123,7 @@ fn names_are_watched_and_heard(rt: HostRuntime) -> Result<(), Fail> {
             && all_that_is_heard_is_asked_for()
     );
     assert!(rt; names_are_gone_through());
+    assert!(rt; minds_much(3) && minds_much(4) && !minds_much(0) && !minds_much(1) && !minds_much(2));
     assert!(rt; rounds_are_counted(WatchRounds::none()));
     Ok(())
 }
