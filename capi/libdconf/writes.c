@@ -84,10 +84,13 @@ typedef struct {
     DconfdbChanging known;
 } Change;
 
-/* Whether all that is set may be. A reset that may not does nothing, as dconf has it. */
+/* Whether something is set that may not be. A reset that may not does nothing, as dconf has it. Without a store nobody knows, and the turn tells
+ * why. */
 static bool is_refused(Engine *engine, const Edits *edits)
 {
     DconfdbSnapshot *now = engine_look(engine);
+    if (!now)
+        return false;
     g_autofree DconfdbNewEdit *known = known_of(edits, engine_has_user(engine), now);
     dconfdb_snapshot_unref(now);
     bool is_there;

@@ -217,12 +217,18 @@ static void feed(gchar **words)
         close(taken[--count]);
 }
 
+static void go(gchar **words)
+{
+    if (chdir(words[0]) != 0)
+        printf("  not there\n");
+}
+
 static const struct {
     const char *name;
     void (*call)(gchar **words);
 } COMMANDS[] = {{"change", change}, {"write", write_one}, {"read", read_one}, {"watch", watch}, {"unwatch", unwatch}, {"list", list}, {"locks", locks},
                 {"writable", writable}, {"settle", settle_for}, {"await", await}, {"sync", sync_all}, {"anew", anew}, {"starve", starve},
-                {"feed", feed}};
+                {"feed", feed}, {"go", go}};
 
 int main(void)
 {

@@ -6,6 +6,7 @@ import random
 import shutil
 import subprocess
 import time
+from pathlib import Path
 
 import homes
 from frame import Stop, needs, program
@@ -100,6 +101,31 @@ def refused_at_first(both, driver):
     it.end()
 
 
+def without_a_place(both, driver):
+    """Who watches before the place is found, as its folder is named by one that is gone, is told of all that is there, once it is. A change says why it
+    can't be made till then."""
+    store = Path(both.environment('ours').get('DCONFDB_STORE', both.homes['ours'] / 'config' / 'dconfdb'))
+    gone = both.folder / 'gone'
+    gone.mkdir()
+    both.ran('ours', ['dconf', 'write', '/w/early', '1'])
+    entered = both.folder / 'entered'
+    entered.write_text(f'#!/bin/sh\ncd {gone} && rmdir {gone} && exec {driver}\n', encoding='utf-8')
+    entered.chmod(0o755)
+    it = Watcher(both, 'ours', entered, DCONFDB_STORE=store.name)
+    said = it.says('watch sync /w/') + it.says('settle 300')
+    refused = it.says('write sync /w/k 1')
+    it.says(f'go {store.parent}')
+    said += it.says('settle 3000')
+    if not any(line.startswith('  changed ') and 'early' in line for line in said) or it.says('read 0 /w/early') != ['  1']:
+        raise Stop(f'a place that is found late: told {said}')
+    if not any('the folder of $DCONFDB_STORE' in line for line in refused):
+        raise Stop(f'a change without a place: {refused}')
+    both.ran('ours', ['dconf', 'write', '/w/late', '3'])
+    if '  changed /w/late []' not in it.says('await 3000'):
+        raise Stop('a store whose place is found late is not watched')
+    it.end()
+
+
 def on_a_slow_disk(both, driver):
     """Who watches reads without a look at the files, unless something happened to them: no stat is waited for. What another sets is read at once."""
     library, flag = both.folder / 'slow.so', both.folder / 'slow'
@@ -165,8 +191,9 @@ def main(both):
     for it in (theirs, ours):
         it.end()
     refused_at_first(both, driver)
+    without_a_place(both, driver)
     on_a_slow_disk(both, driver)
     with_another_profile(both, driver)
     shutil.rmtree(modules)
-    told = f'the same {told} signals as of dconf\'s; without file descriptors; a store that opens late'
+    told = f'the same {told} signals as of dconf\'s; without file descriptors; a store that opens late, and a place that is found late'
     return f'{COUNT} changes by dconf\'s command, by dconfdb\'s and by GSettings: {told}; who watches reads without a stat'
