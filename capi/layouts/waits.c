@@ -1,6 +1,5 @@
 /* What waits: for a lock, to be written, and to be looked at. */
 #include "layouts.h"
-
 #include <stdio.h>
 #include <string.h>
 
