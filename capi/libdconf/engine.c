@@ -267,7 +267,6 @@ gboolean engine_has_user(Engine *self)
     return store && dconfdb_store_user_file(store);
 }
 
-
 /* ---- its life */
 
 /* `lock` is held. What a thread of the parent's works at is never freed here. */

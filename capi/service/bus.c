@@ -13,41 +13,84 @@ static const char interfaces[] =
     "<interface name='ca.desrt.dconf.ServiceInfo'><method name='Blame'><arg name='blame' type='s' direction='out'/></method></interface>"
     "</node>";
 
-/* ---- calls */
+/* ---- answers */
 
-void call_refuse(GDBusMethodInvocation *call, uint32_t served, const char *why)
+/* Nobody is answered who wants no answer. It fails where the bus is gone. */
+static void send_answer(const Service *service, GDBusMessage *call, GDBusMessage *answer)
 {
-    static const struct {
-        GDBusError code;
-        const char *text;
-    } said[] = {[DCONFDB_SERVED_FAILED] = {G_DBUS_ERROR_FAILED, NULL},
-                [DCONFDB_SERVED_CLOSED] = {G_DBUS_ERROR_FAILED, NULL},
-                [DCONFDB_SERVED_ODD] = {G_DBUS_ERROR_INVALID_ARGS, "the changes are not in normal form"},
-                [DCONFDB_SERVED_TOO_LARGE] = {G_DBUS_ERROR_LIMITS_EXCEEDED, "a change has at most 64 MiB"},
-                [DCONFDB_SERVED_TOO_MUCH] = {G_DBUS_ERROR_LIMITS_EXCEEDED, "10,000 changes, or 256 MiB of them, wait to be written already"},
-                [DCONFDB_SERVED_TOO_MANY_NAMES] = {G_DBUS_ERROR_LIMITS_EXCEEDED, "64 databases are in use already"},
-                [DCONFDB_SERVED_LATE] = {G_DBUS_ERROR_FAILED, "the service ends, and could not write it in time"},
-                [DCONFDB_SERVED_UNSUPPORTED] = {G_DBUS_ERROR_NOT_SUPPORTED, "dconfdb has no service-db"}};
-    g_autofree char *text = g_utf8_make_valid(said[served].text ? said[served].text : why, -1);
-    g_dbus_method_invocation_return_error_literal(call, G_DBUS_ERROR, (gint)said[served].code, text);
+    if ((g_dbus_message_get_flags(call) & G_DBUS_MESSAGE_FLAGS_NO_REPLY_EXPECTED) == 0)
+        g_dbus_connection_send_message(service->bus, answer, G_DBUS_SEND_MESSAGE_FLAGS_NONE, NULL, NULL);
+    g_object_unref(answer);
+    g_object_unref(call);
 }
 
-static void change(Service *service, const char *name, GDBusMethodInvocation *call)
+void call_answer(const Service *service, GDBusMessage *call, GVariant *words)
+{
+    GDBusMessage *answer = g_dbus_message_new_method_reply(call);
+    if (words)
+        g_dbus_message_set_body(answer, words);
+    send_answer(service, call, answer);
+}
+
+void call_refuse(const Service *service, GDBusMessage *call, uint32_t served, const char *why)
+{
+    static const char failed[] = "org.freedesktop.DBus.Error.Failed", exceeded[] = "org.freedesktop.DBus.Error.LimitsExceeded";
+    static const struct {
+        const char *name, *text;
+    } said[] = {[DCONFDB_SERVED_FAILED] = {failed, NULL},
+                [DCONFDB_SERVED_CLOSED] = {failed, NULL},
+                [DCONFDB_SERVED_ODD] = {"org.freedesktop.DBus.Error.InvalidArgs", "the changes are not in normal form"},
+                [DCONFDB_SERVED_TOO_LARGE] = {exceeded, "a change has at most 64 MiB"},
+                [DCONFDB_SERVED_TOO_MUCH] = {exceeded, "10,000 changes, or 256 MiB of them, wait to be written already"},
+                [DCONFDB_SERVED_TOO_MANY_NAMES] = {exceeded, "64 databases are in use already"},
+                [DCONFDB_SERVED_LATE] = {failed, "the service ends, and could not write it in time"},
+                [DCONFDB_SERVED_UNSUPPORTED] = {"org.freedesktop.DBus.Error.NotSupported", "dconfdb has no service-db"}};
+    g_autofree char *text = g_utf8_make_valid(said[served].text ? said[served].text : why, -1);
+    send_answer(service, call, g_dbus_message_new_method_error_literal(call, said[served].name, text));
+}
+
+/* ---- calls */
+
+static bool is_text(const char *text, const char *wanted)
+{
+    return text && strcmp(text, wanted) == 0;
+}
+
+/* The name of the database that a message asks to be changed, where GDBus hands it to call_writer in any case. NULL: it is another one. */
+static const char *changed_name(GDBusMessage *message)
+{
+    static const char above[] = "/ca/desrt/dconf/Writer/";
+    const char *object = g_dbus_message_get_path(message);
+    bool is = g_dbus_message_get_message_type(message) == G_DBUS_MESSAGE_TYPE_METHOD_CALL && object && strncmp(object, above, sizeof above - 1) == 0
+           && is_text(g_dbus_message_get_interface(message), "ca.desrt.dconf.Writer") && is_text(g_dbus_message_get_member(message), "Change")
+           && is_text(g_dbus_message_get_signature(message), "ay");
+    return is && !strchr(object + sizeof above - 1, '/') ? object + sizeof above - 1 : NULL;
+}
+
+/* The message of a call, which is answered by it alone. */
+static GDBusMessage *message_of(GDBusMethodInvocation *call)
+{
+    GDBusMessage *message = g_object_ref(g_dbus_method_invocation_get_message(call));
+    g_object_unref(call);
+    return message;
+}
+
+static void change(Service *service, const char *name, GDBusMessage *call)
 {
     DconfdbError error = DCONFDB_ERROR_INIT;
-    g_autoptr(GVariant) bytes = g_variant_get_child_value(g_dbus_method_invocation_get_parameters(call), 0);
+    g_autoptr(GVariant) bytes = g_variant_get_child_value(g_dbus_message_get_body(call), 0);
     DconfdbServed known = service_knows(service, g_variant_get_size(bytes));
     known.is_used = g_hash_table_contains(service->writers, name);
     uint32_t served = dconfdb_served_after(DCONFDB_SERVED_CAME, &known);
     if (served != DCONFDB_SERVED_GOES_ON) {
-        call_refuse(call, served, NULL);
+        call_refuse(service, call, served, NULL);
         return;
     }
     Writer *writer = writer_named(service, name, &error);
     if (writer)
-        service_add(service, change_new(writer, call, writer->count++));
+        service_add(service, change_new(writer, call));
     else
-        call_refuse(call, DCONFDB_SERVED_FAILED, error.text);
+        call_refuse(service, call, DCONFDB_SERVED_FAILED, error.text);
 }
 
 /* GDBus has looked at the method and at its words. There is nothing to be made ready. */
@@ -57,10 +100,15 @@ static void call_writer(GDBusConnection *bus, const char *sender, const char *ob
     Service *service = data;
     (void)bus, (void)sender, (void)interface, (void)words;
     blame_record(service->blame, call);
-    if (strcmp(method, "Init") == 0)
-        g_dbus_method_invocation_return_value(call, NULL);
-    else
-        change(service, strrchr(object, '/') + 1, call);
+    if (strcmp(method, "Init") == 0) {
+        call_answer(service, message_of(call), NULL);
+        return;
+    }
+    GDBusMessage *message = message_of(call);
+    bool has_passed = !service->blame && changed_name(message);
+    change(service, strrchr(object, '/') + 1, message);
+    if (has_passed)
+        service_has_passed(service);
 }
 
 /* Databases in the memory of a session, and keyfiles as databases, are of profiles with a line `service-db`. */
@@ -71,7 +119,7 @@ static void call_unsupported(GDBusConnection *bus, const char *sender, const cha
     const DconfdbServed known = {.is_service_db = true};
     (void)bus, (void)sender, (void)object, (void)interface, (void)method, (void)words;
     blame_record(service->blame, call);
-    call_refuse(call, dconfdb_served_after(DCONFDB_SERVED_CAME, &known), NULL);
+    call_refuse(service, message_of(call), dconfdb_served_after(DCONFDB_SERVED_CAME, &known), NULL);
 }
 
 static void call_info(GDBusConnection *bus, const char *sender, const char *object, const char *interface, const char *method, GVariant *words,
@@ -80,7 +128,17 @@ static void call_info(GDBusConnection *bus, const char *sender, const char *obje
     Service *service = data;
     (void)bus, (void)sender, (void)object, (void)interface, (void)method, (void)words;
     blame_record(service->blame, call);
-    g_dbus_method_invocation_return_value(call, g_variant_new("(s)", blame_text(service->blame)));
+    call_answer(service, message_of(call), g_variant_new("(s)", blame_text(service->blame)));
+}
+
+/* ---- changes that needn't go by the main thread */
+
+/* In GDBus's own thread. What is taken is had. */
+static GDBusMessage *take(GDBusConnection *bus, GDBusMessage *message, gboolean comes, gpointer data)
+{
+    (void)bus;
+    const char *name = comes ? changed_name(message) : NULL;
+    return name && service_takes(data, name, message) ? NULL : message;
 }
 
 /* ---- objects of any name */
@@ -142,8 +200,12 @@ bool bus_register(Service *service)
     service->interfaces = g_dbus_node_info_new_for_xml(interfaces, &error);
     if (service->interfaces && add_subtree(service, "/ca/desrt/dconf/Writer", &writers, &error)
         && add_subtree(service, "/ca/desrt/dconf/shm", &unsupported, &error)
-        && add_subtree(service, "/ca/desrt/dconf/keyfile", &unsupported, &error) && add_info(service, &error))
+        && add_subtree(service, "/ca/desrt/dconf/keyfile", &unsupported, &error) && add_info(service, &error)) {
+        /* What ran at the time of a call is asked for in the main thread. */
+        if (!service->blame)
+            g_dbus_connection_add_filter(service->bus, take, service, NULL);
         return true;
+    }
     g_printerr("dconfdb-service: %s\n", error->message);
     return false;
 }

@@ -7,16 +7,15 @@
 
 static const size_t FEW_TEXTS = 256;
 
-Change *change_new(Writer *writer, GDBusMethodInvocation *call, guint64 number)
+Change *change_new(Writer *writer, GDBusMessage *call)
 {
     Change *change = g_new0(Change, 1);
     change->link.data = change;
     change->writer = writer;
     change->call = call;
-    change->number = number;
-    change->asked = g_variant_get_child_value(g_dbus_method_invocation_get_parameters(call), 0);
+    change->asked = g_variant_get_child_value(g_dbus_message_get_body(call), 0);
     change->size = g_variant_get_size(change->asked);
-    change->order = g_dbus_message_get_byte_order(g_dbus_method_invocation_get_message(call));
+    change->order = g_dbus_message_get_byte_order(call);
     change->edits = g_array_new(FALSE, FALSE, sizeof(DconfdbEdit));
     change->unfit = g_ptr_array_new();
     change->types = g_string_chunk_new(FEW_TEXTS);

@@ -182,7 +182,7 @@ static int serve(const char *folder)
     bool is_ready = begin(&service), is_running = is_ready && service_begin_writing(&service);
     if (is_running)
         run(&service);
-    else if (is_ready)
+    else if (is_ready && service_stop_writing(&service))
         say("no thread can be had");
     bool has_failed = !is_running || service.has_failed;
     clear(&service);

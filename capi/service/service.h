@@ -17,15 +17,15 @@
 typedef struct Blame Blame;
 typedef struct Writer Writer;
 
-/* The main thread calls the bus, and sees what others change; one thread writes, and waits for the disk and for others' turns. A
- * writer's `turn` is taken before `lock`. */
+/* The main thread calls the bus, and sees what others change; one thread writes, and waits for the disk and for others' turns. GDBus's own thread
+ * adds changes of databases that are in use. A writer's `turn` is taken before `lock`. */
 typedef struct {
     StorePlace place;
     GDBusConnection *bus;
     GDBusNodeInfo *interfaces;
     Blame *blame; /* NULL: nobody asked for it */
     GMainLoop *loop;
-    GHashTable *writers; /* by their names */
+    GHashTable *writers; /* by their names; the main thread alone changes it, with `lock` */
     bool had_name, is_ending, has_failed;
     guint owner;
 
@@ -39,6 +39,7 @@ typedef struct {
     GQueue taken; /* those that are written together, of one database; also until they are tried again */
     guint64 added, settled; /* how many changes ever came, and how many were answered */
     guint64 waiting_size; /* how many bytes those have that aren't */
+    guint64 passing; /* how many changes are on their way to the main thread */
     gint64 again; /* when a write that failed is tried again; 0: none is */
     bool is_writing; /* the thread is amid a try: it alone answers what is taken */
     bool ends;
@@ -50,8 +51,8 @@ typedef struct {
 typedef struct {
     GList link; /* in the queue that has it */
     Writer *writer;
-    GDBusMethodInvocation *call;
-    guint64 number;    /* of the writer's changes */
+    GDBusMessage *call; /* NULL: it is answered */
+    guint64 number;    /* of the writer's changes, in the order in which they came */
     uint64_t moment;   /* in which it came, by order_clock() */
     size_t size;       /* of what was sent, in that order of bytes */
     GDBusMessageByteOrder order;
@@ -63,7 +64,8 @@ typedef struct {
     size_t first;      /* the number of its first edit, of those of its run */
 } Change;
 
-Change *change_new(Writer *writer, GDBusMethodInvocation *call, guint64 number);
+/* It has the call, which came. */
+Change *change_new(Writer *writer, GDBusMessage *call);
 
 /* Once: its edits, unless its bytes are odd. */
 void change_read(Change *change);
@@ -82,7 +84,7 @@ Batch batch_of(const GList *first, size_t count);
 struct Writer {
     Service *service;
     char *name, *object;
-    guint64 count; /* of its changes */
+    guint64 count; /* of its changes; guarded by the service's `lock` */
 
     GMutex turn; /* held while files are looked at or changed, and told of. It guards: */
     DconfdbStore *store;
@@ -132,6 +134,13 @@ bool service_begin_writing(Service *service);
 /* Of the main thread: it waits to be written. */
 void service_add(Service *service, Change *change);
 
+/* Of GDBus's own thread, a call for a change: whether it waits to be written. Else the main thread is to take it, and those that come after it: its
+ * database isn't in use yet, or it is refused. */
+bool service_takes(Service *service, const char *name, GDBusMessage *call);
+
+/* Of the main thread: it has taken such a one. */
+void service_has_passed(Service *service);
+
 /* What is known of a change of so many bytes that comes now; of its database, nothing. */
 DconfdbServed service_knows(Service *service, size_t size);
 
@@ -147,8 +156,10 @@ bool service_stop_writing(Service *service);
 /* False: it failed, which is told. */
 bool bus_register(Service *service);
 
-/* Answers a call by what became of its change; `why` is said where that has no words of its own. */
-void call_refuse(GDBusMethodInvocation *call, uint32_t served, const char *why);
+/* A call is answered once, and goes then: with words, or none (NULL); or by what became of its change, where `why` is said if that has no words of
+ * its own. */
+void call_answer(const Service *service, GDBusMessage *call, GVariant *words);
+void call_refuse(const Service *service, GDBusMessage *call, uint32_t served, const char *why);
 
 /* For `dconf blame`: who called, and what ran then. NULL: the environment doesn't ask for it. */
 Blame *blame_new(void);

@@ -86,7 +86,9 @@ Writer *writer_named(Service *service, const char *name, DconfdbError *error)
     if (!store)
         return NULL;
     writer = writer_new(service, name, store);
+    g_mutex_lock(&service->lock);
     g_hash_table_insert(service->writers, writer->name, writer);
+    g_mutex_unlock(&service->lock);
     writer_watch(writer);
     return writer;
 }

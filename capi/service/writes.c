@@ -72,12 +72,13 @@ static char *tag_of(const Change *change)
 
 static void answer(const Run *run, Change *change, const char *tag)
 {
-    GDBusMethodInvocation *call = g_steal_pointer(&change->call);
+    const Service *service = run->writer->service;
+    GDBusMessage *call = g_steal_pointer(&change->call);
     uint32_t served = served_of(run, change);
     if (served == DCONFDB_SERVED_ACKNOWLEDGED)
-        g_dbus_method_invocation_return_value(call, g_variant_new("(s)", tag));
+        call_answer(service, call, g_variant_new("(s)", tag));
     else
-        call_refuse(call, served, served == DCONFDB_SERVED_CLOSED ? run->refusal.text : run->fault.text);
+        call_refuse(service, call, served, served == DCONFDB_SERVED_CLOSED ? run->refusal.text : run->fault.text);
 }
 
 /* Sorts the edits of a change by what is told of them. */
@@ -295,34 +296,6 @@ static void *work(void *data)
     return NULL;
 }
 
-void service_add(Service *service, Change *change)
-{
-    g_mutex_lock(&service->lock);
-    change->moment = order_clock();
-    g_queue_push_tail_link(&service->waiting, &change->link);
-    service->added++;
-    service->waiting_size += change->size;
-    g_cond_signal(&service->comes);
-    g_mutex_unlock(&service->lock);
-}
-
-DconfdbServed service_knows(Service *service, size_t size)
-{
-    g_mutex_lock(&service->lock);
-    DconfdbServed known = {.size = size, .waiting = service->added - service->settled, .waiting_size = service->waiting_size};
-    g_mutex_unlock(&service->lock);
-    known.names = g_hash_table_size(service->writers);
-    return known;
-}
-
-bool service_has_waiting(Service *service)
-{
-    g_mutex_lock(&service->lock);
-    bool has = service->settled < service->added;
-    g_mutex_unlock(&service->lock);
-    return has;
-}
-
 bool service_begin_writing(Service *service)
 {
     service->has_thread = thread_begin(&service->thread, work, service);
@@ -358,7 +331,7 @@ bool service_stop_writing(Service *service)
     GQueue late = G_QUEUE_INIT;
     const DconfdbServed known = {.waiting = take_late(service, &late)};
     for (const GList *at = late.head; at; at = at->next)
-        call_refuse(g_steal_pointer(&((Change *)at->data)->call), DCONFDB_SERVED_LATE, NULL);
+        call_refuse(service, g_steal_pointer(&((Change *)at->data)->call), DCONFDB_SERVED_LATE, NULL);
     if (service->has_thread && dconfdb_served_after(DCONFDB_SERVED_LEFT, &known) == DCONFDB_SERVED_GOES_ON)
         service->has_thread = pthread_join(service->thread, NULL) != 0;
     return !service->has_thread;

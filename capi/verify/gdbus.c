@@ -197,63 +197,118 @@ void g_string_chunk_free(GStringChunk *chunk) { free(chunk); }
 
 /* ---- calls */
 
-void call_begin(GDBusMethodInvocation *call)
+void call_begin(GDBusMessage *call)
 {
-    *call = (GDBusMethodInvocation){.references = 1, .words = value_new(some_bytes(), -1, false)};
+    *call = (GDBusMessage){.kind = A_CALL, .references = 1, .is_silent = any_bool(), .words = value_new(some_bytes(), -1, false)};
 }
 
-void call_end(GDBusMethodInvocation *call)
+void call_end(GDBusMessage *call)
 {
-    CHECK(call->references == 0 && call->answers == 1, "answer: each call is answered, once");
+    CHECK(call->references == 0 && call->answers == (call->is_silent ? 0 : 1), "answer: each call is answered, once");
     g_variant_unref(call->words);
 }
 
-GVariant *g_dbus_method_invocation_get_parameters(GDBusMethodInvocation *call)
+void invocation_begin(GDBusMethodInvocation *invocation, GDBusMessage *call)
 {
-    CHECK(call->references > 0, "memory: a call that is had");
+    *invocation = (GDBusMethodInvocation){.kind = AN_INVOCATION, .references = 1, .message = call};
+}
+
+GDBusMessage *g_dbus_method_invocation_get_message(GDBusMethodInvocation *invocation)
+{
+    CHECK(invocation->kind == AN_INVOCATION && invocation->references > 0, "memory: a call that is had");
+    return invocation->message;
+}
+
+static bool is_had(const GDBusMessage *message, ObjectKind kind)
+{
+    return message->kind == kind && message->references > 0;
+}
+
+GVariant *g_dbus_message_get_body(GDBusMessage *call)
+{
+    CHECK(is_had(call, A_CALL), "memory: a call that is had");
     return call->words;
 }
 
-GDBusMessage *g_dbus_method_invocation_get_message(GDBusMethodInvocation *call)
+GDBusMessageByteOrder g_dbus_message_get_byte_order(GDBusMessage *call)
 {
-    CHECK(call->references > 0, "memory: a call that is had");
-    return (GDBusMessage *)call;
-}
-
-GDBusMessageByteOrder g_dbus_message_get_byte_order(GDBusMessage *message)
-{
-    (void)message;
+    CHECK(is_had(call, A_CALL), "memory: a call that is had");
     return any_bool() ? G_DBUS_MESSAGE_BYTE_ORDER_BIG_ENDIAN : G_DBUS_MESSAGE_BYTE_ORDER_LITTLE_ENDIAN;
 }
 
-static void answer_to(GDBusMethodInvocation *call, bool is_refused)
+GDBusMessageFlags g_dbus_message_get_flags(GDBusMessage *call)
 {
-    CHECK(call->references > 0, "memory: a call that is had");
-    CHECK(call->answers == 0, "answer: a call is answered once");
-    call->answers++;
-    call->is_refused = is_refused;
-    call->references--;
+    CHECK(is_had(call, A_CALL), "memory: a call that is had");
+    return call->is_silent ? G_DBUS_MESSAGE_FLAGS_NO_REPLY_EXPECTED : G_DBUS_MESSAGE_FLAGS_NONE;
 }
 
-void g_dbus_method_invocation_return_value(GDBusMethodInvocation *call, GVariant *value)
+/* ---- answers */
+
+static GDBusMessage *answer_to(GDBusMessage *call, bool is_refused)
 {
-    answer_to(call, false);
-    if (value)
-        g_variant_unref(g_variant_ref_sink(value));
+    CHECK(is_had(call, A_CALL), "memory: a call that is had");
+    GDBusMessage *answer = g_malloc(sizeof *answer);
+    *answer = (GDBusMessage){.kind = AN_ANSWER, .references = 1, .is_refused = is_refused, .of = call};
+    return answer;
 }
 
-void g_dbus_method_invocation_return_error_literal(GDBusMethodInvocation *call, guint domain, gint code, const char *text)
+GDBusMessage *g_dbus_message_new_method_reply(GDBusMessage *call) { return answer_to(call, false); }
+
+GDBusMessage *g_dbus_message_new_method_error_literal(GDBusMessage *call, const char *name, const char *text)
 {
-    (void)domain, (void)code;
-    CHECK(__CPROVER_r_ok(text, 1), "memory: who is refused is told why");
-    answer_to(call, true);
+    CHECK(__CPROVER_r_ok(name, 1) && __CPROVER_r_ok(text, 1), "memory: who is refused is told why");
+    return answer_to(call, true);
+}
+
+void g_dbus_message_set_body(GDBusMessage *answer, GVariant *words)
+{
+    CHECK(is_had(answer, AN_ANSWER) && !answer->words, "memory: an answer that is had, and has no words");
+    answer->words = g_variant_ref_sink(words);
+}
+
+gboolean g_dbus_connection_send_message(GDBusConnection *bus, GDBusMessage *answer, gint flags, volatile uint32_t *number, GError **error)
+{
+    (void)bus, (void)flags, (void)number, (void)error;
+    CHECK(is_had(answer, AN_ANSWER) && is_had(answer->of, A_CALL), "memory: what is sent is had, and its call");
+    CHECK(answer->of->answers == 0 && !answer->of->is_silent, "answer: a call is answered once, if it wants that");
+    answer->of->answers++;
+    answer->of->is_refused = answer->is_refused;
+    return any_bool();
+}
+
+gpointer g_object_ref(gpointer object)
+{
+    CHECK(is_had(object, A_CALL), "memory: what is had once more is had");
+    ((GDBusMessage *)object)->references++;
+    return object;
+}
+
+static void call_unref(GDBusMessage *call)
+{
+    CHECK(call->references > 0, "memory: what is given back is had");
+    CHECK(--call->references > 0 || call->answers > 0 || call->is_silent, "answer: no call goes that isn't answered");
+}
+
+static void answer_unref(GDBusMessage *answer)
+{
+    CHECK(answer->references == 1, "memory: what is given back is had");
+    if (answer->words)
+        g_variant_unref(answer->words);
+    free(answer);
 }
 
 void g_object_unref(gpointer object)
 {
-    GDBusMethodInvocation *call = object;
-    CHECK(call->references > 0, "memory: what is given back is had");
-    CHECK(--call->references > 0 || call->answers > 0, "answer: no call goes that isn't answered");
+    GDBusMethodInvocation *invocation = object;
+    if (*(const ObjectKind *)object == AN_ANSWER) {
+        answer_unref(object);
+    } else if (*(const ObjectKind *)object == A_CALL) {
+        call_unref(object);
+    } else {
+        CHECK(invocation->references == 1, "memory: what is given back is had");
+        invocation->references = 0;
+        call_unref(invocation->message);
+    }
 }
 
 const char *g_dbus_connection_get_unique_name(GDBusConnection *bus)

@@ -5,7 +5,7 @@
 
 static unsigned waited;
 
-static void is_answered(const GDBusMethodInvocation *call, bool is_acknowledged) { (void)call, (void)is_acknowledged; }
+static void is_answered(const GDBusMessage *call, bool is_acknowledged) { (void)call, (void)is_acknowledged; }
 
 bool dconfdb_sleep_until(uint64_t again, uint64_t look, uint64_t now, uint64_t *wait)
 {

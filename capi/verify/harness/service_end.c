@@ -3,7 +3,7 @@
 
 /* narrows libdconfdb/dconfdb.h: char text[512]; => char text[8]; */
 
-static void is_answered(const GDBusMethodInvocation *call, bool is_acknowledged)
+static void is_answered(const GDBusMessage *call, bool is_acknowledged)
 {
     (void)call;
     CHECK(!is_acknowledged && none_is_held(), "order: who answers keeps nobody from anything");
@@ -40,10 +40,36 @@ int service_counts(void)
     if (one_more) {
         comes(2);
         service_add(&service, changes[2]);
-        CHECK(is_in(&service.waiting, changes[2]), "step: what comes waits");
+        CHECK(service.waiting.tail == &changes[2]->link, "order: what comes waits behind what came before");
         REACHED("one more");
     }
     CHECK(service_has_waiting(&service) == (some || one_more), "answer: whether one isn't answered");
+    all_are_answered_or_wait();
+    return 0;
+}
+
+/* harness service_takes: unwind 5, with glib.c, quick */
+int takes_or_passes(void)
+{
+    if (any_bool())
+        set_up();
+    service.has_thread = false;
+    if (any_bool())
+        ends();
+    const guint64 passing = service.passing = any_u32(), count = one_writer.count = any_u32();
+    bool takes = service_takes(&service, "a", calls_of[2]);
+    CHECK(takes == has_come[2], "answer: what is taken waits");
+    CHECK(!takes || (passing == 0 && !service.ends), "order: none is taken before one that is on its way to the main thread, and none at the end");
+    CHECK(service.passing == passing + (takes ? 0 : 1), "answer: what isn't taken is on its way to the main thread");
+    if (takes) {
+        CHECK(service.waiting.tail == &changes[2]->link, "order: what comes waits behind what came before");
+        CHECK(changes[2]->number == count && one_writer.count == count + 1, "answer: its number is the next one");
+        REACHED("it is taken");
+    } else {
+        service_has_passed(&service);
+        CHECK(service.passing == passing, "answer: the main thread has taken it");
+        REACHED("the main thread takes it");
+    }
     all_are_answered_or_wait();
     return 0;
 }

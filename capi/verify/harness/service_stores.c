@@ -123,6 +123,7 @@ gboolean g_hash_table_insert(GHashTable *table, gpointer key, gpointer value)
 {
     kept = value;
     CHECK(table == service.writers && key == kept->name, "memory: the name is there as long as who has it");
+    CHECK(is_held(&service.lock), "order: GDBus's own thread looks for none meanwhile");
     return TRUE;
 }
 

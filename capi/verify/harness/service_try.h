@@ -123,7 +123,7 @@ uint64_t dconfdb_moment_beside(const DconfdbTime *change, size_t n, const Dconfd
 
 /* ---- who is answered and told */
 
-static void is_answered(const GDBusMethodInvocation *call, bool is_acknowledged)
+static void is_answered(const GDBusMessage *call, bool is_acknowledged)
 {
     if (is_late)
         return;

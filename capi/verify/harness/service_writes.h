@@ -1,5 +1,6 @@
 /* The service's changes, up to three and of up to two databases, as the harnesses of service/writes.c have them. What reads, writes and tells answers in
  * any way. */
+#include "service/coming.c"
 #include "service/together.c"
 #include "service/writes.c"
 #include "glib_world.h"
@@ -15,11 +16,11 @@ static bool has_come[CHANGES], is_gone[CHANGES];
 
 /* Each is an object by itself, for CBMC's sake. */
 static Change first, second, third;
-static GDBusMethodInvocation first_call, second_call, third_call;
+static GDBusMessage first_call, second_call, third_call;
 static GArray first_edits, second_edits, third_edits;
 static GPtrArray first_unfit, second_unfit, third_unfit;
 static Change *const changes[CHANGES] = {&first, &second, &third};
-static GDBusMethodInvocation *const calls_of[CHANGES] = {&first_call, &second_call, &third_call};
+static GDBusMessage *const calls_of[CHANGES] = {&first_call, &second_call, &third_call};
 static GArray *const edits_of[CHANGES] = {&first_edits, &second_edits, &third_edits};
 static GPtrArray *const unfit_of[CHANGES] = {&first_unfit, &second_unfit, &third_unfit};
 static bool is_late; /* it is the main thread that answers, at the end */
@@ -114,9 +115,9 @@ uint32_t dconfdb_round_after(uint32_t task, const DconfdbRound *known)
 
 /* ---- answers */
 
-static void is_answered(const GDBusMethodInvocation *call, bool is_acknowledged);
+static void is_answered(const GDBusMessage *call, bool is_acknowledged);
 
-static void answers(GDBusMethodInvocation *call, bool is_acknowledged)
+static void answers(GDBusMessage *call, bool is_acknowledged)
 {
     is_answered(call, is_acknowledged);
     CHECK(call->references > 0 && call->answers == 0, "answer: a call is answered once");
@@ -124,8 +125,9 @@ static void answers(GDBusMethodInvocation *call, bool is_acknowledged)
     call->references--;
 }
 
-void call_refuse(GDBusMethodInvocation *call, uint32_t served, const char *why)
+void call_refuse(const Service *of, GDBusMessage *call, uint32_t served, const char *why)
 {
+    CHECK(of == &service, "step: of the service");
     CHECK(served > DCONFDB_SERVED_ACKNOWLEDGED && served <= DCONFDB_SERVED_LATE, "answer: there are words for it");
     CHECK(is_late == (served == DCONFDB_SERVED_LATE) && (is_late || why), "answer: the end is told by who ends");
     answers(call, false);
@@ -137,9 +139,10 @@ GVariant *g_variant_new(const char *format, ...)
     return NULL;
 }
 
-void g_dbus_method_invocation_return_value(GDBusMethodInvocation *call, GVariant *value)
+void call_answer(const Service *of, GDBusMessage *call, GVariant *words)
 {
-    (void)value;
+    (void)words;
+    CHECK(of == &service, "step: of the service");
     answers(call, true);
 }
 
@@ -148,6 +151,49 @@ const char *g_dbus_connection_get_unique_name(GDBusConnection *bus)
     (void)bus;
     return ":1";
 }
+
+/* ---- what comes, by GDBus's own thread */
+
+/* The third one. */
+Change *change_new(Writer *writer, GDBusMessage *call)
+{
+    CHECK(writer == &one_writer && call == calls_of[2] && is_held(&service.lock), "order: what comes is made and added at once");
+    comes(2);
+    changes[2]->writer = writer;
+    return changes[2];
+}
+
+gpointer g_hash_table_lookup(GHashTable *table, gconstpointer key)
+{
+    CHECK(table == service.writers && __CPROVER_r_ok(key, 1) && is_held(&service.lock), "order: no database comes into use meanwhile");
+    return any_bool() ? &one_writer : NULL;
+}
+
+guint g_hash_table_size(GHashTable *table)
+{
+    CHECK(table == service.writers && is_held(&service.lock), "order: no database comes into use meanwhile");
+    return any_u32();
+}
+
+GVariant *g_dbus_message_get_body(GDBusMessage *call)
+{
+    CHECK(call == calls_of[2], "memory: a call that is had");
+    return NULL;
+}
+
+GVariant *g_variant_get_child_value(GVariant *value, gsize at)
+{
+    CHECK(!value && at == 0, "memory: the words of a call");
+    return NULL;
+}
+
+gsize g_variant_get_size(GVariant *value)
+{
+    (void)value;
+    return any_u32();
+}
+
+void g_variant_unref(GVariant *value) { (void)value; }
 
 /* ---- the main thread */
 

@@ -260,7 +260,8 @@ fn a_site_is_looked_at_as_update_looks_at_it(rt: HostRuntime) -> Result<(), Fail
     assert!(rt; texts_of_a_site_are_read());
     assert!(rt; entry_number(&bad, &name, 0, &name) == 18);
     assert!(rt;
-        machines_folder(true) == b"/etc/dconf/db" && machines_folder(false) == b"/etc/dconfdb"
+        machines_folder(true) == b"/etc/dconf/db".as_slice()
+            && machines_folder(false) == b"/etc/dconfdb".as_slice()
     );
     Ok(())
 }

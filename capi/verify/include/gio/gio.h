@@ -5,6 +5,7 @@
 #include <glib.h>
 
 typedef enum { G_IO_IN = 1 } GIOCondition;
+gpointer g_object_ref(gpointer object);
 void g_object_unref(gpointer object);
 
 /* ---- values */
@@ -50,11 +51,13 @@ typedef struct GDBusMethodInvocation GDBusMethodInvocation;
 typedef struct { int references; } GDBusInterfaceInfo;
 typedef struct { GDBusInterfaceInfo **interfaces; } GDBusNodeInfo;
 typedef enum { G_DBUS_MESSAGE_BYTE_ORDER_BIG_ENDIAN = 'B', G_DBUS_MESSAGE_BYTE_ORDER_LITTLE_ENDIAN = 'l' } GDBusMessageByteOrder;
-typedef enum { G_DBUS_ERROR_FAILED, G_DBUS_ERROR_LIMITS_EXCEEDED, G_DBUS_ERROR_INVALID_ARGS, G_DBUS_ERROR_NOT_SUPPORTED } GDBusError;
-#define G_DBUS_ERROR 7
+typedef enum { G_DBUS_MESSAGE_FLAGS_NONE, G_DBUS_MESSAGE_FLAGS_NO_REPLY_EXPECTED } GDBusMessageFlags;
+typedef enum { G_DBUS_MESSAGE_TYPE_METHOD_CALL = 1, G_DBUS_MESSAGE_TYPE_SIGNAL = 4 } GDBusMessageType;
+enum { G_DBUS_SEND_MESSAGE_FLAGS_NONE };
 typedef void (*GDBusInterfaceMethodCallFunc)(GDBusConnection *bus, const char *sender, const char *object, const char *interface, const char *method,
                                              GVariant *words, GDBusMethodInvocation *call, gpointer data);
 typedef struct { GDBusInterfaceMethodCallFunc method_call; } GDBusInterfaceVTable;
+typedef GDBusMessage *(*GDBusMessageFilterFunction)(GDBusConnection *bus, GDBusMessage *message, gboolean comes, gpointer data);
 typedef struct {
     char **(*enumerate)(GDBusConnection *bus, const char *sender, const char *object, gpointer data);
     GDBusInterfaceInfo **(*introspect)(GDBusConnection *bus, const char *sender, const char *object, const char *node, gpointer data);
@@ -62,11 +65,20 @@ typedef struct {
                                             gpointer *given, gpointer data);
 } GDBusSubtreeVTable;
 #define G_DBUS_SUBTREE_FLAGS_DISPATCH_TO_UNENUMERATED_NODES 1
-GVariant *g_dbus_method_invocation_get_parameters(GDBusMethodInvocation *call);
 GDBusMessage *g_dbus_method_invocation_get_message(GDBusMethodInvocation *call);
-GDBusMessageByteOrder g_dbus_message_get_byte_order(GDBusMessage *message);
-void g_dbus_method_invocation_return_value(GDBusMethodInvocation *call, GVariant *value);
-void g_dbus_method_invocation_return_error_literal(GDBusMethodInvocation *call, guint domain, gint code, const char *text);
+GDBusMessageType g_dbus_message_get_message_type(GDBusMessage *message);
+const char *g_dbus_message_get_path(GDBusMessage *message);
+const char *g_dbus_message_get_interface(GDBusMessage *message);
+const char *g_dbus_message_get_member(GDBusMessage *message);
+const char *g_dbus_message_get_signature(GDBusMessage *message);
+GVariant *g_dbus_message_get_body(GDBusMessage *call);
+GDBusMessageByteOrder g_dbus_message_get_byte_order(GDBusMessage *call);
+GDBusMessageFlags g_dbus_message_get_flags(GDBusMessage *call);
+GDBusMessage *g_dbus_message_new_method_reply(GDBusMessage *call);
+GDBusMessage *g_dbus_message_new_method_error_literal(GDBusMessage *call, const char *name, const char *text);
+void g_dbus_message_set_body(GDBusMessage *answer, GVariant *words);
+gboolean g_dbus_connection_send_message(GDBusConnection *bus, GDBusMessage *answer, gint flags, volatile uint32_t *number, GError **error);
+guint g_dbus_connection_add_filter(GDBusConnection *bus, GDBusMessageFilterFunction filter, gpointer data, GDestroyNotify frees);
 const char *g_dbus_connection_get_unique_name(GDBusConnection *bus);
 gboolean g_dbus_connection_emit_signal(GDBusConnection *bus, const char *to, const char *object, const char *interface, const char *name, GVariant *words,
                                        GError **error);

@@ -1,0 +1,77 @@
+/* What comes waits to be written, in the order in which it comes: by the main thread, or, of a database that is in use, by GDBus's own. */
+#include "service.h"
+
+/* `lock` is held. */
+static void add(Service *service, Change *change)
+{
+    change->moment = order_clock();
+    change->number = change->writer->count++;
+    g_queue_push_tail_link(&service->waiting, &change->link);
+    service->added++;
+    service->waiting_size += change->size;
+}
+
+void service_add(Service *service, Change *change)
+{
+    g_mutex_lock(&service->lock);
+    add(service, change);
+    g_mutex_unlock(&service->lock);
+    g_cond_signal(&service->comes);
+}
+
+/* `lock` is held. */
+static DconfdbServed known_beside(const Service *service, size_t size)
+{
+    return (DconfdbServed){.size = size,
+                           .waiting = service->added - service->settled,
+                           .waiting_size = service->waiting_size,
+                           .names = g_hash_table_size(service->writers)};
+}
+
+DconfdbServed service_knows(Service *service, size_t size)
+{
+    g_mutex_lock(&service->lock);
+    DconfdbServed known = known_beside(service, size);
+    g_mutex_unlock(&service->lock);
+    return known;
+}
+
+/* Whether a change of that database may wait already. `lock` is held. */
+static bool may_wait(const Service *service, GDBusMessage *call)
+{
+    g_autoptr(GVariant) bytes = g_variant_get_child_value(g_dbus_message_get_body(call), 0);
+    DconfdbServed known = known_beside(service, g_variant_get_size(bytes));
+    known.is_used = true;
+    return dconfdb_served_after(DCONFDB_SERVED_CAME, &known) == DCONFDB_SERVED_GOES_ON;
+}
+
+/* The order in which they came is kept: none is taken here while one that came before it is on its way to the main thread. */
+bool service_takes(Service *service, const char *name, GDBusMessage *call)
+{
+    g_mutex_lock(&service->lock);
+    Writer *writer = service->passing > 0 || service->ends ? NULL : g_hash_table_lookup(service->writers, name);
+    bool takes = writer && may_wait(service, call);
+    if (takes)
+        add(service, change_new(writer, call));
+    else
+        service->passing++;
+    g_mutex_unlock(&service->lock);
+    if (takes)
+        g_cond_signal(&service->comes);
+    return takes;
+}
+
+void service_has_passed(Service *service)
+{
+    g_mutex_lock(&service->lock);
+    service->passing--;
+    g_mutex_unlock(&service->lock);
+}
+
+bool service_has_waiting(Service *service)
+{
+    g_mutex_lock(&service->lock);
+    bool has = service->settled < service->added;
+    g_mutex_unlock(&service->lock);
+    return has;
+}
