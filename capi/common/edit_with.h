@@ -24,7 +24,9 @@ static inline const uint8_t *edit_bytes(const void *data)
 /* Whether two edits say the same of one path, as the proved call has it. Their values are in normal form. */
 static inline bool is_same_word(const DconfdbEdit *one, const DconfdbEdit *other)
 {
-    size_t len = one->type ? strlen(one->type) : 0, other_len = other->type ? strlen(other->type) : 0;
+    size_t len = one->type ? strlen(one->type) : 0, other_len = len;
+    if (other->type != one->type)
+        other_len = other->type ? strlen(other->type) : 0;
     return dconfdb_is_same_word(one->type != NULL, edit_bytes(one->type), len, edit_bytes(one->data), one->size, other->type != NULL,
                                 edit_bytes(other->type), other_len, edit_bytes(other->data), other->size);
 }
