@@ -17,3 +17,4 @@ mod store_files;
 mod user_database;
 
 pub use commands::answered;
+pub use store_files::file_name;

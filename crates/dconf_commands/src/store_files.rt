@@ -136,8 +136,8 @@ fn read_database<F: Folder>(
     file_if_any(alloc, folder, name.as_str())
 }
 
-/// The name of the file that holds a database.
-pub(crate) fn file_name(alloc: Global, database: Database<'_>) -> Result<String, AllocError>
+/// The name of the file that holds a database: NAME.user of a user's, NAME.db of the system's, and PATH itself. The error is a failed allocation.
+pub fn file_name(alloc: Global, database: Database<'_>) -> Result<String, AllocError>
     ensures { IfOk result (λ name. string_bytes name ≡ database_file (database_of database.entry)) }
 {
     let name = database.name;
