@@ -21,12 +21,12 @@ static inline const uint8_t *edit_bytes(const void *data)
     return data ? data : dconfdb_empty_file;
 }
 
-/* Whether two edits say the same of one path, as the proved call has it. Their values are in normal form. */
+/* Whether two edits say the same of one path, as the proved call has it. Their values are in normal form. Of one text, as GLib has it for all values
+ * of a type, no byte needs to be compared. */
 static inline bool is_same_word(const DconfdbEdit *one, const DconfdbEdit *other)
 {
-    size_t len = one->type ? strlen(one->type) : 0, other_len = len;
-    if (other->type != one->type)
-        other_len = other->type ? strlen(other->type) : 0;
+    bool is_one = one->type == other->type;
+    size_t len = is_one || !one->type ? 0 : strlen(one->type), other_len = is_one || !other->type ? 0 : strlen(other->type);
     return dconfdb_is_same_word(one->type != NULL, edit_bytes(one->type), len, edit_bytes(one->data), one->size, other->type != NULL,
                                 edit_bytes(other->type), other_len, edit_bytes(other->data), other->size);
 }

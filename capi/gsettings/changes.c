@@ -45,14 +45,14 @@ Change *change_new(size_t most, size_t paths)
     return change;
 }
 
-void change_add(Change *change, const char *path, GVariant *value)
+void change_add(Change *change, const char *path, size_t len, GVariant *value)
 {
     g_assert(change->count < change->most);
     Edit *edit = &change->edits[change->count++];
-    edit->len = strlen(path);
-    edit->path = memcpy(change->room, path, edit->len + 1);
-    change->room += edit->len + 1;
-    edit->hash = path_hash(edit->path, edit->len);
+    edit->len = len;
+    edit->path = memcpy(change->room, path, len + 1);
+    change->room += len + 1;
+    edit->hash = path_hash(path, len);
     edit->key = NO_KEY;
     edit->number = edit->before = 0;
     edit->change = change;

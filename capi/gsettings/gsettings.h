@@ -75,7 +75,7 @@ guint path_hash(const char *path, size_t len);
 
 /* With room for so many edits, and so many bytes of their paths, each with a zero byte. */
 Change *change_new(size_t most, size_t paths);
-void change_add(Change *change, const char *path, GVariant *value);
+void change_add(Change *change, const char *path, size_t len, GVariant *value);
 void change_free(Change *change);
 
 /* What becomes of the change, by the proved call, beside what waits and the newest snapshot, if there is one. Resets of

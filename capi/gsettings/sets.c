@@ -45,8 +45,9 @@ static uint32_t make(DconfdbBackend *self, Change *change, GTree **told)
 
 gboolean dconfdb_backend_write(GSettingsBackend *backend, const char *key, GVariant *value, gpointer origin_tag)
 {
-    Change *change = change_new(1, strlen(key) + 1);
-    change_add(change, key, value);
+    size_t len = strlen(key);
+    Change *change = change_new(1, len + 1);
+    change_add(change, key, len, value);
     uint32_t entry = make(backend_of(backend), change, NULL);
     if (entry == DCONFDB_ENTRY_WAITS)
         g_settings_backend_changed(backend, key, origin_tag);
@@ -67,7 +68,7 @@ static gboolean add_length(gpointer key, gpointer value, gpointer length)
 
 static gboolean add_row(gpointer key, gpointer value, gpointer change)
 {
-    change_add(change, key, value);
+    change_add(change, key, strlen(key), value);
     return FALSE;
 }
 
@@ -91,6 +92,7 @@ void dconfdb_backend_sync(GSettingsBackend *backend)
     DconfdbBackend *self = backend_of(backend);
     if (store_sync(self))
         return;
-    g_autofree char *text = g_strdup_printf("%s: what was set is not on the disk yet; it goes on waiting", store_folder(self));
+    const char *folder = store_folder(self);
+    g_autofree char *text = g_strdup_printf("%s: what was set is not on the disk yet; it goes on waiting", folder ? folder : "no place for a store");
     say(self, text);
 }
