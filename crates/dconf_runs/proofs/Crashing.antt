@@ -1,5 +1,5 @@
 -- Attempts one after another, by the calls that made them.
-use Rattle.std.proofs.Common.{◌++◌, ◌∷◌, [], inl, inr, ℕ, List, Option, Some, None, length, refl, sym, subst}
+use Rattle.std.proofs.Common.{◌++◌, ◌∷◌, [], inl, inr, List, Option, Some, None, length, refl, sym, subst}
 use Rattle.std.specs.List.{AllByRecursion}
 use Rattle.dconf_model.specs.Folders.{Event, Grows, IsLeft, read_content}
 use Rattle.dconf_model.specs.Commands.{Command}
@@ -13,11 +13,12 @@ use Rattle.dconf_model.specs.Survivals.RunEnd.{stopped, crashed}
 use Rattle.dconf_model.proofs.FolderLaws.{counts_now, longer}
 use Rattle.dconf_model.proofs.SurvivalLaws.{nothing_is_lost, next_run_finds_all}
 use Rattle.dconf_runs.specs.declared.attempt.Attempt.{Attempt}
+use Rattle.dconf_runs.specs.declared.request.Ended.{Ended}
 use Rattle.dconf_runs.specs.Programs.{asked_of, AreAttempts, IsAttempt, NothingIsLostBy}
 
 -- one after another, in a folder that nothing else changes
-abbrev pub HaveComeInTurn : List Event → List Attempt → List (Option ℕ) → List Event → Type 0
-HaveComeInTurn old attempts statuses new = (tried : List Tried) × AreAttempts attempts statuses tried × CameInTurn old tried new
+abbrev pub HaveComeInTurn : List Event → List Attempt → List (Option Ended) → List Event → Type 0
+HaveComeInTurn old attempts lefts new = (tried : List Tried) × AreAttempts attempts lefts tried × CameInTurn old tried new
 
 -- ---- one attempt more
 
@@ -26,20 +27,20 @@ turn_more : (old mid new : List Event) (all : List Tried) (t : Tried) → CameIn
 turn_more old mid new [] t same came = (new, subst (λ es. CameTo t.command t.input t.end es new) same came, refl)
 turn_more old mid new (q ∷ all) t turn came = (turn.0, turn.1, turn_more turn.0 mid new all t turn.2 came)
 
-attempts_more : (attempts : List Attempt) (statuses : List (Option ℕ)) (all : List Tried) (a : Attempt) (status : Option ℕ) (t : Tried) →
-    AreAttempts attempts statuses all → IsAttempt a status t → AreAttempts (attempts ++ a ∷ []) (statuses ++ status ∷ []) (all ++ t ∷ [])
-attempts_more [] [] [] a status t are is = (is, tt)
-attempts_more (b ∷ attempts) (n ∷ statuses) (q ∷ all) a status t are is = (are.0, attempts_more attempts statuses all a status t are.1 is)
-attempts_more [] [] (q ∷ all) a status t are is = absurd are
-attempts_more [] (n ∷ statuses) all a status t are is = absurd are
-attempts_more (b ∷ attempts) [] all a status t are is = absurd are
-attempts_more (b ∷ attempts) (n ∷ statuses) [] a status t are is = absurd are
+attempts_more : (attempts : List Attempt) (lefts : List (Option Ended)) (all : List Tried) (a : Attempt) (left : Option Ended) (t : Tried) →
+    AreAttempts attempts lefts all → IsAttempt a left t → AreAttempts (attempts ++ a ∷ []) (lefts ++ left ∷ []) (all ++ t ∷ [])
+attempts_more [] [] [] a left t are is = (is, tt)
+attempts_more (b ∷ attempts) (n ∷ lefts) (q ∷ all) a left t are is = (are.0, attempts_more attempts lefts all a left t are.1 is)
+attempts_more [] [] (q ∷ all) a left t are is = absurd are
+attempts_more [] (n ∷ lefts) all a left t are is = absurd are
+attempts_more (b ∷ attempts) [] all a left t are is = absurd are
+attempts_more (b ∷ attempts) (n ∷ lefts) [] a left t are is = absurd are
 
-pub one_attempt_more : (old mid new : List Event) (attempts : List Attempt) (statuses : List (Option ℕ)) (a : Attempt) (status : Option ℕ) (t : Tried) →
-    HaveComeInTurn old attempts statuses mid → IsAttempt a status t → CameTo t.command t.input t.end mid new →
-    HaveComeInTurn old (attempts ++ a ∷ []) (statuses ++ status ∷ []) new
-one_attempt_more old mid new attempts statuses a status t h is came =
-    (h.0 ++ t ∷ [], attempts_more attempts statuses h.0 a status t h.1 is, turn_more old mid new h.0 t h.2 came)
+pub one_attempt_more : (old mid new : List Event) (attempts : List Attempt) (lefts : List (Option Ended)) (a : Attempt) (left : Option Ended) (t : Tried) →
+    HaveComeInTurn old attempts lefts mid → IsAttempt a left t → CameTo t.command t.input t.end mid new →
+    HaveComeInTurn old (attempts ++ a ∷ []) (lefts ++ left ∷ []) new
+one_attempt_more old mid new attempts lefts a left t h is came =
+    (h.0 ++ t ∷ [], attempts_more attempts lefts h.0 a left t h.1 is, turn_more old mid new h.0 t h.2 came)
 
 -- ---- a crash, at the end of what was done
 
@@ -71,19 +72,19 @@ came_crashed command input old new is = crashed_since old old new ([], refl) is
 
 -- ---- the law
 
-commands_are : (P : Command → Type 0) (attempts : List Attempt) (statuses : List (Option ℕ)) (all : List Tried) → AreAttempts attempts statuses all →
+commands_are : (P : Command → Type 0) (attempts : List Attempt) (lefts : List (Option Ended)) (all : List Tried) → AreAttempts attempts lefts all →
     AllByRecursion (λ (a : Attempt). P (asked_of a.request).0) attempts → AllByRecursion (λ (t : Tried). P t.command) all
 commands_are P [] [] [] are h = tt
-commands_are P (a ∷ attempts) (n ∷ statuses) (t ∷ all) are h = (subst P (sym are.0.command_is) h.0, commands_are P attempts statuses all are.1 h.1)
+commands_are P (a ∷ attempts) (n ∷ lefts) (t ∷ all) are h = (subst P (sym are.0.command_is) h.0, commands_are P attempts lefts all are.1 h.1)
 commands_are P [] [] (q ∷ all) are h = absurd are
-commands_are P [] (n ∷ statuses) all are h = absurd are
+commands_are P [] (n ∷ lefts) all are h = absurd are
 commands_are P (b ∷ attempts) [] all are h = absurd are
-commands_are P (b ∷ attempts) (n ∷ statuses) [] are h = absurd are
+commands_are P (b ∷ attempts) (n ∷ lefts) [] are h = absurd are
 
-pub nothing_is_lost_by : (old new : List Event) (attempts : List Attempt) (statuses : List (Option ℕ)) → HaveComeInTurn old attempts statuses new →
-    NothingIsLostBy old attempts statuses new
-nothing_is_lost_by old new attempts statuses h profile d ds own gs apart holds settled of =
-    let each = commands_are (IsChangeOf profile) attempts statuses h.0 h.1 of in (
+pub nothing_is_lost_by : (old new : List Event) (attempts : List Attempt) (lefts : List (Option Ended)) → HaveComeInTurn old attempts lefts new →
+    NothingIsLostBy old attempts lefts new
+nothing_is_lost_by old new attempts lefts h profile d ds own gs apart holds settled of =
+    let each = commands_are (IsChangeOf profile) attempts lefts h.0 h.1 of in (
       h.0,
       h.1,
       record {

@@ -14,6 +14,7 @@ use Rattle.dconf_model.specs.Programs.{AreApart, FolderHolds, IsChangeOf, IsQues
 use Rattle.dconf_model.specs.Survivals.{AskedCommand, AreKept, AreSettled, Attempt as Tried, FileHolds, RunEnd, asked_changes}
 use Rattle.command_words.specs.Commands.{command_of}
 use Rattle.dconf_runs.specs.declared.request.Request.{Request}
+use Rattle.dconf_runs.specs.declared.request.Ended.{Ended}
 use Rattle.dconf_model.specs.Bytes.{MaybeBytes}
 use Rattle.dconf_model.specs.Survivals.RunEnd.{ended, stopped, crashed}
 use Rattle.dconf_runs.specs.declared.attempt.Attempt.{Attempt}
@@ -52,22 +53,26 @@ GivesWhatWasWritten content earlier statuses last output =
 abbrev pub asked_of : Request → AskedCommand
 asked_of r = (command_of r.command, record { bytes = r.input.items; fails = false })
 
--- it came to its end with this status, or a crash stopped it or came before it
-abbrev pub IsEndOf : End → Option ℕ → RunEnd → Type 0
-IsEndOf Whole (Some status) (ended output) = output.status ≡ status
+-- what a run left is its output
+abbrev pub output_of : Ended → Output
+output_of e = record { out = e.out.items; err = e.err.items; status = e.status }
+
+-- it came to its end and left this, or a crash stopped it or came before it
+abbrev pub IsEndOf : End → Option Ended → RunEnd → Type 0
+IsEndOf Whole (Some left) (ended output) = output ≡ output_of left
 IsEndOf (Stopped call outcome) None stopped = Unit {0}
 IsEndOf (Crashed outcome) None crashed = Unit {0}
 IsEndOf _ _ _ = ⊥
 
 -- the model's attempt of ours
-pub record IsAttempt (attempt : Attempt) (status : Option ℕ) (tried : Tried) : Type 0 where
+pub record IsAttempt (attempt : Attempt) (left : Option Ended) (tried : Tried) : Type 0 where
   pub command_is : tried.command ≡ (asked_of attempt.request).0
   pub input_is : tried.input ≡ (asked_of attempt.request).1
-  pub end_is : IsEndOf attempt.end status tried.end
+  pub end_is : IsEndOf attempt.end left tried.end
 
-abbrev pub AreAttempts : List Attempt → List (Option ℕ) → List Tried → Type 0
+abbrev pub AreAttempts : List Attempt → List (Option Ended) → List Tried → Type 0
 AreAttempts [] [] [] = Unit {0}
-AreAttempts (attempt ∷ more) (status ∷ statuses) (tried ∷ others) = IsAttempt attempt status tried × AreAttempts more statuses others
+AreAttempts (attempt ∷ more) (left ∷ lefts) (tried ∷ others) = IsAttempt attempt left tried × AreAttempts more lefts others
 AreAttempts _ _ _ = ⊥
 
 -- What is kept of them: some commands, in order. Of these the file says whatever a crash leaves of it, and the folder stands so.
@@ -79,9 +84,9 @@ pub record IsKeptOf (tried : List Tried) (new : List Event) (profile : List ℕ)
       × FolderHolds (read_content new) profile d ds (own_after gs own (asked_changes kept)) gs
 
 -- Where the folder stood, and no crash changed it, and each command changes its first database.
-abbrev pub NothingIsLostBy : List Event → List Attempt → List (Option ℕ) → List Event → Type 0
-NothingIsLostBy old attempts statuses new =
+abbrev pub NothingIsLostBy : List Event → List Attempt → List (Option Ended) → List Event → Type 0
+NothingIsLostBy old attempts lefts new =
     (profile : List ℕ) (d : Database) (ds : List Database) (own : OwnValues) (gs : List Given) →
     AreApart profile d ds → FolderHolds (read_content old) profile d ds own gs → AreSettled old profile d ds →
     AllByRecursion (λ attempt. IsChangeOf profile (asked_of attempt.request).0) attempts →
-    (tried : List Tried) × AreAttempts attempts statuses tried × IsKeptOf tried new profile d ds own gs
+    (tried : List Tried) × AreAttempts attempts lefts tried × IsKeptOf tried new profile d ds own gs

@@ -5,7 +5,7 @@ ghost use Rattle.dconf_model.specs.Survivals.{Attempt as Tried, CameTo};
 ghost use Rattle.dconf_folders.specs.MemoryFolders.{IsPast};
 ghost use Rattle.dconf_runs.specs.Programs.{IsAttempt, NothingIsLostBy};
 
-use crate::request::{Request, run_unread};
+use crate::request::{Ended, Request, run_to_end, run_unread};
 use dconf_folders::{FolderFault, MemoryFolder};
 use std::alloc::Global;
 
@@ -28,42 +28,42 @@ pub struct Attempt {
     pub end: End,
 }
 
-/// Makes the attempts one after another, and gives the status of each whose run came to its end.
+/// Makes the attempts one after another, and gives what each left whose run came to its end.
 ///
-/// `Memory` comes where there is none for a status or a crash, after which nothing more is run. `Device` can't happen.
+/// `Memory` comes where there is none for that or a crash, after which nothing more is run, and `Device` where there is none for a text.
 pub fn run_through_crashes(
     alloc: Global,
     attempts: Vec<Attempt>,
     folder: &mut MemoryFolder,
-) -> Result<Vec<Option<u8>>, FolderFault>
+) -> Result<Vec<Option<Ended>>, FolderFault>
     // The user's file says what the commands make that answered 0, and some of those that were stopped, in order.
-    ensures kept { IfOk result (λ statuses. (old : List Event) → IsPast folder.old old
-        → (new : List Event) × IsPast folder.new new × NothingIsLostBy old attempts.items statuses.items new) }
-    ensures each { IfOk result (λ statuses. length statuses.items ≡ length attempts.items) }
+    ensures kept { IfOk result (λ all. (old : List Event) → IsPast folder.old old
+        → (new : List Event) × IsPast folder.new new × NothingIsLostBy old attempts.items all.items new) }
+    ensures each { IfOk result (λ all. length all.items ≡ length attempts.items) }
 {
-    let mut statuses = Vec::new(alloc);
+    let mut all = Vec::new(alloc);
     for attempt in attempts {
-        let status = attempt_one(alloc, attempt, folder)?;
-        if statuses.push(status).is_err() {
+        let ended = attempt_one(alloc, attempt, folder)?;
+        if all.push(ended).is_err() {
             return Err(FolderFault::Memory);
         }
     }
-    Ok(statuses)
+    Ok(all)
 }
 
-/// Makes one attempt, and gives its status if it came to its end.
+/// Makes one attempt, and gives what it left if it came to its end.
 fn attempt_one(
     alloc: Global,
     attempt: Attempt,
     folder: &mut MemoryFolder,
-) -> Result<Option<u8>, FolderFault>
-    ensures { IfOk result (λ status. (old : List Event) → IsPast folder.old old
+) -> Result<Option<Ended>, FolderFault>
+    ensures { IfOk result (λ ended. (old : List Event) → IsPast folder.old old
         → (new : List Event) × IsPast folder.new new
-        × ((tried : Tried) × IsAttempt attempt status tried × CameTo tried.command tried.input tried.end old new)) }
+        × ((tried : Tried) × IsAttempt attempt ended tried × CameTo tried.command tried.input tried.end old new)) }
 {
     let Attempt { request, end } = attempt;
     match end {
-        End::Whole => Ok(Some(run_unread(alloc, request, folder)?)),
+        End::Whole => Ok(Some(run_to_end(alloc, request, folder)?)),
         End::Stopped { call, outcome } => {
             folder.fail_at(call);
             run_unread(alloc, request, folder)?;

@@ -5,7 +5,7 @@
 //!
 //! What can never happen: a run is left out, or comes in another place.
 //!
-//! What a call costs: what its runs cost, and memory for a status of each.
+//! What a call costs: what its runs cost, and memory for what each leaves.
 #![tactic(auto)]
 
 mod attempt;
@@ -14,4 +14,4 @@ mod request;
 
 pub use attempt::{Attempt, End, run_through_crashes};
 pub use program::{Statuses, run_after};
-pub use request::Request;
+pub use request::{Ended, Request};

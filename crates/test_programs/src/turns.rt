@@ -5,7 +5,7 @@ use crate::script::words_of;
 use crate::streams::{Source, Streams};
 use dconf_cli::{Asked, Command, command};
 use dconf_folders::{FolderFault, MemoryFolder};
-use dconf_runs::{Attempt, End, Request, Statuses, run_after, run_through_crashes};
+use dconf_runs::{Attempt, End, Ended, Request, Statuses, run_after, run_through_crashes};
 use std::alloc::{AllocError, Global};
 use std::test::Fail;
 use test_rows::script;
@@ -111,6 +111,18 @@ fn with_value(alloc: Global, value: u8) -> Result<String, AllocError> {
     format!(in alloc; "[Some(0), None, None, Some(0)] [] 0\n{dump}")
 }
 
+/// The statuses of those that came to their end.
+fn statuses_of(alloc: Global, all: Vec<Option<Ended>>) -> Result<Vec<Option<u8>>, Fail> {
+    let mut statuses = Vec::new(alloc);
+    for ended in all {
+        match ended {
+            Some(ended) => statuses.push(Some(ended.status))?,
+            None => statuses.push(None)?,
+        }
+    }
+    Ok(statuses)
+}
+
 /// How many crashes are tried. Each has another number, and there are fewer kinds.
 const CRASHES: u64 = 16;
 
@@ -120,7 +132,7 @@ fn seen_after(alloc: Global, call: u64) -> Result<(bool, bool), Fail> {
     for outcome in 0..CRASHES {
         let mut folder = two_layers(alloc, "/x\n")?;
         let attempts = attempts(alloc, call, outcome)?;
-        let statuses = run_through_crashes(alloc, attempts, &mut folder)?;
+        let statuses = statuses_of(alloc, run_through_crashes(alloc, attempts, &mut folder)?)?;
         let dumped = left_after(alloc, &mut folder, "dump /")?;
         let left = format!(in alloc; "{statuses:?} {dumped}")?;
         let is_old = left == with_value(alloc, 1)?;

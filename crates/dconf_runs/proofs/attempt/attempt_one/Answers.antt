@@ -1,21 +1,23 @@
 use Rattle.std.proofs.Common.{Some, None, refl, sym, subst}
 use Rattle.dconf_model.specs.Survivals.{Attempt as Tried}
 use Rattle.dconf_model.specs.Survivals.RunEnd.{ended, stopped, crashed}
-use Rattle.dconf_runs.specs.Programs.{asked_of, IsEndOf}
+use Rattle.dconf_runs.specs.Programs.{asked_of, output_of, IsEndOf}
+use Rattle.dconf_runs.specs.declared.request.Ended.{Ended}
 use Rattle.dconf_folders.specs.MemoryFolders.{IsPast, events_of, AddsTouches}
 use Rattle.dconf_runs.proofs.Crashing.{came_crashed, came_stopped}
 use Rattle.dconf_runs.proofs.attempt.attempt_one.Goals as goal
 
-pub returns-in_ok-run_unread-in-Whole : goal.returns-in_ok-run_unread-in-Whole
-returns-in_ok-run_unread-in-Whole c = λ old past.
-    let ran = c.in_ok-run_unread-in-Whole.ensures.ran refl old past in
-    let tried : Tried = record { command = (asked_of c.args.attempt.request).0; input = (asked_of c.args.attempt.request).1; end = ended ran.2.0 } in (
+pub returns-in_ok-run_to_end-in-Whole : goal.returns-in_ok-run_to_end-in-Whole
+returns-in_ok-run_to_end-in-Whole c = λ old past.
+    let ran = c.in_ok-run_to_end-in-Whole.ensures.ran refl old past in
+    let left : Ended = c.in_ok-run_to_end-in-Whole.field-0 in
+    let tried : Tried = record { command = (asked_of c.args.attempt.request).0; input = (asked_of c.args.attempt.request).1; end = ended (output_of left) } in (
       ran.0,
       ran.1,
       (
         tried,
-        record { command_is = refl; input_is = refl; end_is = subst (λ end. IsEndOf end (Some c.in_ok-run_unread-in-Whole.field-0) tried.end) (sym c.in-Whole.is) ran.2.2 },
-        ran.2.1,
+        record { command_is = refl; input_is = refl; end_is = subst (λ end. IsEndOf end (Some left) tried.end) (sym c.in-Whole.is) refl },
+        ran.2,
       ),
     )
 

@@ -33,5 +33,10 @@ returns-clause-ran g c = λ honest old past.
     c.failures-writes.ensures c.failures-else-not-none_failed.ensures in (
       ran.2.0,
       ran.2.1,
-      (ran.2.2.0, subst (λ (i : Input). Ran (command_of c.args.request.command) i old ran.2.0 ran.2.2.0) all ran.2.2.1, sym (ran.2.2.3.out calm).1),
+      (ran.2.2.0, subst (λ (i : Input). Ran (command_of c.args.request.command) i old ran.2.0 ran.2.2.0) all ran.2.2.1, sym (ran.2.2.3.out calm).1, ran.2.2.3),
     )
+
+pub returns-clause-unfailed : goal.returns-clause-unfailed
+returns-clause-unfailed g c =
+    none_between _ _ (failures_of c.args.out.now) (failures_of c.run-status.new.out) (c.none_failed-else-not-none_failed.ensures c.if-not-none_failed-2.false)
+    c.failures-writes.ensures c.failures-else-not-none_failed.ensures
