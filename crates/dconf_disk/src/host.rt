@@ -11,7 +11,7 @@ use crate::reading::read_opened;
 use dconf_folders::{Folder, FolderFault, LARGEST_FILE, Old, Record, folder_of};
 use std::alloc::Global;
 use std::fs::{OpenFile, OpenOptions};
-use std::io::{ErrorKind, Write};
+use std::io::Write;
 use std::rt::Files;
 use std::{fmt, fs, io};
 

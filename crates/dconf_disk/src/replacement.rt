@@ -1,5 +1,5 @@
 //! Replaces a file, so that a crash leaves the old bytes or the new ones.
-ghost use Rattle.std.specs.Prelude.{◌≡◌, ◌⊎◌, ◌∷◌, ℕ, List, true, false, IsTrue, OnOk, OnErr, IsErrOf, length};
+ghost use Rattle.std.specs.Prelude.{◌≡◌, ◌⊎◌, List, true, false, IsTrue, OnOk, OnErr, IsErrOf, length};
 ghost use Rattle.dconf_model.specs.Folders.{Event};
 ghost use Rattle.dconf_model.specs.Replacing.{Replaced, MaybeReplaced, new_name};
 ghost use Rattle.dconf_folders.specs.Staging.{staged_onto, settled_onto};

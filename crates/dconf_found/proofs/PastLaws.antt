@@ -1,5 +1,5 @@
 -- What was done to a folder that was found, call by call.
-use Rattle.std.proofs.Common.{◌≡◌, inl, inr, ℕ, Bool, true, false, Result, Ok, Err, OnOk, OnErr, IfSome, IsSome, Option, Some, None, List, [], ◌∷◌, ◌++◌, cond, IsErrOf, refl, sym, ◌∙◌, ap, subst}
+use Rattle.std.proofs.Common.{◌≡◌, ℕ, Bool, true, false, Result, Ok, Err, OnOk, OnErr, IfSome, IsSome, Option, Some, None, List, [], ◌∷◌, ◌++◌, cond, IsErrOf, refl, sym, ◌∙◌, ap, subst}
 use Rattle.std.specs.List.{list_any}
 use Rattle.std.specs.Prelude.{◌||◌, map}
 use Rattle.std.specs.String.{string_bytes}

@@ -1,12 +1,12 @@
 -- What a folder has by other names: by them it has the same.
-use Rattle.std.proofs.Common.{◌≡◌, ◌≢◌, ◌⊎◌, inl, inr, ℕ, Bool, true, false, List, [], ◌∷◌, ◌++◌, Option, Some, None, map, refl, sym, ◌∙◌, ap}
+use Rattle.std.proofs.Common.{◌≡◌, ◌≢◌, ◌⊎◌, inl, inr, ℕ, Bool, true, false, List, [], ◌∷◌, ◌++◌, Option, Some, None, refl, sym, ◌∙◌, ap}
 use Rattle.std.specs.Prelude.{if◌then◌else◌, ◌+◌}
 use Rattle.std.specs.Str.{bytes_eq}
 use Rattle.dconf_model.specs.Folders.{Event, content, content_of, file_of, files_made, is_file, read_content}
 use Rattle.dconf_model.specs.Folders.Event.{create, append, sync, touch, rename, remove, link, exchange, sync_folder}
-use Rattle.dconf_model.proofs.SameBytes.{itself, other_path, same_or_not, same_path, path_itself}
+use Rattle.dconf_model.proofs.SameBytes.{itself, other_path, same_or_not, path_itself}
 use Rattle.dconf_folders.specs.Asides.{is_free_for, is_none_or}
-use Rattle.dconf_found.specs.Renamed.{Names, held_event, held_events, held_name, swapped}
+use Rattle.dconf_found.specs.Renamed.{Names, held_events, held_name, swapped}
 
 -- ---- a swap, twice, is none
 
