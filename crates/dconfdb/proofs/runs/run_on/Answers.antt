@@ -15,8 +15,7 @@ returns-clause-calm g c = λ honest none.
 pub returns-clause-ran : goal.returns-clause-ran
 returns-clause-ran g c = λ honest.
     let old = events_of c.args.folder.now in
-    let r = c.run_in.ensures.ran honest old refl in
-    (
+    let r = c.run_in.ensures.ran honest old refl in (
       r.0,
       r.1,
       (
