@@ -12,11 +12,12 @@ pub struct Heard<S> {
 }
 
 impl<S> Heard<S> {
-    ghost use Rattle.dconf_words.specs.Hearing.{heard_of};
+    ghost use Rattle.dconf_words.specs.Hearing.{heard_of, stream_of};
 
     /// The stream, through which nothing went yet.
     pub fn new(alloc: Global, stream: S) -> Heard<S>
-        ensures { heard_of result ≡ [] }
+        ensures text { heard_of result ≡ [] }
+        ensures stream { stream_of result ≡ stream }
     {
         Heard {
             stream,
@@ -31,7 +32,9 @@ impl<S> Heard<S> {
         self.text.as_slice()
     }
 
-    fn hear(&mut self, bytes: &[u8]) {
+    fn hear(&mut self, bytes: &[u8])
+        ensures { stream_of self.new ≡ stream_of self.old }
+    {
         if self.text.extend_from_slice(bytes).is_err() {
             self.text.clear();
         }
@@ -39,6 +42,10 @@ impl<S> Heard<S> {
 }
 
 impl<W: Write> Write for Heard<W> {
+    ghost use Rattle.dconf_words.specs.Hearing.{passed_on};
+
+    ghost contents = { passed_on W.contents };
+
     fn write(&mut self, buf: &[u8]) -> io::Result<usize> {
         let took = self.stream.write(buf)?;
         if took <= buf.len() {
@@ -53,6 +60,10 @@ impl<W: Write> Write for Heard<W> {
 }
 
 impl<R: Read> Read for Heard<R> {
+    ghost use Rattle.dconf_words.specs.Hearing.{passed_on};
+
+    ghost remaining = { passed_on R.remaining };
+
     fn read(&mut self, buf: &mut [u8]) -> io::Result<usize> {
         let got = self.stream.read(buf)?;
         if got <= buf.len() {

@@ -6,7 +6,12 @@ ghost use Rattle.dconf_model.specs.Reads.{Input};
 ghost use Rattle.dconf_model.specs.Runs.{Ran, RanCalmly};
 ghost use Rattle.command_words.specs.Commands.{command_of};
 ghost use Rattle.dconf_disk.specs.StdFolders.{can_write, events_of, failures_of, is_honest};
+ghost use Rattle.dconf_words.specs.Hearing.{passed_on};
+ghost use Rattle.dconf_streams.specs.Counted as of_stream;
+ghost use Rattle.dconf_streams.specs.Inputs.{Took};
 ghost use Rattle.dconf_streams.specs.Streams.{NoneFailed};
+ghost use Rattle.dconf_cli.specs.Outputs.{Leaves};
+ghost use Rattle.dconf_cli.specs.Runs.{KeepsFiles, RanAnywhere};
 ghost use Rattle.dconf_found.specs.FoundFolders as found;
 ghost use Rattle.dconf_found.specs.FoundFolders.{IsPast, agrees, inner_of};
 ghost use Rattle.dconf_found.specs.Renamed.{IsRenamed, renamed_inner};
@@ -225,24 +230,35 @@ fn users_file(rt: &HostRuntime, found: &Found) -> Result<String, AllocError> {
     user_file(alloc, profile, &bytes)
 }
 
-/// Runs the command on a folder and these streams.
-///
-/// If the host's answers were those of a folder that held what this one did, the run did to it, and gave, exactly what that, the words and an
-/// input say.
-fn run_on<I: Read, O: Write, E: Write>(
+/// Runs the command on a folder and these streams, and explains a refusal. By `dconf_cli::run`: what it says of its streams and its status is so
+/// of those of the session, and of the status here.
+fn run_in<F: Folder, I: Read, O: Write, E: Write>(
     rt: &HostRuntime,
     asked: Command,
-    folder: &mut StdFolder<&HostRuntime>,
+    given: Option<Given>,
+    folder: &mut F,
     session: &mut Session<I, O, E>,
 ) -> u8
-    ensures calm { IsTrue (is_honest folder.new) → NoneFailed (failures_of folder.old) (failures_of folder.new)
-        → (i : Input) × ((output : Output) × RanCalmly (command_of asked) i (events_of folder.old) (events_of folder.new) output) }
-    ensures ran { IsTrue (is_honest folder.new)
-        → (i : Input) × ((output : Output) × Ran (command_of asked) i (events_of folder.old) (events_of folder.new) output) }
-    // Without the turn to replace files nothing was done to it.
-    ensures untouched { can_write folder.old ≡ false → events_of folder.new ≡ events_of folder.old }
+    ensures calm { IsTrue (F.honest folder.new) → NoneFailed (F.failed folder.old) (F.failed folder.new)
+        → (old : List Event) → F.past folder.old old
+        → (i : Input) × Took I.remaining session.old.input session.new.input i
+        × ((new : List Event) × F.past folder.new new
+        × ((output : Output) × RanCalmly (command_of asked) i old new output
+        × Leaves O.contents (passed_on E.contents) session.old.out session.new.out session.old.err session.new.err output result)) }
+    ensures ran { IsTrue (F.honest folder.new) → (old : List Event) → F.past folder.old old
+        → (i : Input) × Took I.remaining session.old.input session.new.input i
+        × ((new : List Event) × F.past folder.new new
+        × ((output : Output) × Ran (command_of asked) i old new output
+        × KeepsFiles (command_of asked) i old new output
+        × Leaves O.contents (passed_on E.contents) session.old.out session.new.out session.old.err session.new.err output result)) }
+    ensures anywhere { (i : Input) × Took I.remaining session.old.input session.new.input i
+        × ((output : Output) × RanAnywhere (F.failed folder.old) (F.failed folder.new) (command_of asked) i output
+        × Leaves O.contents (passed_on E.contents) session.old.out session.new.out session.old.err session.new.err output result) }
+    ensures zero { result ≡ 0 → (F.failed folder.new ≡ F.failed folder.old)
+        × (of_stream.failures_of session.new.input ≡ of_stream.failures_of session.old.input)
+        × (of_stream.failures_of session.new.out ≡ of_stream.failures_of session.old.out) }
+    ensures untouched { F.holds_turn folder.old ≡ false → (es : List Event) → F.past folder.old es → F.past folder.new es }
 {
-    let given = Given::of(rt, &asked);
     let status = run(
         rt.alloc(),
         asked,
@@ -255,6 +271,39 @@ fn run_on<I: Read, O: Write, E: Write>(
         explain(rt, given, session.err.get_ref().text());
     }
     status
+}
+
+/// Runs the command on a folder and these streams.
+///
+/// If the host's answers were those of a folder that held what this one did, the run did to it, and gave, exactly what that, the words and its
+/// input say: what it gave is on these streams, and in the status.
+fn run_on<I: Read, O: Write, E: Write>(
+    rt: &HostRuntime,
+    asked: Command,
+    folder: &mut StdFolder<&HostRuntime>,
+    session: &mut Session<I, O, E>,
+) -> u8
+    ensures calm { IsTrue (is_honest folder.new) → NoneFailed (failures_of folder.old) (failures_of folder.new)
+        → (i : Input) × Took I.remaining session.old.input session.new.input i
+        × ((output : Output) × RanCalmly (command_of asked) i (events_of folder.old) (events_of folder.new) output
+        × Leaves O.contents (passed_on E.contents) session.old.out session.new.out session.old.err session.new.err output result) }
+    ensures ran { IsTrue (is_honest folder.new)
+        → (i : Input) × Took I.remaining session.old.input session.new.input i
+        × ((output : Output) × Ran (command_of asked) i (events_of folder.old) (events_of folder.new) output
+        × KeepsFiles (command_of asked) i (events_of folder.old) (events_of folder.new) output
+        × Leaves O.contents (passed_on E.contents) session.old.out session.new.out session.old.err session.new.err output result) }
+    // Whatever the host answered: what its answers give, and 0 only if none of them was a failure.
+    ensures anywhere { (i : Input) × Took I.remaining session.old.input session.new.input i
+        × ((output : Output) × RanAnywhere (failures_of folder.old) (failures_of folder.new) (command_of asked) i output
+        × Leaves O.contents (passed_on E.contents) session.old.out session.new.out session.old.err session.new.err output result) }
+    ensures zero { result ≡ 0 → (failures_of folder.new ≡ failures_of folder.old)
+        × (of_stream.failures_of session.new.input ≡ of_stream.failures_of session.old.input)
+        × (of_stream.failures_of session.new.out ≡ of_stream.failures_of session.old.out) }
+    // Without the turn to replace files nothing was done to it.
+    ensures untouched { can_write folder.old ≡ false → events_of folder.new ≡ events_of folder.old }
+{
+    let given = Given::of(rt, &asked);
+    run_in(rt, asked, given, folder, session)
 }
 
 /// The same on a store that was found.
@@ -270,32 +319,33 @@ fn run_within<I: Read, O: Write, E: Write>(
 ) -> u8
     ensures calm { IsTrue (is_honest (renamed_inner (inner_of folder.new)) && agrees folder.new) → NoneFailed (found.failures_of folder.old) (found.failures_of folder.new)
         → (old : List Event) → IsPast (IsRenamed (λ f es. es ≡ events_of f)) folder.old old
-        → (i : Input) × ((new : List Event) × IsPast (IsRenamed (λ f es. es ≡ events_of f)) folder.new new
-        × ((output : Output) × RanCalmly (command_of asked) i old new output)) }
+        → (i : Input) × Took I.remaining session.old.input session.new.input i
+        × ((new : List Event) × IsPast (IsRenamed (λ f es. es ≡ events_of f)) folder.new new
+        × ((output : Output) × RanCalmly (command_of asked) i old new output
+        × Leaves O.contents (passed_on E.contents) session.old.out session.new.out session.old.err session.new.err output result)) }
     ensures ran { IsTrue (is_honest (renamed_inner (inner_of folder.new)) && agrees folder.new)
         → (old : List Event) → IsPast (IsRenamed (λ f es. es ≡ events_of f)) folder.old old
-        → (i : Input) × ((new : List Event) × IsPast (IsRenamed (λ f es. es ≡ events_of f)) folder.new new
-        × ((output : Output) × Ran (command_of asked) i old new output)) }
+        → (i : Input) × Took I.remaining session.old.input session.new.input i
+        × ((new : List Event) × IsPast (IsRenamed (λ f es. es ≡ events_of f)) folder.new new
+        × ((output : Output) × Ran (command_of asked) i old new output
+        × KeepsFiles (command_of asked) i old new output
+        × Leaves O.contents (passed_on E.contents) session.old.out session.new.out session.old.err session.new.err output result)) }
+    // Whatever the host answered: what its answers give, and 0 only if none of them was a failure.
+    ensures anywhere { (i : Input) × Took I.remaining session.old.input session.new.input i
+        × ((output : Output) × RanAnywhere (found.failures_of folder.old) (found.failures_of folder.new) (command_of asked) i output
+        × Leaves O.contents (passed_on E.contents) session.old.out session.new.out session.old.err session.new.err output result) }
+    ensures zero { result ≡ 0 → (found.failures_of folder.new ≡ found.failures_of folder.old)
+        × (of_stream.failures_of session.new.input ≡ of_stream.failures_of session.old.input)
+        × (of_stream.failures_of session.new.out ≡ of_stream.failures_of session.old.out) }
     // Without the turn to replace files nothing was done to it.
     ensures untouched { can_write (renamed_inner (inner_of folder.old)) ≡ false → (old : List Event) → IsPast (IsRenamed (λ f es. es ≡ events_of f)) folder.old old
         → IsPast (IsRenamed (λ f es. es ≡ events_of f)) folder.new old }
 {
-    let mut given = Given::of(rt, &asked);
-    if let Some(given) = &mut given {
+    let mut named = Given::of(rt, &asked);
+    if let Some(given) = &mut named {
         given.names = store.names(rt).ok();
     }
-    let status = run(
-        rt.alloc(),
-        asked,
-        folder,
-        &mut session.input,
-        &mut session.out,
-        &mut session.err,
-    );
-    if let Some(given) = &given {
-        explain(rt, given, session.err.get_ref().text());
-    }
-    status
+    run_in(rt, asked, named, folder, session)
 }
 
 /// Says on err which file others have been replacing all the time.
