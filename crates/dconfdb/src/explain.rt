@@ -1,9 +1,10 @@
 //! What is said below the line of a refusal to a person who reads it: dconf_words' text, of what can be seen here.
 use crate::sources::is_folder;
 use command_words::Command;
+use dconf_commands::file_name;
 use dconf_disk::{Folder, StdFolder, folder_of};
 use dconf_found::Renames;
-use dconf_path::{Database, DatabaseKind, read_profile};
+use dconf_path::read_profile;
 use dconf_words::{About, Facts, Hint, Said, WORDS, Word};
 use std::alloc::{AllocError, Global};
 use std::env::{self, Env};
@@ -249,15 +250,6 @@ fn database_at_fault(
     match profile.databases().get(number) {
         Some(database) => whole(rt, file_name(alloc, *database)?.as_str()),
         None => Ok(String::new(alloc)),
-    }
-}
-
-fn file_name(alloc: Global, database: Database<'_>) -> Result<String, AllocError> {
-    let name = database.name;
-    match database.kind {
-        DatabaseKind::User => format!(in alloc; "{name}.user"),
-        DatabaseKind::System => format!(in alloc; "{name}.db"),
-        DatabaseKind::File => String::from_str(alloc, name),
     }
 }
 

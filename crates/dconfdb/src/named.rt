@@ -1,15 +1,13 @@
 //! The databases that the profile of a store names, for what is said of them.
+use dconf_commands::file_name;
 use dconf_disk::{Folder, StdFolder};
+use dconf_path::{Database, DatabaseKind};
+use dconf_places::{EVERYONES_FOLDER, kind_of_number};
 use dconf_surroundings::Found;
 use dconfdb_calls::{DconfdbName, profile_databases};
 use std::alloc::AllocError;
 use std::fs;
 use std::io::{self, ErrorKind};
-
-/// What the C library calls a database of the user, and one of the system.
-const USERS: u32 = 0;
-
-const SYSTEMS: u32 = 1;
 
 /// A profile is read in so many bytes at most, and else it names nothing here.
 const MOST_BYTES: usize = 16_777_216;
@@ -42,14 +40,24 @@ pub(crate) fn first_file(rt: &HostRuntime, found: &Found) -> Result<Option<Strin
     let Some(first) = names.first() else {
         return Ok(None);
     };
-    let Ok(name) = str::from_utf8(first.name) else {
+    let Some(first) = database_of(first) else {
         return Ok(None);
     };
-    match first.kind {
-        USERS => Ok(Some(format!(in alloc; "{name}.user")?)),
-        SYSTEMS if found.is_everyones() => Ok(Some(format!(in alloc; "/etc/dconfdb/{name}.db")?)),
-        SYSTEMS => Ok(Some(format!(in alloc; "{name}.db")?)),
-        _ => Ok(Some(String::from_str(alloc, name)?)),
+    let file = file_name(alloc, first)?;
+    if found.is_everyones() && matches!(first.kind, DatabaseKind::System) {
+        return Ok(Some(format!(in alloc; "{EVERYONES_FOLDER}/{file}")?));
+    }
+    Ok(Some(file))
+}
+
+/// The database that a line names, if its name is a text.
+fn database_of<'a>(named: &DconfdbName<'a>) -> Option<Database<'a>> {
+    match str::from_utf8(named.name) {
+        Ok(name) => Some(Database {
+            kind: kind_of_number(named.kind),
+            name,
+        }),
+        Err(_) => None,
     }
 }
 
@@ -75,17 +83,18 @@ fn warn_if_missing(
     shown: &str,
     database: &DconfdbName<'_>,
 ) -> io::Result<()> {
-    let Ok(name) = str::from_utf8(database.name) else {
+    let Some(database) = database_of(database) else {
         return Ok(());
     };
-    if database.kind != SYSTEMS {
+    if !matches!(database.kind, DatabaseKind::System) {
         return Ok(());
     }
-    let file = format!(in rt.alloc(); "{folder}/{name}.db")?;
-    match fs::metadata(rt, file.as_str()) {
+    let (name, file) = (database.name, file_name(rt.alloc(), database)?);
+    let path = format!(in rt.alloc(); "{folder}/{file}")?;
+    match fs::metadata(rt, path.as_str()) {
         Err(error) if error.kind() == ErrorKind::NotFound => {
             eprintln!(rt;
-                "warning: {shown}/profile names system-db:{name}, and there is no {shown}/{name}.db"
+                "warning: {shown}/profile names system-db:{name}, and there is no {shown}/{file}"
             )
         }
         _ => Ok(()),
