@@ -252,7 +252,8 @@ fn database_at_fault(
     }
 }
 
-fn file_name(alloc: Global, database: Database<'_>) -> Result<String, AllocError> {
+/// The name of the file that holds a database.
+pub(crate) fn file_name(alloc: Global, database: Database<'_>) -> Result<String, AllocError> {
     let name = database.name;
     match database.kind {
         DatabaseKind::User => format!(in alloc; "{name}.user"),
