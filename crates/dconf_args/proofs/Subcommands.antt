@@ -17,7 +17,7 @@ use Rattle.clap.specs.declared.parser.matches.ArgMatches.TheViews.{out-ArgMatche
 use Rattle.std.specs.Box.{box_value}
 use Rattle.clap.specs.declared.ArgMatches.{ArgMatches}
 use Rattle.clap.proofs.WalkLemmas.{first_value-rows, raw_values-rows}
-use Rattle.dconf_args.specs.Asked.{AsksToUpdate, HasValue, IsAskedBy, IsNamedBy, IsOf, IsParsedBy, IsPlacedBy, Takes, is_set}
+use Rattle.dconf_args.specs.Asked.{AsksToCompare, AsksToUpdate, HasValue, IsAskedBy, IsNamedBy, IsOf, IsParsedBy, IsPlacedBy, Takes, is_set}
 use Rattle.command_words.specs.declared.commands.Command.{Command}
 use Rattle.dconf_args.specs.CommandLine.{command_line, show_line}
 use Rattle.dconf_args.specs.declared.place.Place.{Place}
@@ -226,8 +226,8 @@ module _ (words : List Text) (name : Text) (sub : ArgMatches) (p : IsNamedBy wor
   same = same_Some _ _ (sym met.named ∙ p.named)
 
   -- one that is no other command is `show`
-  pub is_show : NoneOf name (take 13 command_names) → name ≡ codes "show"
-  is_show = last_name name (take 13 command_names) (codes "show") (subst (λ (n : Text). is_among n command_names ≡ true) (ap (λ q. q.0) same) met.one)
+  pub is_show : NoneOf name (take 14 command_names) → name ≡ codes "show"
+  is_show = last_name name (take 14 command_names) (codes "show") (subst (λ (n : Text). is_among n command_names ≡ true) (ap (λ q. q.0) same) met.one)
 
   -- a word that it requires has a value
   pub given : (asked : Text) → name ≡ asked → (id : Text) → is_option id ≡ false → wants (sub_named asked).rules id ≡ true → HasValue sub id
@@ -243,24 +243,38 @@ module _ (words : List Text) (name : Text) (sub : ArgMatches) (p : IsNamedBy wor
     values = subst₂ (λ f g. Takes f g command) (fun_ext (first_value-rows (found_of sub))) (fun_ext (raw_values-rows (found_of sub))) of.1;
   }
 
-  pub asks_to_update : (folder : Option Text) → name ≡ codes "update" → folder ≡ first_value (found_of sub) (codes "FOLDER") → AsksToUpdate words folder
-  asks_to_update folder is f = record {
+  pub asks_to_update : (folder : Option Text) (forces dry : Bool) → name ≡ codes "update" → folder ≡ first_value (found_of sub) (codes "FOLDER")
+      → forces ≡ is_set (first_value (found_of sub) (codes "force")) → dry ≡ is_set (first_value (found_of sub) (codes "dry-run")) → AsksToUpdate words folder forces dry
+  asks_to_update folder forces dry is f g h = record {
     rows = rows_of (found_of sub);
     named = p.named ∙ ap (λ (n : Text). Some (n, rows_of (found_of sub))) is;
     folder_value = sym (first_value-rows (found_of sub) (codes "FOLDER")) ∙ sym f;
+    force_value = ap is_set (sym (first_value-rows (found_of sub) (codes "force"))) ∙ sym g;
+    dry_value = ap is_set (sym (first_value-rows (found_of sub) (codes "dry-run"))) ∙ sym h;
+  }
+
+  pub asks_to_compare : (old new : Text) → name ≡ codes "diff" → first_value (found_of sub) (codes "OLD") ≡ Some old
+      → first_value (found_of sub) (codes "NEW") ≡ Some new → AsksToCompare words old new
+  asks_to_compare old new is f g = record {
+    rows = rows_of (found_of sub);
+    named = p.named ∙ ap (λ (n : Text). Some (n, rows_of (found_of sub))) is;
+    old_value = sym (first_value-rows (found_of sub) (codes "OLD")) ∙ f;
+    new_value = sym (first_value-rows (found_of sub) (codes "NEW")) ∙ g;
   }
 
   -- and its options say where the store is
   pub placed_by : (place : Place) → place.is_users ≡ is_set (first_value (found_of sub) (codes "user"))
       → option_map string_bytes place.folder ≡ first_value (found_of sub) (codes "store")
-      → option_map string_bytes place.profile ≡ first_value (found_of sub) (codes "profile") → IsPlacedBy words place
-  placed_by place u f q = record {
+      → option_map string_bytes place.profile ≡ first_value (found_of sub) (codes "profile")
+      → place.is_own ≡ is_set (first_value (found_of sub) (codes "own")) → IsPlacedBy words place
+  placed_by place u f q o = record {
     name = name;
     rows = rows_of (found_of sub);
     named = p.named;
     user_value = ap is_set (sym (first_value-rows (found_of sub) (codes "user"))) ∙ sym u;
     folder_value = sym (first_value-rows (found_of sub) (codes "store")) ∙ sym f;
     profile_value = sym (first_value-rows (found_of sub) (codes "profile")) ∙ sym q;
+    own_value = ap is_set (sym (first_value-rows (found_of sub) (codes "own"))) ∙ sym o;
   }
 
 -- ---- what a parse gave

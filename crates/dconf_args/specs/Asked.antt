@@ -6,7 +6,7 @@ use Rattle.clap.specs.declared.ArgMatches.{ArgMatches}
 use Rattle.dconf_args.specs.CommandLine.{command_line}
 use Rattle.command_words.specs.declared.commands.Command.{Command}
 use Rattle.dconf_args.specs.declared.place.Asked.{Asked}
-use Rattle.dconf_args.specs.declared.place.Asked.TheVariants.{Run, Update}
+use Rattle.dconf_args.specs.declared.place.Asked.TheVariants.{Diff, Run, Update}
 use Rattle.dconf_args.specs.declared.place.Place.{Place}
 use Rattle.command_words.specs.declared.commands.Command.TheVariants.{Show, Read, Origin, Explain, Check, Compile, Repair, List as ListIt, ListLocks, Dump, Write, Reset, Load}
 
@@ -90,11 +90,20 @@ abbrev pub IsOf : Text → ArgMatches → Command → Type 0
 IsOf name m command =
     (name_of command ≡ name) × Takes (first_value (found_of m)) (λ id. option_map raw_values (matched_of (found_of m) id)) command
 
--- the words name `update`, and clap gives its argument this value, where it is there
-pub record AsksToUpdate (words : List Text) (folder : Option Text) : Type 0 where
+-- the words name `update`, and clap gives its argument this value, where it is there, and these to its flags
+pub record AsksToUpdate (words : List Text) (folder : Option Text) (forces dry : Bool) : Type 0 where
   pub rows : List Row
   pub named : subcommand_of command_line words ≡ Some (codes "update", rows)
   pub folder_value : first_of (codes "FOLDER") rows ≡ folder
+  pub force_value : is_set (first_of (codes "force") rows) ≡ forces
+  pub dry_value : is_set (first_of (codes "dry-run") rows) ≡ dry
+
+-- the words name `diff`, and clap gives its arguments these values
+pub record AsksToCompare (words : List Text) (old new : Text) : Type 0 where
+  pub rows : List Row
+  pub named : subcommand_of command_line words ≡ Some (codes "diff", rows)
+  pub old_value : first_of (codes "OLD") rows ≡ Some old
+  pub new_value : first_of (codes "NEW") rows ≡ Some new
 
 -- clap gives these values to the options of the command, whichever it is, that say where its store is
 pub record IsPlacedBy (words : List Text) (place : Place) : Type 0 where
@@ -104,8 +113,10 @@ pub record IsPlacedBy (words : List Text) (place : Place) : Type 0 where
   pub user_value : is_set (first_of (codes "user") rows) ≡ place.is_users
   pub folder_value : first_of (codes "store") rows ≡ option_map string_bytes place.folder
   pub profile_value : first_of (codes "profile") rows ≡ option_map string_bytes place.profile
+  pub own_value : is_set (first_of (codes "own") rows) ≡ place.is_own
 
 -- all that the words ask for
 abbrev pub Asks : List Text → Asked → Type 0
 Asks words (Run command place) = IsAskedBy words command × IsPlacedBy words place
-Asks words (Update folder) = AsksToUpdate words (option_map string_bytes folder)
+Asks words (Update folder forces dry) = AsksToUpdate words (option_map string_bytes folder) forces dry
+Asks words (Diff old new) = AsksToCompare words (string_bytes old) (string_bytes new)

@@ -33,9 +33,13 @@ compile_line =
 abbrev pub optional_word : Text → Rule
 optional_word id = record (new_rule id) { action = Some Set }
 
--- `update [FOLDER]`
+-- a flag `--ID`
+abbrev pub long_flag : Text → Rule
+long_flag id = record (new_rule id) { long = Some id; action = Some SetTrue }
+
+-- `update [--force] [--dry-run] [FOLDER]`
 abbrev pub update_line : App
-update_line = with_rule (new_app (codes "update")) (optional_word (codes "FOLDER"))
+update_line = with_rule (with_rule (with_rule (new_app (codes "update")) (optional_word (codes "FOLDER"))) (long_flag (codes "force"))) (long_flag (codes "dry-run"))
 
 -- `-d`
 abbrev pub default_flag : Rule
@@ -47,7 +51,7 @@ profile_option = record (new_rule (codes "profile")) { short = Some 112; action 
 
 -- `--user`
 abbrev pub user_flag : Rule
-user_flag = record (new_rule (codes "user")) { long = Some (codes "user"); action = Some SetTrue }
+user_flag = long_flag (codes "user")
 
 -- `--store FOLDER`
 abbrev pub store_option : Rule
@@ -75,11 +79,11 @@ directory_line name = with_store (with_rule (new_app name) (required_word (codes
 
 -- `--skip-doubles`
 abbrev pub skip_doubles_flag : Rule
-skip_doubles_flag = record (new_rule (codes "skip-doubles")) { long = Some (codes "skip-doubles"); action = Some SetTrue }
+skip_doubles_flag = long_flag (codes "skip-doubles")
 
--- `dump [--skip-doubles] DIR`
+-- `dump [--skip-doubles] [--own] DIR`
 abbrev pub dump_line : App
-dump_line = with_store (with_rule (with_rule (new_app (codes "dump")) (required_word (codes "DIR"))) skip_doubles_flag)
+dump_line = with_store (with_rule (with_rule (with_rule (new_app (codes "dump")) (required_word (codes "DIR"))) skip_doubles_flag) (long_flag (codes "own")))
 
 -- `write KEY VALUE`
 abbrev pub write_line : App
@@ -97,6 +101,10 @@ reset_line = with_store (with_rule (with_rule (new_app (codes "reset")) (require
 abbrev pub load_line : App
 load_line = with_store (with_rule (with_rule (with_rule (new_app (codes "load")) (required_word (codes "DIR"))) force_flag) skip_doubles_flag)
 
+-- `diff OLD NEW`
+abbrev pub diff_line : App
+diff_line = with_rule (with_rule (new_app (codes "diff")) (required_word (codes "OLD"))) (required_word (codes "NEW"))
+
 -- `dconfdb`, which wants a subcommand and has a version
 abbrev pub dconfdb_line : App
 dconfdb_line = record (new_app (codes "dconfdb")) {
@@ -110,7 +118,7 @@ dconfdb_line = record (new_app (codes "dconfdb")) {
 abbrev commands : List App
 commands =
     read_line ∷ (write_line ∷ (reset_line ∷ (directory_line (codes "list") ∷ (dump_line ∷ (load_line ∷ (key_line (codes "origin") ∷ (key_line (codes "explain")
-    ∷ (directory_line (codes "list-locks") ∷ (compile_line ∷ (update_line ∷ (check_line ∷ (repair_line ∷ (show_line ∷ [])))))))))))))
+    ∷ (directory_line (codes "list-locks") ∷ (diff_line ∷ (compile_line ∷ (update_line ∷ (check_line ∷ (repair_line ∷ (show_line ∷ []))))))))))))))
 
 abbrev pub command_line : App
 command_line = fold (λ line command. with_subcommand line command.top) dconfdb_line commands

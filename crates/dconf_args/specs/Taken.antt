@@ -4,20 +4,19 @@ use Rattle.std.specs.List.{fold, list_any}
 use Rattle.std.specs.Str.{bytes_eq}
 use Rattle.clap.specs.Words.{App, Rule, Shape, Text, new_app, new_rule, with_rule, with_subcommand}
 use Rattle.clap.specs.declared.builder.action.ArgAction.TheVariants.{SetTrue}
-use Rattle.dconf_args.specs.CommandLine.{further_words, locks_option, optional_word, profile_option, required_word, skip_doubles_flag, store_option, user_flag}
+use Rattle.dconf_args.specs.CommandLine.{further_words, locks_option, long_flag, optional_word, profile_option, required_word, store_option}
 use Rattle.dconf_args.specs.declared.command_table.Line.{Line}
 use Rattle.dconf_args.specs.declared.word.Word.{Word}
-use Rattle.dconf_args.specs.declared.word.Word.TheVariants.{Required, Optional, Further, Flag, SkipDoubles, Locks, Profile, User, Store}
+use Rattle.dconf_args.specs.declared.word.Word.TheVariants.{Required, Optional, Further, Flag, Long, Locks, Profile, Store}
 
 abbrev pub rule_of_word : Word → Rule
 rule_of_word (Required name help) = required_word name.now
 rule_of_word (Optional name help) = optional_word name.now
 rule_of_word (Further name help) = further_words name.now
 rule_of_word (Flag name letter help) = record (new_rule name.now) { short = Some letter; action = Some SetTrue }
-rule_of_word (SkipDoubles help) = skip_doubles_flag
+rule_of_word (Long name help) = long_flag name.now
 rule_of_word Locks = locks_option
 rule_of_word Profile = profile_option
-rule_of_word User = user_flag
 rule_of_word Store = store_option
 
 -- a line with these words after its own

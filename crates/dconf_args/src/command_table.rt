@@ -83,7 +83,7 @@ Exit status:
   2  usage error";
 
 /// The commands, in the order of the program's help: a store's, then a site's, then those of single files.
-pub(crate) const COMMANDS: [Line<'static>; 14] = [
+pub(crate) const COMMANDS: [Line<'static>; 15] = [
     // `read [-d] KEY`.
     Line {
         name: "read",
@@ -95,7 +95,7 @@ pub(crate) const COMMANDS: [Line<'static>; 14] = [
             word::KEY,
             word::DEFAULT,
             Word::Profile,
-            Word::User,
+            word::USER,
             Word::Store,
         ],
     },
@@ -111,7 +111,7 @@ pub(crate) const COMMANDS: [Line<'static>; 14] = [
             word::KEY,
             word::VALUE,
             Word::Profile,
-            Word::User,
+            word::USER,
             Word::Store,
         ],
     },
@@ -127,7 +127,7 @@ pub(crate) const COMMANDS: [Line<'static>; 14] = [
             word::PATH,
             word::WHOLE,
             Word::Profile,
-            Word::User,
+            word::USER,
             Word::Store,
         ],
     },
@@ -138,9 +138,9 @@ pub(crate) const COMMANDS: [Line<'static>; 14] = [
         more: read_help!(
             examples: "  dconfdb list /org/desk/"
         ),
-        words: &[word::DIR, Word::Profile, Word::User, Word::Store],
+        words: &[word::DIR, Word::Profile, word::USER, Word::Store],
     },
-    // `dump [--skip-doubles] DIR`.
+    // `dump [--skip-doubles] [--own] DIR`.
     Line {
         name: "dump",
         about: "Print all values below DIR as a keyfile",
@@ -150,8 +150,9 @@ pub(crate) const COMMANDS: [Line<'static>; 14] = [
         words: &[
             word::DIR,
             word::NAMING_DOUBLES,
+            word::OWN,
             Word::Profile,
-            Word::User,
+            word::USER,
             Word::Store,
         ],
     },
@@ -168,7 +169,7 @@ pub(crate) const COMMANDS: [Line<'static>; 14] = [
             word::LEAVING,
             word::PRINTING_DOUBLES,
             Word::Profile,
-            Word::User,
+            word::USER,
             Word::Store,
         ],
     },
@@ -179,7 +180,7 @@ pub(crate) const COMMANDS: [Line<'static>; 14] = [
         more: read_help!(
             examples: "  dconfdb origin /org/desk/name"
         ),
-        words: &[word::KEY, Word::Profile, Word::User, Word::Store],
+        words: &[word::KEY, Word::Profile, word::USER, Word::Store],
     },
     // `explain KEY`.
     Line {
@@ -188,7 +189,7 @@ pub(crate) const COMMANDS: [Line<'static>; 14] = [
         more: read_help!(
             examples: "  dconfdb explain /org/desk/name"
         ),
-        words: &[word::KEY, Word::Profile, Word::User, Word::Store],
+        words: &[word::KEY, Word::Profile, word::USER, Word::Store],
     },
     // `list-locks DIR`.
     Line {
@@ -197,7 +198,18 @@ pub(crate) const COMMANDS: [Line<'static>; 14] = [
         more: read_help!(
             examples: "  dconfdb list-locks /"
         ),
-        words: &[word::DIR, Word::Profile, Word::User, Word::Store],
+        words: &[word::DIR, Word::Profile, word::USER, Word::Store],
+    },
+    // `diff OLD NEW`.
+    Line {
+        name: "diff",
+        about: "Print which keys and locks differ between two stores or databases",
+        more: help!(
+            files: "  OLD, NEW    a folder with a store, or a database of dconfdb or dconf; what is printed\n",
+            "              is a keyfile that makes OLD like NEW, with what it changes in comments";
+            examples: "  dconfdb diff site.db new.db\n  dconfdb diff . ~/.config/dconfdb"
+        ),
+        words: &[word::OLD, word::NEW],
     },
     // `compile OUT [--locks FILE].. [KEYFILE..]`.
     Line {
@@ -211,7 +223,7 @@ pub(crate) const COMMANDS: [Line<'static>; 14] = [
         ),
         words: &[word::OUT, Word::Locks, word::KEYFILE],
     },
-    // `update [FOLDER]`.
+    // `update [--force] [--dry-run] [FOLDER]`.
     Line {
         name: "update",
         about: "Compile the databases in FOLDER that are not what their sources say",
@@ -220,9 +232,9 @@ pub(crate) const COMMANDS: [Line<'static>; 14] = [
             "  NAME.d/locks  its files of locks, if it has any\n",
             "  NAME.db       replaced atomically: after a crash it is the old file or the new one;\n",
             "                hidden files are no sources, and if one is wrong, NAME.db stays as it is";
-            examples: "  dconfdb update ."
+            examples: "  dconfdb update .\n  dconfdb update --dry-run ."
         ),
-        words: &[word::FOLDER],
+        words: &[word::FOLDER, word::FORCE, word::DRY_RUN],
     },
     // `check FILE`.
     Line {

@@ -11,13 +11,29 @@ pub struct Place {
     pub folder: Option<String>,
     /// The file of its profile, `-p`.
     pub profile: Option<String>,
+    /// Only the user's database of it counts, `--own`.
+    pub is_own: bool,
 }
 
 /// What a command line asks for.
 #[derive(Debug, Drop)]
 pub enum Asked {
     /// A command, and where its store is, if it is one on a store.
-    Run { command: Command, place: Place },
+    Run {
+        command: Command,
+        place: Place,
+    },
     /// To make the databases of a folder that are not what their sources say; if none is named, of the one for all users.
-    Update { folder: Option<String> },
+    Update {
+        folder: Option<String>,
+        /// Each is made, whatever is there, `--force`.
+        forces: bool,
+        /// None is made, and it is said what would be, `--dry-run`.
+        is_dry: bool,
+    },
+    /// To compare two stores or databases.
+    Diff {
+        old: String,
+        new: String,
+    },
 }

@@ -2,7 +2,7 @@
 ghost use Rattle.std.specs.Prelude.{◌≡◌, codes, false, Some};
 ghost use Rattle.clap.specs.Words.{new_rule, rule_of};
 ghost use Rattle.clap.specs.declared.builder.action.ArgAction.TheVariants.{SetTrue};
-ghost use Rattle.dconf_args.specs.CommandLine.{further_words, locks_option, optional_word, profile_option, required_word, skip_doubles_flag, store_option, user_flag};
+ghost use Rattle.dconf_args.specs.CommandLine.{further_words, locks_option, long_flag, optional_word, profile_option, required_word, store_option};
 ghost use Rattle.dconf_args.specs.Taken.{rule_of_word};
 
 use clap::{Arg, ArgAction};
@@ -32,16 +32,15 @@ pub(crate) enum Word<'a> {
         letter: char,
         help: &'a str,
     },
-    /// `--skip-doubles`.
-    SkipDoubles {
+    /// A flag `--NAME`.
+    Long {
+        name: &'a str,
         help: &'a str,
     },
     /// `--locks FILE`, any number of times.
     Locks,
     /// `-p FILE`.
     Profile,
-    /// `--user`.
-    User,
     /// `--store FOLDER`.
     Store,
 }
@@ -122,13 +121,51 @@ pub(crate) const LEAVING: Word<'static> = Word::Flag {
 };
 
 /// Whether keys whose value has a double are left out, in place of a refusal.
-pub(crate) const NAMING_DOUBLES: Word<'static> = Word::SkipDoubles {
+pub(crate) const NAMING_DOUBLES: Word<'static> = Word::Long {
+    name: "skip-doubles",
     help: "name keys whose value has a double in comments instead of failing",
 };
 
 /// Whether rows whose value has a double are left out, in place of a refusal.
-pub(crate) const PRINTING_DOUBLES: Word<'static> = Word::SkipDoubles {
+pub(crate) const PRINTING_DOUBLES: Word<'static> = Word::Long {
+    name: "skip-doubles",
     help: "skip keys whose value has a double, and print their paths, instead of failing",
+};
+
+/// Whether the store is the user's.
+pub(crate) const USER: Word<'static> = Word::Long {
+    name: "user",
+    help: "work on the store of the user, as programs do",
+};
+
+/// Whether only the user's database counts.
+pub(crate) const OWN: Word<'static> = Word::Long {
+    name: "own",
+    help: "print the user's own values alone",
+};
+
+/// Whether each database is made, whatever is there.
+pub(crate) const FORCE: Word<'static> = Word::Long {
+    name: "force",
+    help: "make each database, whatever is there",
+};
+
+/// Whether it is only said what would be made.
+pub(crate) const DRY_RUN: Word<'static> = Word::Long {
+    name: "dry-run",
+    help: "write nothing: print what would be made, of which files, and which keys that changes",
+};
+
+/// What is compared.
+pub(crate) const OLD: Word<'static> = Word::Required {
+    name: "OLD",
+    help: "a folder with a store, or a database",
+};
+
+/// With what it is compared.
+pub(crate) const NEW: Word<'static> = Word::Required {
+    name: "NEW",
+    help: "the one to compare it with",
 };
 
 impl<'a> Word<'a> {
@@ -142,10 +179,9 @@ impl<'a> Word<'a> {
             Word::Optional { name, help } => optional(alloc, name, help),
             Word::Further { name, help } => further(alloc, name, help),
             Word::Flag { name, letter, help } => flag(alloc, name, letter, help),
-            Word::SkipDoubles { help } => skip_doubles(alloc, help),
+            Word::Long { name, help } => long_flag(alloc, name, help),
             Word::Locks => locks(alloc),
             Word::Profile => profile(alloc),
-            Word::User => user(alloc),
             Word::Store => store(alloc),
         }
     }
@@ -185,12 +221,12 @@ fn flag<'a>(alloc: Global, name: &'a str, letter: char, help: &'a str) -> Arg<'a
         .help(help)
 }
 
-fn skip_doubles<'a>(alloc: Global, help: &'a str) -> Arg<'a>
-    ensures rule { rule_of result ≡ skip_doubles_flag }
+fn long_flag<'a>(alloc: Global, name: &'a str, help: &'a str) -> Arg<'a>
+    ensures rule { rule_of result ≡ long_flag name.now }
     ensures own { result.global ≡ false }
 {
-    Arg::new(alloc, "skip-doubles")
-        .long("skip-doubles")
+    Arg::new(alloc, name)
+        .long(name)
         .action(ArgAction::SetTrue)
         .help(help)
 }
@@ -215,16 +251,6 @@ fn profile<'a>(alloc: Global) -> Arg<'a>
         .value_name("FILE")
         .action(ArgAction::Set)
         .help("the file that lists the databases [default: profile]")
-}
-
-fn user<'a>(alloc: Global) -> Arg<'a>
-    ensures rule { rule_of result ≡ user_flag }
-    ensures own { result.global ≡ false }
-{
-    Arg::new(alloc, "user")
-        .long("user")
-        .action(ArgAction::SetTrue)
-        .help("work on the store of the user, as programs do")
 }
 
 fn store<'a>(alloc: Global) -> Arg<'a>

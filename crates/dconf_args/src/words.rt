@@ -42,6 +42,14 @@ fn all_asked(alloc: Global, matches: &ArgMatches<'_>) -> Result<Asked, AllocErro
     if name == "update" {
         return Ok(Asked::Update {
             folder: value_if_any(alloc, named, "FOLDER")?,
+            forces: is_given(named, "force"),
+            is_dry: is_given(named, "dry-run"),
+        });
+    }
+    if name == "diff" {
+        return Ok(Asked::Diff {
+            old: value(alloc, named, "OLD")?,
+            new: value(alloc, named, "NEW")?,
         });
     }
     let place = placed(alloc, named)?;
@@ -56,11 +64,13 @@ fn placed(alloc: Global, named: &ArgMatches<'_>) -> Result<Place, AllocError>
     ensures user { IfOk result (λ place. place.is_users ≡ is_set (first_value (found_of named.now) (codes "user"))) }
     ensures folder { IfOk result (λ place. option_map string_bytes place.folder ≡ first_value (found_of named.now) (codes "store")) }
     ensures profile { IfOk result (λ place. option_map string_bytes place.profile ≡ first_value (found_of named.now) (codes "profile")) }
+    ensures own { IfOk result (λ place. place.is_own ≡ is_set (first_value (found_of named.now) (codes "own"))) }
 {
     Ok(Place {
         is_users: is_given(named, "user"),
         folder: value_if_any(alloc, named, "store")?,
         profile: value_if_any(alloc, named, "profile")?,
+        is_own: is_given(named, "own"),
     })
 }
 
@@ -68,6 +78,7 @@ fn placed(alloc: Global, named: &ArgMatches<'_>) -> Result<Place, AllocError>
 fn asked(alloc: Global, name: &str, named: &ArgMatches<'_>) -> Result<Command, AllocError>
     requires named { (words : List Text) × IsNamedBy words name.now named.now }
     requires other { name.now ≢ codes "update" }
+    requires alone { name.now ≢ codes "diff" }
     ensures { IfOk result (IsOf name.now named.now) }
 {
     match name {
@@ -138,7 +149,7 @@ fn repair_asked(alloc: Global, repair: &ArgMatches<'_>) -> Result<Command, Alloc
     })
 }
 
-/// `dump [--skip-doubles] [-p FILE] DIR`.
+/// `dump [--skip-doubles] [--own] [-p FILE] DIR`.
 fn dump_asked(alloc: Global, dump: &ArgMatches<'_>) -> Result<Command, AllocError>
     requires { HasValue dump.now (codes "DIR") }
     ensures { IfOk result (IsOf (codes "dump") dump.now) }

@@ -4,7 +4,7 @@ use crate::messages::{REFUSED, USAGE, refuse, refuse_device, refuse_memory};
 use crate::runs::{run_at, run_in_turn};
 use crate::session::Session;
 use crate::sources::{Unread, source_folder};
-use crate::updates::{Making, update_in, update_machines};
+use crate::updates::{Making, Naming, update_in, update_machines};
 use dconf_args::{Command, Place};
 use dconf_by_name::{
     Asked, Verb, asked, compile_of_folder, dconfs_sentence, directory_of, doubles, ignored,
@@ -28,6 +28,7 @@ const USERS: Place = Place {
     is_users: true,
     folder: None,
     profile: None,
+    is_own: false,
 };
 
 /// Does what the words ask for, and gives the status: 0 is done, 1 is refused, and 2 says that the words are wrong.
@@ -41,8 +42,8 @@ pub(crate) fn dconf(rt: &HostRuntime, words: &[String]) -> u8 {
         Asked::Dump(command) => dump(rt, command),
         Asked::Reset { command, key } => reset(rt, command, key),
         Asked::Load { command, directory } => load(rt, command, directory),
-        Asked::Update(None) => update_machines(rt, Making::AsDconf),
-        Asked::Update(Some(folder)) => update_in(rt, folder, Making::AsDconf),
+        Asked::Update(None) => update_machines(rt, Making::Each, Making::Due),
+        Asked::Update(Some(folder)) => update_in(rt, folder, Naming::InPlace, Making::Each),
         Asked::Compile { out, folder } => compile(rt, out, folder),
         Asked::Complete { suffix, path } => complete(rt, suffix, path),
         Asked::Watch(_) => {

@@ -3,6 +3,9 @@
 #![tactic(auto)]
 
 mod by_name;
+mod compare;
+mod dry;
+mod dumps;
 mod explain;
 mod marks;
 mod messages;
@@ -10,15 +13,17 @@ mod named;
 mod runs;
 mod session;
 mod sources;
+mod stores;
 mod updates;
 
 use by_name::dconf;
+use compare::compare;
 use dconf_args::{Asked, command};
 use dconf_by_name::is_run_as_dconf;
 use dconf_habits::{as_in_dconf, with_dashes};
+use dumps::run_or_dump;
 use explain::page;
 use messages::{NO_MEMORY, USAGE, refuse};
-use runs::run_at;
 use session::Session;
 use std::env;
 use std::io::ErrorKind;
@@ -76,8 +81,13 @@ fn done(rt: &HostRuntime, asked: Asked) -> u8 {
     match asked {
         Asked::Run { command, place } => {
             let mut session = Session::on(rt.alloc(), rt.stdin(), rt.stdout(), rt.stderr());
-            run_at(rt, as_in_dconf(command), place, &mut session)
+            run_or_dump(rt, as_in_dconf(command), place, &mut session)
         }
-        Asked::Update { folder } => update(rt, folder),
+        Asked::Update {
+            folder,
+            forces,
+            is_dry,
+        } => update(rt, folder, forces, is_dry),
+        Asked::Diff { old, new } => compare(rt, old.as_str(), new.as_str()),
     }
 }

@@ -1,6 +1,7 @@
 //! What is said on err of what `main` itself finds, and the statuses that it gives.
 use crate::explain::explain_own;
 use dconf_found::{BadDatabase, MACHINE_FILE};
+use dconf_streams::{Refusal, refusal_line};
 use dconf_surroundings::NotFound;
 use dconfdb_calls::{Fate, Fault};
 use std::fmt::Display;
@@ -24,6 +25,15 @@ pub(crate) fn refuse<D: Display + Drop>(rt: &HostRuntime, why: D) {
     if let Ok(said) = format!(in rt.alloc(); "{why}") {
         explain_own(rt, said.as_str());
     }
+}
+
+/// Says on err the line of a refusal.
+pub(crate) fn refuse_for(rt: &HostRuntime, refusal: &Refusal) -> u8 {
+    let line = refusal_line(refusal);
+    let _ = eprint!(rt; "{line}");
+    let line = line.strip_suffix('\n').unwrap_or(line);
+    explain_own(rt, line.strip_prefix("error: ").unwrap_or(line));
+    REFUSED
 }
 
 pub(crate) fn refuse_memory(rt: &HostRuntime) -> u8 {

@@ -1,4 +1,5 @@
-//! `update [FOLDER]`: the databases that are not what their sources say, each made by `compile`.
+//! `update [--force] [--dry-run] [FOLDER]`: the databases that are not what their sources say, each made by `compile`.
+use crate::dry::say_made;
 use crate::marks::{opened, set_invalid};
 use crate::messages::{REFUSED, refuse, refuse_device, refuse_memory, refuse_place};
 use crate::named::warn_of_missing_ones;
@@ -18,44 +19,59 @@ use std::{env, fs};
 /// Where dconf has its databases of the system.
 const DCONFS_FOLDER: &str = "/etc/dconf/db";
 
-/// How the databases of a folder are named, and which are made.
+/// How the databases of a folder are named.
 #[derive(Clone, Copy)]
-pub(crate) enum Making {
-    /// NAME.db, our own, where it isn't made.
+pub(crate) enum Naming {
+    /// NAME.db, our own.
     Own,
-    /// NAME, where it isn't made.
+    /// NAME, as dconf has it.
     InPlace,
-    /// NAME, each, as dconf does.
-    AsDconf,
 }
 
-/// Makes the databases of a folder that are not what their sources say; if none is named, of the one for all users.
-pub(crate) fn update(rt: &HostRuntime, folder: Option<String>) -> u8 {
+/// Which of the databases of a folder are made.
+#[derive(Clone, Copy)]
+pub(crate) enum Making {
+    /// Those that aren't made.
+    Due,
+    /// Each, whatever is there.
+    Each,
+    /// None: it is said which would be, or with `forces` of each what it is made of.
+    Dry { forces: bool },
+}
+
+/// Makes the databases of a folder; if none is named, of the one for all users.
+pub(crate) fn update(rt: &HostRuntime, folder: Option<String>, forces: bool, is_dry: bool) -> u8 {
+    let making = match (is_dry, forces) {
+        (true, _) => Making::Dry { forces },
+        (false, true) => Making::Each,
+        (false, false) => Making::Due,
+    };
     match folder {
-        Some(folder) => update_in(rt, folder.as_str(), Making::Own),
-        None => update_machines(rt, Making::InPlace),
+        Some(folder) => update_in(rt, folder.as_str(), Naming::Own, making),
+        None => update_machines(rt, making, making),
     }
 }
 
-/// Makes those of the folder for all users, in dconf's places if the machine has dconf's kind of store.
-pub(crate) fn update_machines(rt: &HostRuntime, in_place: Making) -> u8 {
+/// Makes those of the folder for all users: `dconfs` in dconf's places, if the machine has dconf's kind of store, and else `ours`.
+pub(crate) fn update_machines(rt: &HostRuntime, dconfs: Making, ours: Making) -> u8 {
     let machine = Surroundings::of_machine(rt);
     match machine.and_then(|machine| machine.is_dconfs(Given::Nobody)) {
-        Ok(true) => update_in(rt, DCONFS_FOLDER, in_place),
-        Ok(false) => update_in(rt, EVERYONES_FOLDER, Making::Own),
+        Ok(true) => update_in(rt, DCONFS_FOLDER, Naming::InPlace, dconfs),
+        Ok(false) => update_in(rt, EVERYONES_FOLDER, Naming::Own, ours),
         Err(fault) => refuse_place(rt, fault),
     }
 }
 
 /// Makes those of a folder.
-pub(crate) fn update_in(rt: &HostRuntime, folder: &str, making: Making) -> u8 {
+pub(crate) fn update_in(rt: &HostRuntime, folder: &str, naming: Naming, making: Making) -> u8 {
     match env::set_current_dir(rt, folder) {
         Ok(()) => {
-            let status = update_here(rt, folder, making);
-            // A profile of our own kind is beside its databases of the system.
-            let warned = match making {
-                Making::Own => warn_of_missing_ones(rt, ".", folder),
-                _ => Ok(()),
+            let status = update_here(rt, folder, naming, making);
+            // A profile of our own kind is beside its databases of the system. What isn't made yet is no loss before it is.
+            let warned = match (naming, making) {
+                (_, Making::Dry { .. }) => Ok(()),
+                (Naming::Own, _) => warn_of_missing_ones(rt, ".", folder),
+                (Naming::InPlace, _) => Ok(()),
             };
             match warned {
                 Ok(()) => status,
@@ -71,20 +87,20 @@ pub(crate) fn update_in(rt: &HostRuntime, folder: &str, making: Making) -> u8 {
 }
 
 /// Makes those of the current folder, which was given as `folder`.
-fn update_here(rt: &HostRuntime, folder: &str, making: Making) -> u8 {
+fn update_here(rt: &HostRuntime, folder: &str, naming: Naming, making: Making) -> u8 {
     match names_in(rt, ".") {
-        Ok(names) => update_each(rt, &names, making),
+        Ok(names) => update_each(rt, &names, naming, making),
         Err(Unread::Folder(_)) => refuse_device(rt, folder),
         Err(Unread::Memory) => refuse_memory(rt),
     }
 }
 
 /// Makes those of the folders with these names. A fault of one leaves the others.
-fn update_each(rt: &HostRuntime, names: &[String], making: Making) -> u8 {
+fn update_each(rt: &HostRuntime, names: &[String], naming: Naming, making: Making) -> u8 {
     let mut status = 0;
     for name in names {
         if let Some(database) = database_of(rt, name.as_str()) {
-            status |= update_one(rt, database, making);
+            status |= update_one(rt, database, naming, making);
         }
     }
     status
@@ -100,13 +116,13 @@ fn database_of<'a>(rt: &HostRuntime, name: &'a str) -> Option<&'a str> {
 }
 
 /// Makes the database of one folder.
-fn update_one(rt: &HostRuntime, name: &str, making: Making) -> u8 {
+fn update_one(rt: &HostRuntime, name: &str, naming: Naming, making: Making) -> u8 {
     let Ok(folder) = format!(in rt.alloc(); "{name}.d") else {
         return refuse_memory(rt);
     };
     match source_folder(rt, folder.as_str(), name) {
-        Ok(folder) => match command_of(rt, folder, making) {
-            Ok(Some(command)) => run_if_due(rt, command, making),
+        Ok(folder) => match command_of(rt, folder, naming) {
+            Ok(Some(command)) => make(rt, command, naming, making),
             Ok(None) => 0,
             Err(_) => refuse_memory(rt),
         },
@@ -119,39 +135,47 @@ fn update_one(rt: &HostRuntime, name: &str, making: Making) -> u8 {
 fn command_of(
     rt: &HostRuntime,
     folder: SourceFolder,
-    making: Making,
+    naming: Naming,
 ) -> Result<Option<Command>, AllocError> {
     let alloc = rt.alloc();
     let name = String::from_str(alloc, folder.name.as_str())?;
     let Some(command) = updates(alloc, &[folder])?.pop() else {
         return Ok(None);
     };
+    match naming {
+        Naming::Own => Ok(Some(command)),
+        Naming::InPlace => Ok(Some(in_dconfs_place(command, name))),
+    }
+}
+
+fn make(rt: &HostRuntime, command: Command, naming: Naming, making: Making) -> u8 {
     match making {
-        Making::Own => Ok(Some(command)),
-        _ => Ok(Some(in_dconfs_place(command, name))),
+        Making::Due => run_if_due(rt, command, naming),
+        Making::Each => run_one(rt, command, naming),
+        Making::Dry { forces } => say_made(rt, &command, forces),
     }
 }
 
 /// Runs a command, unless its file holds already what it would be given: then nothing is written, and nobody is told of a change.
 ///
 /// No time is asked for: what was saved while a database was made, or has an older time, is told by what it says.
-fn run_if_due(rt: &HostRuntime, command: Command, making: Making) -> u8 {
-    if matches!(making, Making::AsDconf) || !has_file(rt, &command) {
-        return run_one(rt, command, making);
+fn run_if_due(rt: &HostRuntime, command: Command, naming: Naming) -> u8 {
+    if !has_file(rt, &command) {
+        return run_one(rt, command, naming);
     }
     let mut folder = StdFolder::read_only(rt);
     let mut input = Counted::new(rt.stdin());
     match is_made(rt.alloc(), &command, &mut folder, &mut input) {
         Ok(true) => 0,
-        Ok(false) => run_one(rt, command, making),
+        Ok(false) => run_one(rt, command, naming),
         Err(_) => refuse_memory(rt),
     }
 }
 
 /// Runs a command in its turn. In dconf's places who has the replaced file mapped is told so.
-fn run_one(rt: &HostRuntime, command: Command, making: Making) -> u8 {
+fn run_one(rt: &HostRuntime, command: Command, naming: Naming) -> u8 {
     let replaced = match command.replaced() {
-        Some(Replaced::File(name)) if !matches!(making, Making::Own) => opened(rt, name),
+        Some(Replaced::File(name)) if matches!(naming, Naming::InPlace) => opened(rt, name),
         _ => None,
     };
     let mut session = Session::on(rt.alloc(), rt.stdin(), rt.stdout(), rt.stderr());
@@ -165,7 +189,7 @@ fn run_one(rt: &HostRuntime, command: Command, making: Making) -> u8 {
 }
 
 /// Whether a file has the name of the one that the command replaces. What is no regular file is not read: that may never end.
-fn has_file(rt: &HostRuntime, command: &Command) -> bool {
+pub(crate) fn has_file(rt: &HostRuntime, command: &Command) -> bool {
     let Some(Replaced::File(name)) = command.replaced() else {
         return false;
     };

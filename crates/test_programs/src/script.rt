@@ -37,6 +37,7 @@ pub(crate) fn left_on<F: Folder>(
     match command(alloc, &words_of(alloc, words)?) {
         Ok(Asked::Run { command, .. }) => Ok(left_by(alloc, command, folder, streams)?),
         Ok(Asked::Update { .. }) => Err(Fail::new("an update is no command of one folder")),
+        Ok(Asked::Diff { .. }) => Err(Fail::new("a diff is no command of one folder")),
         Err(_) => Err(Fail::new("the words are refused")),
     }
 }

@@ -19,7 +19,14 @@ fn replaced_text(alloc: Global, line: &str) -> Result<String, Fail> {
             let replaced = command.replaced();
             Ok(format!(in alloc; "{replaced:?}")?)
         }
-        Ok(Asked::Update { folder }) => Ok(format!(in alloc; "{folder:?}")?),
+        Ok(
+            Asked::Update {
+                folder,
+                forces,
+                is_dry,
+            },
+        ) => Ok(format!(in alloc; "{folder:?} {forces} {is_dry}")?),
+        Ok(Asked::Diff { old, new }) => Ok(format!(in alloc; "{old:?} {new:?}")?),
         Err(_) => Err(Fail::new("the words are refused")),
     }
 }
@@ -54,16 +61,22 @@ reset -f -p x / | Some(UserOf("x"))
 load -p x / | Some(UserOf("x"))
 load -f / | Some(UserOf("profile"))
 load --skip-doubles / | Some(UserOf("profile"))
-update | None
-update a | Some("a")
+update | None false false
+update a | Some("a") false false
+update --force a | Some("a") true false
+update a --dry-run | Some("a") false true
+update --dry-run --force | None true true
+diff a b | "a" "b"
+diff -- --x y | "--x" "y"
 "#;
 
 const PLACES: &str = r#"
-write /k 5 | Place { is_users: false, folder: None, profile: None } Some(UserOf("other"))
-write -p x --user /k 5 | Place { is_users: true, folder: None, profile: Some("x") } Some(UserOf("other"))
-reset --store a --user /k | Place { is_users: true, folder: Some("a"), profile: None } Some(UserOf("other"))
-list --store=a / | Place { is_users: false, folder: Some("a"), profile: None } None
-check -- --user | Place { is_users: false, folder: None, profile: None } None
+write /k 5 | Place { is_users: false, folder: None, profile: None, is_own: false } Some(UserOf("other"))
+write -p x --user /k 5 | Place { is_users: true, folder: None, profile: Some("x"), is_own: false } Some(UserOf("other"))
+reset --store a --user /k | Place { is_users: true, folder: Some("a"), profile: None, is_own: false } Some(UserOf("other"))
+list --store=a / | Place { is_users: false, folder: Some("a"), profile: None, is_own: false } None
+check -- --user | Place { is_users: false, folder: None, profile: None, is_own: false } None
+dump --own --user / | Place { is_users: true, folder: None, profile: None, is_own: true } None
 "#;
 
 #[test]

@@ -48,17 +48,17 @@ load_asked-requires c = given _ _ _ c.requires.named.1 (codes "load") c.in-load.
 pub show_asked-requires-clause-type_text : goal.show_asked-requires-clause-type_text
 show_asked-requires-clause-type_text c =
     let d = c.in_default in
-    let show = is_show _ _ _ c.requires.named.1 (d.not-read, (d.not-write, (d.not-reset, (d.not-list, (d.not-dump, (d.not-load, (d.not-origin, (d.not-explain, (d.not-text, (d.not-compile, (c.requires.other, (d.not-check, (d.not-repair, tt))))))))))))) in
+    let show = is_show _ _ _ c.requires.named.1 (d.not-read, (d.not-write, (d.not-reset, (d.not-list, (d.not-dump, (d.not-load, (d.not-origin, (d.not-explain, (d.not-text, (c.requires.alone, (d.not-compile, (c.requires.other, (d.not-check, (d.not-repair, tt)))))))))))))) in
     given _ _ _ c.requires.named.1 (codes "show") show (codes "TYPE") refl refl
 
 pub show_asked-requires-clause-file : goal.show_asked-requires-clause-file
 show_asked-requires-clause-file c =
     let d = c.in_default in
-    let show = is_show _ _ _ c.requires.named.1 (d.not-read, (d.not-write, (d.not-reset, (d.not-list, (d.not-dump, (d.not-load, (d.not-origin, (d.not-explain, (d.not-text, (d.not-compile, (c.requires.other, (d.not-check, (d.not-repair, tt))))))))))))) in
+    let show = is_show _ _ _ c.requires.named.1 (d.not-read, (d.not-write, (d.not-reset, (d.not-list, (d.not-dump, (d.not-load, (d.not-origin, (d.not-explain, (d.not-text, (c.requires.alone, (d.not-compile, (c.requires.other, (d.not-check, (d.not-repair, tt)))))))))))))) in
     given _ _ _ c.requires.named.1 (codes "show") show (codes "FILE") refl refl
 
 pub returns-in_default : goal.returns-in_default
 returns-in_default c =
     let d = c.in_default in
-    let show = is_show _ _ _ c.requires.named.1 (d.not-read, (d.not-write, (d.not-reset, (d.not-list, (d.not-dump, (d.not-load, (d.not-origin, (d.not-explain, (d.not-text, (d.not-compile, (c.requires.other, (d.not-check, (d.not-repair, tt))))))))))))) in
+    let show = is_show _ _ _ c.requires.named.1 (d.not-read, (d.not-write, (d.not-reset, (d.not-list, (d.not-dump, (d.not-load, (d.not-origin, (d.not-explain, (d.not-text, (c.requires.alone, (d.not-compile, (c.requires.other, (d.not-check, (d.not-repair, tt)))))))))))))) in
     IfOk-weaker c.show_asked.result _ _ (λ command of. (of.0 ∙ sym show, of.1)) c.show_asked.ensures

@@ -1,0 +1,157 @@
+//! `dump` of one database alone: that in a file, or the user's own.
+use crate::explain::{Given, explain};
+use crate::messages::{REFUSED, refuse, refuse_for, refuse_memory, refuse_place};
+use crate::runs::run_at;
+use crate::session::Session;
+use crate::stores::{store_folder, users_own, warn};
+use dconf_args::{Command, Place};
+use dconf_cli::run;
+use dconf_disk::{Folder, FolderFault, StdFolder};
+use dconf_folders::MemoryFolder;
+use dconf_layers::Layer;
+use dconf_streams::{Refusal, file};
+use dconf_surroundings::{Found, enter};
+use std::alloc::{AllocError, Global};
+use std::fs;
+use std::io::{Read, Write};
+
+/// The profile of a database alone, and its name there.
+const PROFILE: &str = "profile";
+
+const LINE: &[u8] = b"file-db:database\n";
+
+const DATABASE: &str = "database";
+
+const ROOT: &str = "/";
+
+/// Runs a command where its store is, but for a `dump` of one database alone.
+pub(crate) fn run_or_dump<I: Read, O: Write, E: Write>(
+    rt: &HostRuntime,
+    asked: Command,
+    place: Place,
+    session: &mut Session<I, O, E>,
+) -> u8 {
+    if let Command::Dump {
+        skip_doubles,
+        directory,
+        profile,
+    } = &asked
+    {
+        if place.is_own {
+            return match own(rt, profile.as_str(), place) {
+                Ok(bytes) => dump(
+                    rt,
+                    bytes.as_deref(),
+                    *skip_doubles,
+                    directory.as_str(),
+                    session,
+                ),
+                Err(status) => status,
+            };
+        }
+        if is_file(rt, directory.as_str()) {
+            return match database(rt, directory.as_str()) {
+                Ok(bytes) => dump(rt, Some(&bytes), *skip_doubles, ROOT, session),
+                Err(status) => status,
+            };
+        }
+    }
+    run_at(rt, asked, place, session)
+}
+
+/// Whether a word names a file, and no directory of settings: that ends in a slash.
+fn is_file(rt: &HostRuntime, word: &str) -> bool {
+    if word.ends_with('/') {
+        return false;
+    }
+    match fs::metadata(rt, word) {
+        Ok(found) => found.is_file(),
+        Err(_) => false,
+    }
+}
+
+/// The bytes of a sound database; or else the status of the refusal, which is said.
+fn database(rt: &HostRuntime, name: &str) -> Result<Vec<u8>, u8> {
+    let bytes = match file(rt.alloc(), &mut StdFolder::read_only(rt), name) {
+        Ok(bytes) => bytes,
+        Err(refusal) => return Err(refuse_for(rt, &refusal)),
+    };
+    if let Err(fault) = Layer::open(Some(&bytes)) {
+        refuse(rt, format_args!("BadDatabase {name}: {fault}"));
+        return Err(REFUSED);
+    }
+    Ok(bytes)
+}
+
+/// The bytes of the user's own database, if there is one.
+fn own(rt: &HostRuntime, profile: &str, place: Place) -> Result<Option<Vec<u8>>, u8> {
+    let read = if !place.is_users && place.folder.is_none() {
+        users_own(rt.alloc(), &mut StdFolder::read_only(rt), profile)
+    } else {
+        match enter(rt, place, false) {
+            Ok(found) => own_found(rt, &found),
+            Err(fault) => return Err(refuse_place(rt, fault)),
+        }
+    };
+    match read {
+        Ok(bytes) => Ok(bytes),
+        Err(refusal) => Err(refuse_for(rt, &refusal)),
+    }
+}
+
+fn own_found(rt: &HostRuntime, found: &Found) -> Result<Option<Vec<u8>>, Refusal> {
+    let mut folder = store_folder(rt, found)?;
+    let bytes = users_own(rt.alloc(), &mut folder, found.profile.path.as_str())?;
+    // What can't be said changes no status here.
+    let _ = warn(rt, &folder, found);
+    Ok(bytes)
+}
+
+/// Dumps a database in a folder that has nothing else.
+fn dump<I: Read, O: Write, E: Write>(
+    rt: &HostRuntime,
+    bytes: Option<&[u8]>,
+    skip_doubles: bool,
+    directory: &str,
+    session: &mut Session<I, O, E>,
+) -> u8 {
+    let alloc = rt.alloc();
+    let Ok(mut folder) = folder_of(alloc, bytes) else {
+        return refuse_memory(rt);
+    };
+    let Ok(command) = dump_of(alloc, skip_doubles, directory) else {
+        return refuse_memory(rt);
+    };
+    let given = Given::of(rt, &command);
+    let status = run(
+        alloc,
+        command,
+        &mut folder,
+        &mut session.input,
+        &mut session.out,
+        &mut session.err,
+    );
+    if let Some(given) = &given {
+        explain(rt, given, session.err.get_ref().text());
+    }
+    status
+}
+
+fn dump_of(alloc: Global, skip_doubles: bool, directory: &str) -> Result<Command, AllocError> {
+    Ok(Command::Dump {
+        skip_doubles,
+        directory: String::from_str(alloc, directory)?,
+        profile: String::from_str(alloc, PROFILE)?,
+    })
+}
+
+fn folder_of(alloc: Global, bytes: Option<&[u8]>) -> Result<MemoryFolder, FolderFault> {
+    let mut folder = MemoryFolder::new(alloc);
+    folder.create(alloc, PROFILE, 0)?;
+    folder.append(PROFILE, LINE)?;
+    if let Some(bytes) = bytes {
+        folder.create(alloc, DATABASE, 0)?;
+        folder.append(DATABASE, bytes)?;
+    }
+    Ok(folder)
+}

@@ -1,0 +1,98 @@
+//! A store that was found, as it is read.
+use crate::messages::warn_of_bad;
+use dconf_commands::file_name;
+use dconf_disk::{Folder, StdFolder};
+use dconf_found::{FoundFolder, RenamedFolder};
+use dconf_path::{DatabaseKind, Profile, ProfileFault, read_profile, settings_text};
+use dconf_streams::{NamedFile, Refusal, file_if_any, named_file, refused, refused_at};
+use dconf_surroundings::Found;
+use std::alloc::{AllocError, Global};
+use std::io;
+
+/// The folder of a store, in which a bad database counts as what can be saved of it.
+pub(crate) type StoreFolder<'a> = FoundFolder<RenamedFolder<StdFolder<&'a HostRuntime>>>;
+
+pub(crate) fn store_folder<'a>(
+    rt: &'a HostRuntime,
+    found: &Found,
+) -> Result<StoreFolder<'a>, AllocError> {
+    let alloc = rt.alloc();
+    let made = match &found.profile.made {
+        Some(text) => Some(text.as_slice().to_vec(alloc)?),
+        None => None,
+    };
+    Ok(FoundFolder::new(
+        alloc,
+        RenamedFolder::new(StdFolder::read_only(rt), found.names(rt)?),
+        String::from_str(alloc, found.profile.path.as_str())?,
+        made,
+        found.is_everyones(),
+        found.has_folder,
+    ))
+}
+
+/// Says which databases of a store are bad.
+pub(crate) fn warn(rt: &HostRuntime, folder: &StoreFolder<'_>, found: &Found) -> io::Result<()> {
+    for bad in folder.bad() {
+        let path = found.path(rt, bad.name.as_str())?;
+        warn_of_bad(rt, path.as_str(), bad, false)?;
+    }
+    Ok(())
+}
+
+/// The profile in a file, or the refusal of its first line at fault.
+fn profile_in<'a>(alloc: Global, file: &'a NamedFile<'_>) -> Result<Profile<'a>, Refusal> {
+    let text = match settings_text(&file.bytes) {
+        Ok(text) => text,
+        Err(fault) => return Err(refused_at(alloc, file.name, fault.line(), fault)),
+    };
+    match read_profile(alloc, text) {
+        Ok(profile) => Ok(profile),
+        Err(ProfileFault::Fault(flaw)) => Err(refused_at(alloc, file.name, flaw.line(), flaw)),
+        Err(ProfileFault::Memory) => Err(Refusal::Memory),
+    }
+}
+
+/// The databases that a profile names, in its order, and whether the first is the user's.
+#[derive(Drop)]
+pub(crate) struct Databases {
+    pub(crate) files: Vec<Option<Vec<u8>>>,
+    pub(crate) is_writable: bool,
+}
+
+/// Reads the databases that the profile of this name names.
+pub(crate) fn databases_by<F: Folder>(
+    alloc: Global,
+    folder: &mut F,
+    name: &str,
+) -> Result<Databases, Refusal> {
+    let file = named_file(alloc, folder, name)?;
+    let named = profile_in(alloc, &file)?;
+    let mut files = Vec::new(alloc);
+    for database in named.databases() {
+        let name = file_name(alloc, *database)?;
+        files.push(file_if_any(alloc, folder, name.as_str())?)?;
+    }
+    let is_writable = match named.databases().first() {
+        Some(first) => first.kind == DatabaseKind::User,
+        None => false,
+    };
+    Ok(Databases { files, is_writable })
+}
+
+/// Reads the user's database by the profile of this name.
+pub(crate) fn users_own<F: Folder>(
+    alloc: Global,
+    folder: &mut F,
+    name: &str,
+) -> Result<Option<Vec<u8>>, Refusal> {
+    let file = named_file(alloc, folder, name)?;
+    let named = profile_in(alloc, &file)?;
+    match named.databases().first() {
+        Some(first) if first.kind == DatabaseKind::User => {
+            let name = file_name(alloc, *first)?;
+            file_if_any(alloc, folder, name.as_str())
+        }
+        _ => Err(refused(alloc, "NotWritable")),
+    }
+}
