@@ -1,8 +1,9 @@
 //! `diff OLD NEW`: two stores or databases.
 use crate::explain::status_of;
 use crate::messages::{REFUSED, refuse, refuse_device, refuse_for, refuse_memory, refuse_place};
+use crate::runs::warn;
 use crate::sources::is_folder;
-use crate::stores::{Databases, databases_by, store_folder, warn};
+use crate::stores::{Databases, databases_by, found_folder};
 use dconf_args::Place;
 use dconf_compared::{Undumped, difference};
 use dconf_disk::StdFolder;
@@ -59,11 +60,11 @@ fn store_side(rt: &HostRuntime, name: &str) -> Result<Databases, u8> {
         Ok(found) => found,
         Err(fault) => return Err(refuse_place(rt, fault)),
     };
-    let Ok(mut folder) = store_folder(rt, &found) else {
+    let Ok(mut folder) = found_folder(rt, StdFolder::read_only(rt), &found) else {
         return Err(refuse_memory(rt));
     };
     match databases_by(rt.alloc(), &mut folder, found.profile.path.as_str()) {
-        Ok(databases) => match warn(rt, &folder, &found) {
+        Ok(databases) => match warn(rt, folder.bad(), &found) {
             Ok(()) => Ok(databases),
             Err(_) => Err(REFUSED),
         },

@@ -1,9 +1,9 @@
 //! `dump` of one database alone: that in a file, or the user's own.
 use crate::explain::{Given, explain};
 use crate::messages::{REFUSED, refuse, refuse_for, refuse_memory, refuse_place};
-use crate::runs::run_at;
+use crate::runs::{run_at, warn};
 use crate::session::Session;
-use crate::stores::{store_folder, users_own, warn};
+use crate::stores::{found_folder, users_own};
 use dconf_args::{Command, Place};
 use dconf_cli::run;
 use dconf_disk::{Folder, FolderFault, StdFolder};
@@ -49,7 +49,12 @@ pub(crate) fn run_or_dump<I: Read, O: Write, E: Write>(
                 Err(status) => status,
             };
         }
-        if is_file(rt, directory.as_str()) {
+        // What ends in a slash is a directory of settings.
+        let is_file = match fs::metadata(rt, directory.as_str()) {
+            Ok(found) => found.is_file() && !directory.ends_with('/'),
+            Err(_) => false,
+        };
+        if is_file {
             return match database(rt, directory.as_str()) {
                 Ok(bytes) => dump(rt, Some(&bytes), *skip_doubles, ROOT, session),
                 Err(status) => status,
@@ -57,17 +62,6 @@ pub(crate) fn run_or_dump<I: Read, O: Write, E: Write>(
         }
     }
     run_at(rt, asked, place, session)
-}
-
-/// Whether a word names a file, and no directory of settings: that ends in a slash.
-fn is_file(rt: &HostRuntime, word: &str) -> bool {
-    if word.ends_with('/') {
-        return false;
-    }
-    match fs::metadata(rt, word) {
-        Ok(found) => found.is_file(),
-        Err(_) => false,
-    }
 }
 
 /// The bytes of a sound database; or else the status of the refusal, which is said.
@@ -100,10 +94,10 @@ fn own(rt: &HostRuntime, profile: &str, place: Place) -> Result<Option<Vec<u8>>,
 }
 
 fn own_found(rt: &HostRuntime, found: &Found) -> Result<Option<Vec<u8>>, Refusal> {
-    let mut folder = store_folder(rt, found)?;
+    let mut folder = found_folder(rt, StdFolder::read_only(rt), found)?;
     let bytes = users_own(rt.alloc(), &mut folder, found.profile.path.as_str())?;
     // What can't be said changes no status here.
-    let _ = warn(rt, &folder, found);
+    let _ = warn(rt, folder.bad(), found);
     Ok(bytes)
 }
 
@@ -119,8 +113,15 @@ fn dump<I: Read, O: Write, E: Write>(
     let Ok(mut folder) = folder_of(alloc, bytes) else {
         return refuse_memory(rt);
     };
-    let Ok(command) = dump_of(alloc, skip_doubles, directory) else {
+    let directory: Result<String, AllocError> = String::from_str(alloc, directory);
+    let profile: Result<String, AllocError> = String::from_str(alloc, PROFILE);
+    let (Ok(directory), Ok(profile)) = (directory, profile) else {
         return refuse_memory(rt);
+    };
+    let command = Command::Dump {
+        skip_doubles,
+        directory,
+        profile,
     };
     let given = Given::of(rt, &command);
     let status = run(
@@ -135,14 +136,6 @@ fn dump<I: Read, O: Write, E: Write>(
         explain(rt, given, session.err.get_ref().text());
     }
     status
-}
-
-fn dump_of(alloc: Global, skip_doubles: bool, directory: &str) -> Result<Command, AllocError> {
-    Ok(Command::Dump {
-        skip_doubles,
-        directory: String::from_str(alloc, directory)?,
-        profile: String::from_str(alloc, PROFILE)?,
-    })
 }
 
 fn folder_of(alloc: Global, bytes: Option<&[u8]>) -> Result<MemoryFolder, FolderFault> {

@@ -25,7 +25,12 @@ pub(crate) fn page(rt: &HostRuntime, words: &[String]) -> Option<u8> {
         return None;
     }
     if words[2].as_str() == "words" {
-        return Some(status_of(print_all(rt)));
+        for word in WORDS {
+            if println!(rt; "{}: {}", word.name(), word.meaning()).is_err() {
+                return Some(1);
+            }
+        }
+        return Some(0);
     }
     let word = Word::of(words[2].as_str())?;
     match word.page(rt.alloc()) {
@@ -39,13 +44,6 @@ pub(crate) fn status_of(printed: io::Result<()>) -> u8 {
         Ok(()) => 0,
         Err(_) => 1,
     }
-}
-
-fn print_all(rt: &HostRuntime) -> io::Result<()> {
-    for word in WORDS {
-        println!(rt; "{}: {}", word.name(), word.meaning())?;
-    }
-    Ok(())
 }
 
 /// The words of a command that may be at fault. What it hasn't is empty.

@@ -20,6 +20,7 @@ use crate::explain::{Given, explain};
 use crate::messages::{REFUSED, refuse, refuse_memory, refuse_place, warn_of_bad};
 use crate::named::{first_file, warn_of_missing_ones};
 use crate::session::Session;
+use crate::stores::found_folder;
 use dconf_args::{Command, Place, Replaced, user_file};
 use dconf_cli::{Counted, is_made, run};
 use dconf_disk::{Folder, FolderLock, LockFault, StdFolder, folder_of};
@@ -170,7 +171,7 @@ fn in_turn<'a>(
 }
 
 /// Says what nobody would learn from the status alone. What can't be said is a refusal.
-fn warn(rt: &HostRuntime, bad: &[BadDatabase], found: &Found) -> io::Result<()> {
+pub(crate) fn warn(rt: &HostRuntime, bad: &[BadDatabase], found: &Found) -> io::Result<()> {
     if found.is_nowhere() {
         // Nothing is read of it.
         eprintln!(rt; "warning: there is no folder {}", found.folder.as_str())?;
@@ -195,39 +196,14 @@ fn warn(rt: &HostRuntime, bad: &[BadDatabase], found: &Found) -> io::Result<()> 
     Ok(())
 }
 
-fn found_folder<'a>(
-    rt: &'a HostRuntime,
-    folder: StdFolder<&'a HostRuntime>,
-    found: &Found,
-) -> Result<FoundFolder<RenamedFolder<StdFolder<&'a HostRuntime>>>, AllocError> {
-    let profile = String::from_str(rt.alloc(), found.profile.path.as_str())?;
-    let made = match &found.profile.made {
-        Some(text) => Some(text.as_slice().to_vec(rt.alloc())?),
-        None => None,
-    };
-    Ok(FoundFolder::new(
-        rt.alloc(),
-        RenamedFolder::new(folder, found.names(rt)?),
-        profile,
-        made,
-        found.is_everyones(),
-        found.has_folder,
-    ))
-}
-
-/// The whole path of the user's file.
+/// The whole path of the user's file of a store, or of its profile where it has none.
 fn users_path(rt: &HostRuntime, found: &Found) -> Result<String, AllocError> {
-    found.path(rt, users_file(rt, found)?.as_str())
-}
-
-/// The name of the user's file of a store, or of its profile where it has none.
-fn users_file(rt: &HostRuntime, found: &Found) -> Result<String, AllocError> {
     let alloc = rt.alloc();
     let mut folder = found_folder(rt, StdFolder::read_only(rt), found)?;
     let profile = found.profile.path.as_str();
     let read = folder.read(alloc, profile);
     let bytes = read.ok().flatten().unwrap_or(Vec::new(alloc));
-    user_file(alloc, profile, &bytes)
+    found.path(rt, user_file(alloc, profile, &bytes)?.as_str())
 }
 
 /// Runs the command on a folder and these streams, and explains a refusal. By `dconf_cli::run`: what it says of its streams and its status is so

@@ -1,5 +1,4 @@
 //! A store that was found, as it is read.
-use crate::messages::warn_of_bad;
 use dconf_commands::file_name;
 use dconf_disk::{Folder, StdFolder};
 use dconf_found::{FoundFolder, RenamedFolder};
@@ -7,37 +6,28 @@ use dconf_path::{DatabaseKind, Profile, ProfileFault, read_profile, settings_tex
 use dconf_streams::{NamedFile, Refusal, file_if_any, named_file, refused, refused_at};
 use dconf_surroundings::Found;
 use std::alloc::{AllocError, Global};
-use std::io;
 
 /// The folder of a store, in which a bad database counts as what can be saved of it.
 pub(crate) type StoreFolder<'a> = FoundFolder<RenamedFolder<StdFolder<&'a HostRuntime>>>;
 
-pub(crate) fn store_folder<'a>(
+pub(crate) fn found_folder<'a>(
     rt: &'a HostRuntime,
+    folder: StdFolder<&'a HostRuntime>,
     found: &Found,
 ) -> Result<StoreFolder<'a>, AllocError> {
-    let alloc = rt.alloc();
+    let profile = String::from_str(rt.alloc(), found.profile.path.as_str())?;
     let made = match &found.profile.made {
-        Some(text) => Some(text.as_slice().to_vec(alloc)?),
+        Some(text) => Some(text.as_slice().to_vec(rt.alloc())?),
         None => None,
     };
     Ok(FoundFolder::new(
-        alloc,
-        RenamedFolder::new(StdFolder::read_only(rt), found.names(rt)?),
-        String::from_str(alloc, found.profile.path.as_str())?,
+        rt.alloc(),
+        RenamedFolder::new(folder, found.names(rt)?),
+        profile,
         made,
         found.is_everyones(),
         found.has_folder,
     ))
-}
-
-/// Says which databases of a store are bad.
-pub(crate) fn warn(rt: &HostRuntime, folder: &StoreFolder<'_>, found: &Found) -> io::Result<()> {
-    for bad in folder.bad() {
-        let path = found.path(rt, bad.name.as_str())?;
-        warn_of_bad(rt, path.as_str(), bad, false)?;
-    }
-    Ok(())
 }
 
 /// The profile in a file, or the refusal of its first line at fault.

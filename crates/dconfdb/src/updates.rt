@@ -66,7 +66,11 @@ pub(crate) fn update_machines(rt: &HostRuntime, dconfs: Making, ours: Making) ->
 pub(crate) fn update_in(rt: &HostRuntime, folder: &str, naming: Naming, making: Making) -> u8 {
     match env::set_current_dir(rt, folder) {
         Ok(()) => {
-            let status = update_here(rt, folder, naming, making);
+            let status = match names_in(rt, ".") {
+                Ok(names) => update_each(rt, &names, naming, making),
+                Err(Unread::Folder(_)) => refuse_device(rt, folder),
+                Err(Unread::Memory) => refuse_memory(rt),
+            };
             // A profile of our own kind is beside its databases of the system. What isn't made yet is no loss before it is.
             let warned = match (naming, making) {
                 (_, Making::Dry { .. }) => Ok(()),
@@ -86,33 +90,18 @@ pub(crate) fn update_in(rt: &HostRuntime, folder: &str, naming: Naming, making: 
     }
 }
 
-/// Makes those of the current folder, which was given as `folder`.
-fn update_here(rt: &HostRuntime, folder: &str, naming: Naming, making: Making) -> u8 {
-    match names_in(rt, ".") {
-        Ok(names) => update_each(rt, &names, naming, making),
-        Err(Unread::Folder(_)) => refuse_device(rt, folder),
-        Err(Unread::Memory) => refuse_memory(rt),
-    }
-}
-
-/// Makes those of the folders with these names. A fault of one leaves the others.
+/// Makes those of the folders NAME.d with these names. A fault of one leaves the others.
 fn update_each(rt: &HostRuntime, names: &[String], naming: Naming, making: Making) -> u8 {
     let mut status = 0;
     for name in names {
-        if let Some(database) = database_of(rt, name.as_str()) {
+        if let Some(database) = name.as_str().strip_suffix(".d")
+            && !database.is_empty()
+            && is_folder(rt, name.as_str())
+        {
             status |= update_one(rt, database, naming, making);
         }
     }
     status
-}
-
-/// The NAME of a folder NAME.d.
-fn database_of<'a>(rt: &HostRuntime, name: &'a str) -> Option<&'a str> {
-    let database = name.strip_suffix(".d")?;
-    if database.is_empty() || !is_folder(rt, name) {
-        return None;
-    }
-    Some(database)
 }
 
 /// Makes the database of one folder.
