@@ -68,7 +68,7 @@ pub(crate) fn update_in(rt: &HostRuntime, folder: &str, naming: Naming, making: 
         Ok(()) => {
             let status = match names_in(rt, ".") {
                 Ok(names) => update_each(rt, &names, naming, making),
-                Err(Unread::Folder(_)) => refuse_device(rt, folder),
+                Err(Unread::Folder(_unread)) => refuse_device(rt, folder),
                 Err(Unread::Memory) => refuse_memory(rt),
             };
             // A profile of our own kind is beside its databases of the system. What isn't made yet is no loss before it is.

@@ -123,7 +123,9 @@ fn names_are_watched_and_heard(rt: HostRuntime) -> Result<(), Fail> {
             && all_that_is_heard_is_asked_for()
     );
     assert!(rt; names_are_gone_through());
-    assert!(rt; minds_much(3) && minds_much(4) && !minds_much(0) && !minds_much(1) && !minds_much(2));
+    assert!(rt;
+        minds_much(3) && minds_much(4) && !minds_much(0) && !minds_much(1) && !minds_much(2)
+    );
     assert!(rt; rounds_are_counted(WatchRounds::none()));
     Ok(())
 }
