@@ -725,7 +725,8 @@ enum {
     DCONFDB_TO_ENTER,      /* a folder on the way was opened */
     DCONFDB_TO_READ_LINK,  /* what is no folder is looked at, to be read as a link */
     DCONFDB_TO_MAKE_IN,    /* a folder is to be made in this one */
-    DCONFDB_TO_OPEN_FOLDER /* a folder was opened by its path */
+    DCONFDB_TO_OPEN_FOLDER, /* a folder was opened by its path */
+    DCONFDB_TO_SYNC_NAME    /* a folder's name was brought to the disk, by the folder above it */
 };
 
 /* What becomes of it. */
@@ -1020,7 +1021,7 @@ enum {
     DCONFDB_TAKING_OPEN_FOLDER = 1, /* close what is open, and open the folder */
     DCONFDB_TAKING_MAKE_FOLDER,     /* make it: it is missing */
     DCONFDB_TAKING_OPEN,            /* open what has the lock's name there, and look at it */
-    DCONFDB_TAKING_LOOK_ABOVE,      /* look at the folder */
+    DCONFDB_TAKING_LOOK_ABOVE,      /* bring the folder's own name to the disk, and look at it */
     DCONFDB_TAKING_MAKE_UNNAMED,    /* make a file without a name, hand it over, and give it the lock's name, if that is free */
     DCONFDB_TAKING_MAKE_RENAMED,    /* the same of one with another name */
     DCONFDB_TAKING_MAKE,            /* make one by the lock's name, if that is free, and hand it over */
@@ -1426,6 +1427,17 @@ uint64_t dconfdb_next_look(uint32_t looker, uint64_t due, uint64_t now, bool has
 /* Whether what was begun in one process is at work in this one: it has not ended, and this is no child of that by fork(). */
 bool dconfdb_is_at_work(bool has_ended, uint32_t begun_in, uint32_t process);
 
+/* What is known of who writes in the user's database. */
+typedef struct {
+    uint32_t begun_in, process; /* in which process it was begun, and in which one it is asked */
+    bool has_ended;
+    bool has_user;              /* there is a user's database */
+    bool is_closed;             /* nobody who has this program's rights may write there */
+} DconfdbWriting;
+
+/* Whether somebody may write there. */
+bool dconfdb_is_open(const DconfdbWriting *known);
+
 /* What is known of what is told. */
 typedef struct {
     size_t taken;     /* how many paths were taken for the next notice */
@@ -1701,7 +1713,7 @@ enum {
  * be asked for the key by that type. */
 uint32_t dconfdb_found(bool of_user, bool of_default, const DconfdbKnown *known, bool *is_odd);
 
-/* Whether an edit may be made. `is_open`: somebody may write in the user's database. `may_write`: its path may be written, or, of a
+/* Whether an edit may be made. `is_open`: by dconfdb_is_open. `may_write`: its path may be written, or, of a
  * directory that is reset, whatever. */
 bool dconfdb_may_be_made(const uint8_t *path, size_t path_len, bool sets, bool is_open, bool may_write);
 
@@ -1869,10 +1881,14 @@ typedef struct {
     bool is_left_out; /* it is left out of its change */
     bool is_now;      /* it counts as set when it is made: nobody has set its path since */
     bool is_there;    /* the user has what it says */
+    bool is_again;    /* a later edit of its path was tried with it: whoever is told of that is told of this */
 } DconfdbTried;
 
 /* Whether it is not made: whoever was told of it is told again. */
 bool dconfdb_is_unmade(const DconfdbTried *edit);
+
+/* Whether what could not be written waits again, each path by itself: it is not unmade, and nothing newer is asked for there. */
+bool dconfdb_waits_again(bool is_unmade, bool is_newer);
 
 /* ---- keyfiles and lock files, line by line */
 

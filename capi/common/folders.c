@@ -27,16 +27,16 @@ static bool is_root(void)
 
 /* ---- what is made */
 
-/* Opens what a descriptor is of, to be read or synced. */
-static int reopen(int folder, int *opened)
+/* Opens what a descriptor is of (`.`), or the folder above it (`..`), to be read or synced. */
+static int reopen(int folder, const char *which, int *opened)
 {
-    *opened = openat(folder, ".", TO_READ);
+    *opened = openat(folder, which, TO_READ);
     return *opened < 0 ? errno : 0;
 }
 
-static int sync_folder(int folder)
+static int sync_folder(int folder, const char *which)
 {
-    int opened, fault = reopen(folder, &opened);
+    int opened, fault = reopen(folder, which, &opened);
     if (fault != 0)
         return fault;
     if (fsync(opened) != 0)
@@ -50,7 +50,7 @@ static bool is_empty(int folder)
 {
     int opened;
     const struct dirent *name = NULL;
-    if (reopen(folder, &opened) != 0)
+    if (reopen(folder, ".", &opened) != 0)
         return false;
     DIR *names = fdopendir(opened);
     if (!names) {
@@ -143,11 +143,19 @@ static int make_in(int above, const char *name)
     }
 }
 
-/* Makes a folder that is missing, so that its name is on the disk. Another program may do so at the same time, and not have come to that. */
+int folder_sync_name(int folder)
+{
+    return file_fault(DCONFDB_TO_SYNC_NAME, sync_folder(folder, ".."));
+}
+
+/* Makes a folder that is missing, so that its name is on the disk, and before it that of the one that it is in: who made that may have been killed
+ * before it was. Another program may do so at the same time, and not have come to that. */
 static int make_one(int above, const char *name)
 {
-    int fault = file_fault(DCONFDB_TO_MAKE, make_in(above, name));
-    return fault != 0 ? fault : sync_folder(above);
+    int fault = folder_sync_name(above);
+    if (fault == 0)
+        fault = file_fault(DCONFDB_TO_MAKE, make_in(above, name));
+    return fault != 0 ? fault : sync_folder(above, ".");
 }
 
 /* ---- a path */
@@ -288,7 +296,7 @@ static int open_by_names(const char *folder, int *opened)
     int end, fault = walk_to(false, folder, &end);
     if (fault != 0)
         return fault;
-    fault = reopen(end, opened);
+    fault = reopen(end, ".", opened);
     close(end);
     return fault;
 }

@@ -9,4 +9,7 @@ int folder_open(const char *folder, int *opened);
  * one's. */
 int folder_make(const char *folder);
 
+/* Brings the name of an open folder to the disk, by the folder above it, as far as this program may. */
+int folder_sync_name(int folder);
+
 #endif

@@ -253,10 +253,14 @@ static DconfdbStood open_old(Awaited *awaited)
     return file_stood(&found, fault);
 }
 
+/* Nothing is made in the folder before its own name is on the disk. */
 static DconfdbStood look_above(Awaited *awaited)
 {
     struct stat above;
-    DconfdbStood stood = file_stood(&above, fstat(awaited->lock->folder, &above) != 0 ? errno : 0);
+    int folder = awaited->lock->folder, fault = folder_sync_name(folder);
+    if (fault == 0 && fstat(folder, &above) != 0)
+        fault = errno;
+    DconfdbStood stood = file_stood(&above, fault);
     stood.is_root = geteuid() == 0;
     return stood;
 }

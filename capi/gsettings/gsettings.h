@@ -80,7 +80,7 @@ void change_free(Change *change);
 
 /* What becomes of the change, by the proved call, beside what waits and the newest snapshot, if there is one. Resets of
  * what may not be changed are left out; where nobody is at work that is all. */
-uint32_t change_entry(Change *change, const Waiting *waiting, const DconfdbSnapshot *now, bool is_at_work);
+uint32_t change_entry(Change *change, const Waiting *waiting, const DconfdbSnapshot *now, bool is_open);
 
 /* The paths of the edits by which something else is seen, each with `value`: to be told. */
 GTree *change_tree(const Change *change);
@@ -102,7 +102,7 @@ bool waiting_is_any(const Waiting *waiting);
 bool waiting_asks(const Waiting *waiting);
 
 /* Forgets those of which the newest snapshot says that all is there, and that nothing else waits for. False: there are none. */
-bool waiting_settle(Waiting *waiting, const DconfdbSnapshot *now);
+bool waiting_settle(Waiting *waiting, const DconfdbSnapshot *now, bool is_open);
 
 /* A key at the moment when changes are forgotten: what its newest edit said before, and what that of
  * then says, if there is one. */
@@ -285,6 +285,13 @@ void patience_renew(DconfdbPatience *patience, const DconfdbBackend *self);
 static inline bool is_at_work(const DconfdbBackend *self)
 {
     return dconfdb_is_at_work(self->has_ended, (uint32_t)self->process, (uint32_t)getpid());
+}
+
+/* Whether somebody may write in the user's database. That its file is closed to this program is found out by each write, since rights may come back. */
+static inline bool is_open(const DconfdbBackend *self)
+{
+    const DconfdbWriting known = {(uint32_t)self->process, (uint32_t)getpid(), self->has_ended, self->has_user, false};
+    return dconfdb_is_open(&known);
 }
 
 /* What is known of what waits; also before a write begins. */

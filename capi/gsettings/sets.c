@@ -19,7 +19,7 @@ static uint32_t make(DconfdbBackend *self, Change *change, GTree **told)
 {
     bool is_here = false;
     lock_or_open(self);
-    uint32_t entry = change_entry(change, &self->waiting, self->now, is_at_work(self));
+    uint32_t entry = change_entry(change, &self->waiting, self->now, is_open(self));
     switch (entry) {
     case DCONFDB_ENTRY_WAITS:
         if (told)

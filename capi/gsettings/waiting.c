@@ -47,12 +47,12 @@ static bool is_writable(const Edit *edit, const Edit *waits, guint64 shown, cons
     return dconfdb_snapshot_is_writable(or_nothing(now), edit->path);
 }
 
-static bool may_be_made(Edit *edit, const Edit *waits, guint64 shown, const DconfdbSnapshot *now, bool is_at_work)
+static bool may_be_made(Edit *edit, const Edit *waits, guint64 shown, const DconfdbSnapshot *now, bool is_open)
 {
     if (edit->may_be_of != shown)
         edit->may_be_written = is_writable(edit, waits, shown, now);
     edit->may_be_of = shown;
-    return dconfdb_may_be_made((const uint8_t *)edit->path, edit->len, edit->value != NULL, is_at_work, edit->may_be_written);
+    return dconfdb_may_be_made((const uint8_t *)edit->path, edit->len, edit->value != NULL, is_open, edit->may_be_written);
 }
 
 static bool is_stored(const Edit *edit, const DconfdbSnapshot *now)
@@ -68,10 +68,10 @@ static bool is_said(const Edit *edit, const Edit *waits, const DconfdbSnapshot *
 }
 
 /* What is known of an edit beside the newest one of its key that waits, or else beside the newest snapshot, which is the one of that number. */
-static DconfdbNewEdit known_of(Edit *edit, const Edit *waits, guint64 shown, const DconfdbSnapshot *now, bool is_at_work)
+static DconfdbNewEdit known_of(Edit *edit, const Edit *waits, guint64 shown, const DconfdbSnapshot *now, bool is_open)
 {
     return (DconfdbNewEdit){.sets = edit->value != NULL,
-                            .may = may_be_made(edit, waits, shown, now, is_at_work),
+                            .may = may_be_made(edit, waits, shown, now, is_open),
                             .is_same = is_said(edit, waits, now),
                             .waits = waits != NULL,
                             .is_alone = waits && is_alone(waits),
@@ -85,12 +85,12 @@ static void leave_out(Change *change, uint32_t entry)
         change->edits[i].is_left_out = change->count == 1 ? entry == DCONFDB_ENTRY_EMPTY : edit_is_left_out(&change->known[i]);
 }
 
-uint32_t change_entry(Change *change, const Waiting *waiting, const DconfdbSnapshot *now, bool is_at_work)
+uint32_t change_entry(Change *change, const Waiting *waiting, const DconfdbSnapshot *now, bool is_open)
 {
     for (size_t i = 0; i < change->count; i++) {
         Edit *edit = &change->edits[i];
         edit->key = key_of(waiting, edit);
-        change->known[i] = known_of(edit, newest_of(waiting, edit->key), waiting->shown, now, is_at_work);
+        change->known[i] = known_of(edit, newest_of(waiting, edit->key), waiting->shown, now, is_open);
     }
     bool is_there;
     uint32_t entry = dconfdb_entry(change->known, change->count, &is_there);
@@ -297,12 +297,12 @@ static EditedKeys *edited_of(const Waiting *waiting)
     return keys;
 }
 
-/* Asked once more, by the newest snapshot, of a change that asks: of others it doesn't count. Who does is at work. */
-static bool is_there_already(const Waiting *waiting, Change *change, const DconfdbSnapshot *now)
+/* Asked once more, by the newest snapshot, of a change that asks: of others it doesn't count. */
+static bool is_there_already(const Waiting *waiting, Change *change, const DconfdbSnapshot *now, bool is_open)
 {
     for (size_t i = 0; i < change->count; i++) {
         Edit *edit = &change->edits[i];
-        change->known[i] = known_of(edit, NULL, waiting->shown, now, true);
+        change->known[i] = known_of(edit, NULL, waiting->shown, now, is_open);
         change->known[i].waits = edit->before > 0 || newest_of(waiting, edit->key) != edit;
     }
     return edits_are_there(change->known, change->count);
@@ -337,14 +337,14 @@ static GQueue settle_line(Waiting *waiting, bool is_written)
     return gone;
 }
 
-bool waiting_settle(Waiting *waiting, const DconfdbSnapshot *now)
+bool waiting_settle(Waiting *waiting, const DconfdbSnapshot *now, bool is_open)
 {
     for (guint at = 0; at < waiting->line->len; at++) {
         DconfdbWaiter *waiter = &line_of(waiting)[at];
         Change *change = change_at(waiting, at);
         *waiter = waiter_of(change);
         waiter->asks = change->asks;
-        waiter->is_there = change->asks && is_there_already(waiting, change, now);
+        waiter->is_there = change->asks && is_there_already(waiting, change, now, is_open);
     }
     GQueue settled = settle_line(waiting, false);
     bool is_any = settled.length > 0;

@@ -96,10 +96,10 @@ static bool is_unmade(unsigned fields)
 
 static void finds_tried(void)
 {
-    enum { WRITTEN = 1, REFUSED = 2, LEFT = 4, NOW = 8, THERE = 16, FIELDS = 5 };
-    static const char *const names[FIELDS] = {"is_written", "is_refused", "is_left_out", "is_now", "is_there"};
+    enum { WRITTEN = 1, REFUSED = 2, LEFT = 4, NOW = 8, THERE = 16, AGAIN = 32, FIELDS = 6 };
+    static const char *const names[FIELDS] = {"is_written", "is_refused", "is_left_out", "is_now", "is_there", "is_again"};
     is_so(is_unmade(REFUSED) && is_unmade(LEFT) && is_unmade(WRITTEN) && !is_unmade(0), "DconfdbTried");
-    is_so(!is_unmade(WRITTEN | NOW) && !is_unmade(WRITTEN | THERE) && is_unmade(WRITTEN | REFUSED | NOW | THERE), "DconfdbTried");
+    is_so(!is_unmade(WRITTEN | NOW) && !is_unmade(WRITTEN | THERE) && !is_unmade(WRITTEN | AGAIN) && is_unmade(WRITTEN | REFUSED | NOW | THERE), "DconfdbTried");
     for (size_t i = 0; i < FIELDS; i++)
         lies("DconfdbTried", names[i], i, FLAG);
     printf("TAKES(DconfdbTried, %d);\n", FIELDS);

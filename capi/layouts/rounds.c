@@ -6,6 +6,7 @@
 
 uint32_t dconfdb_round_after(uint32_t task, const void *known);
 bool dconfdb_has_work(const void *known);
+bool dconfdb_is_open(const void *known);
 uint32_t dconfdb_glance_after(uint32_t task, const void *known);
 uint32_t dconfdb_writer_after(uint32_t what, uint32_t task, bool yes, const void *known);
 
@@ -196,8 +197,31 @@ static void finds_glance(void)
     printf("TAKES(DconfdbGlance, %d);\n", GLANCE);
 }
 
+/* What is known of who writes. */
+static bool is_open(uint32_t begun_in, uint32_t process, bool has_ended, bool has_user, bool is_closed)
+{
+    const struct {
+        uint32_t begun_in, process;
+        bool flags[3];
+    } known = {begun_in, process, {has_ended, has_user, is_closed}};
+    return dconfdb_is_open(&known);
+}
+
+static void finds_writing(void)
+{
+    is_so(is_open(7, 7, false, true, false) && !is_open(7, 8, false, true, false) && !is_open(0, 7, false, true, false), "DconfdbWriting");
+    is_so(!is_open(7, 7, true, true, false) && !is_open(7, 7, false, false, false) && !is_open(7, 7, false, true, true), "DconfdbWriting");
+    lies("DconfdbWriting", "begun_in", 0, NUMBER);
+    lies("DconfdbWriting", "process", NUMBER, NUMBER);
+    lies("DconfdbWriting", "has_ended", 8, FLAG);
+    lies("DconfdbWriting", "has_user", 9, FLAG);
+    lies("DconfdbWriting", "is_closed", 10, FLAG);
+    printf("TAKES(DconfdbWriting, %d);\n", 12);
+}
+
 void finds_next(void)
 {
+    finds_writing();
     finds_round();
     finds_writer();
     finds_sync();

@@ -79,6 +79,9 @@ void engine_end_write(Engine *self);
 /* Whether the profile has a user's database: without one nothing can be written. */
 gboolean engine_has_user(Engine *self);
 
+/* Whether somebody may write there. */
+bool engine_is_open(Engine *self);
+
 /* Before anything waits or is written: in a child of fork() nothing does yet, as what waits is the parent's, and so is who writes it. */
 void engine_begin_here(Engine *self);
 

@@ -4,6 +4,7 @@
 
 #include "faults.h"
 #include "order.h"
+#include "tried.h"
 
 #include <string.h>
 
@@ -129,26 +130,16 @@ static Batch batch_of(Engine *self, const Edits *edits)
 
 /* ---- what is made */
 
-/* What is known of an edit that was tried. */
-static DconfdbTried tried_of(const Batch *batch, size_t at, bool is_written, const DconfdbSnapshot *now)
-{
-    return (DconfdbTried){
-        .is_written = is_written,
-        .is_refused = batch_is_refused(batch, at),
-        .is_left_out = batch_is_left_out(batch, at),
-        .is_now = batch->moments[at] == UINT64_MAX,
-        .is_there = dconfdb_snapshot_has_edit(now, batch->edits[at]),
-    };
-}
-
 /* The paths of what isn't made, by what was there then. */
 static void add_unmade(const Batch *batch, const DconfdbSnapshot *then, bool is_written, GHashTable *unmade)
 {
+    GTree *last = tried_last(batch);
     for (size_t at = 0; at < batch->count; at++) {
-        DconfdbTried tried = tried_of(batch, at, is_written, then);
+        const DconfdbTried tried = tried_edit(batch, at, is_written, last, then);
         if (dconfdb_is_unmade(&tried))
             g_hash_table_add(unmade, g_strdup(batch->edits[at]->path));
     }
+    g_tree_unref(last);
 }
 
 /* A try to write what waits. */
@@ -190,35 +181,18 @@ static DConfChangeset *take_waiting(Engine *self)
 
 /* ---- what goes on waiting */
 
-/* What is known of an edit that could not be written, beside what was asked for since: of each key it is as if each edit were a change. */
-static DconfdbWaiter waiter_of(guint number, const gchar *path, GHashTable *unmade, DConfChangeset *newer)
-{
-    bool is_newer = newer && dconf_changeset_get(newer, path, NULL);
-    return (DconfdbWaiter){.change = number,
-                           .set = number,
-                           .edit = {1, true},
-                           .newest = {is_newer ? 2 : 0, true},
-                           .is_tried = true,
-                           .is_refused = g_hash_table_contains(unmade, path)};
-}
-
-/* What goes on waiting of a set, and all that was asked for since. */
+/* What goes on waiting of a set, each path by itself, as the sets are merged; and all that was asked for since. */
 static DConfChangeset *merged(DConfChangeset *taken, GHashTable *unmade, DConfChangeset *newer)
 {
     const gchar *prefix, *const *paths;
     GVariant *const *values;
     DConfChangeset *waits = dconf_changeset_new();
     guint count = dconf_changeset_describe(taken, &prefix, &paths, &values);
-    g_autoptr(GPtrArray) whole = g_ptr_array_new_with_free_func(g_free);
-    g_autofree DconfdbWaiter *line = g_new(DconfdbWaiter, count + 1);
     for (guint at = 0; at < count; at++) {
-        g_ptr_array_add(whole, g_strconcat(prefix, paths[at], NULL));
-        line[at] = waiter_of(at, g_ptr_array_index(whole, at), unmade, newer);
+        g_autofree gchar *path = g_strconcat(prefix, paths[at], NULL);
+        if (dconfdb_waits_again(g_hash_table_contains(unmade, path), newer && dconf_changeset_get(newer, path, NULL)))
+            dconf_changeset_set(waits, path, values[at]);
     }
-    DconfdbTally tally = {0, 0};
-    size_t waiting = dconfdb_waiting_line(line, count, false, &tally);
-    for (size_t at = 0; at < waiting; at++)
-        dconf_changeset_set(waits, g_ptr_array_index(whole, line[at].change), values[line[at].change]);
     if (newer)
         dconf_changeset_change(waits, newer);
     return waits;
@@ -291,7 +265,7 @@ static bool make(Try *try)
     DconfdbSnapshot *now = engine_look(try->engine);
     Edits edits = edits_of(try->changes);
     DconfdbChanging changing = {.has_store = try->store, .has_user = engine_has_user(try->engine)};
-    g_autofree DconfdbNewEdit *known = known_of(&edits, changing.has_user, now);
+    g_autofree DconfdbNewEdit *known = known_of(&edits, engine_is_open(try->engine), now);
     changing.is_there = edits_are_there(known, edits.edits->len);
     leave_out(&edits, known);
     changing.is_left = edits.edits->len > 0;

@@ -91,7 +91,7 @@ static bool is_refused(Engine *engine, const Edits *edits)
     DconfdbSnapshot *now = engine_look(engine);
     if (!now)
         return false;
-    g_autofree DconfdbNewEdit *known = known_of(edits, engine_has_user(engine), now);
+    g_autofree DconfdbNewEdit *known = known_of(edits, engine_is_open(engine), now);
     dconfdb_snapshot_unref(now);
     bool is_there;
     return dconfdb_entry(known, edits->edits->len, &is_there) == DCONFDB_ENTRY_REFUSED;
@@ -103,7 +103,7 @@ static void learn(Change *self)
     self->now = engine_look(self->engine);
     self->known.has_store = engine_store(self->engine, &self->fault);
     self->known.has_user = engine_has_user(self->engine);
-    g_autofree DconfdbNewEdit *known = known_of(&self->edits, self->known.has_user, self->now);
+    g_autofree DconfdbNewEdit *known = known_of(&self->edits, engine_is_open(self->engine), self->now);
     self->known.is_there = edits_are_there(known, self->edits.edits->len);
     self->told = effective(&self->edits, known, self->changes);
     leave_out(&self->edits, known);

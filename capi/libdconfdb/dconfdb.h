@@ -509,7 +509,7 @@ typedef struct DconfdbEdit {
  * The new file has no locks: a change drops those that the old one had. So a site's database must
  * not be anybody's user-db.
  *
- * A missing folder is made, even if the change is then refused; but not if there is nothing to change:
+ * A missing folder is made, and its name brought to the disk, even if the change is then refused; but not if there is nothing to change:
  * no edit sets a key and the user has no file, or the profile has no user's database. Programs that change the file take
  * turns with flock() on the file `.lock` in its folder, which is created if it is missing; only those
  * who may write in the folder may open it. If it has another name, too, it is replaced in a turn, and

@@ -4,6 +4,7 @@
 #include "faults.h"
 #include "service.h"
 #include "threads.h"
+#include "tried.h"
 
 #include <string.h>
 
@@ -15,6 +16,8 @@ typedef struct {
     const GList *first; /* of the changes */
     size_t count;       /* of their edits */
     Batch batch;
+    DconfdbSnapshot *then; /* what was there once they were written */
+    GTree *last;           /* the last edit of each path */
     bool is_done;
     bool ends;     /* the service ended when that was known */
     uint32_t said; /* of the fault by which nothing could be written */
@@ -35,11 +38,10 @@ static void read_all(Run *run)
 
 /* ---- what came of it; `turn` is held */
 
-/* Of what is written. What others set since was left out then; and what a later change of the same write sets is told after this. */
+/* What became of it, by what was there then. */
 static bool is_unmade(const Run *run, size_t number)
 {
-    const DconfdbTried tried = {
-        .is_written = true, .is_refused = batch_is_refused(&run->batch, number), .is_left_out = batch_is_left_out(&run->batch, number), .is_now = true};
+    const DconfdbTried tried = tried_edit(&run->batch, number, run->is_done, run->last, run->then);
     return dconfdb_is_unmade(&tried);
 }
 
@@ -204,7 +206,16 @@ static void write_in(Run *run, const Turn *turn)
     run->refusal = run->fault = none;
     run->batch = batch_of(run->first, run->count);
     run->is_done = batch_write(&run->batch, run->writer->store, turn, &run->refusal, &run->fault);
+    run->then = dconfdb_store_snapshot(run->writer->store);
+    run->last = tried_last(&run->batch);
     run->said = dconfdb_failing_met(&service->failing, !run->is_done, is_momentary(&run->fault), true, (uint64_t)g_get_monotonic_time());
+}
+
+static void end_write(Run *run)
+{
+    batch_end(&run->batch);
+    dconfdb_snapshot_unref(run->then);
+    g_tree_unref(run->last);
 }
 
 static void give(FolderLock *lock, const Turn *turn)
@@ -225,7 +236,7 @@ static bool write_run(Run *run, FolderLock *lock, const Turn *turn)
     if (is_over)
         answer_all(run);
     g_mutex_unlock(&writer->turn);
-    batch_end(&run->batch);
+    end_write(run);
     writer_has_written(writer);
     return is_over;
 }

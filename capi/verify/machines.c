@@ -85,7 +85,7 @@ uint32_t dconfdb_fault_answer(uint32_t call, uint32_t fault, DconfdbRenamed *ren
 
 uint32_t dconfdb_standing(uint32_t purpose, const DconfdbStood *stood, uint32_t *fault)
 {
-    CHECK(purpose <= DCONFDB_TO_OPEN_FOLDER && __CPROVER_r_ok(stood, sizeof *stood), "answer: a purpose");
+    CHECK(purpose <= DCONFDB_TO_SYNC_NAME && __CPROVER_r_ok(stood, sizeof *stood), "answer: a purpose");
     return standing_given(purpose, stood, fault);
 }
 

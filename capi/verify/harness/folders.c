@@ -117,10 +117,16 @@ int folder_follow(void)
     return 0;
 }
 
+static void is_named_first(Kind kind)
+{
+    CHECK(kind != MKDIRAT || count_of[OPENAT] > 0, "order: nothing is made in a folder before its own name is on the disk");
+}
+
 /* harness folder_make_one: unwind 4, with machines.c, quick */
 int folder_make_one(void)
 {
     int above = some_file();
+    at_call = is_named_first;
     int fault = real_make_one(above, "b");
     CHECK(only_open(above, -1), "descriptor: each is closed");
     CHECK(count_of[MKDIRAT] == 0 || geteuid() != 0 || count_of[FSTAT] > 0, "step: root asks whose folder it is");

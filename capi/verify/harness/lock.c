@@ -54,6 +54,16 @@ int folder_make(const char *name)
     return any_fault();
 }
 
+static int named = -1; /* the folder of which the name was brought to the disk */
+
+int folder_sync_name(int folder)
+{
+    CHECK(is_open(folder) && none_is_held(), "descriptor: the folder is open, and who forks doesn't wait for it");
+    int fault = any_fault();
+    named = fault == 0 ? folder : -1;
+    return fault;
+}
+
 /* ---- as lock_make has them */
 
 static int some_made(int folder, int *file)
@@ -167,6 +177,8 @@ static void is_well_done(uint32_t task, const Awaited *it)
               "step: no link is followed, no pipe waited for, and it can be locked everywhere");
         CHECK(count_of[FSTAT] > 0, "answer: an old one is looked at");
     }
+    if (task == DCONFDB_TAKING_LOOK_ABOVE && it->taking.task >= DCONFDB_TAKING_MAKE_UNNAMED && it->taking.task <= DCONFDB_TAKING_MAKE)
+        CHECK(named == it->lock->folder, "order: the folder's own name is on the disk before anything is made in it");
     if (task == DCONFDB_TAKING_LOCK && it->taking.task == DCONFDB_TAKING_LOOK)
         CHECK(last[FLOCK].flags == (it->has_end ? LOCK_EX | LOCK_NB : LOCK_EX), "step: a wait without end is one in the kernel");
     if (task == DCONFDB_TAKING_LOOK && it->taking.task == DCONFDB_TAKING_HAD) {

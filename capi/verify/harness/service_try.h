@@ -6,6 +6,8 @@ static bool is_told[CHANGES];
 static unsigned asked;            /* how many edits were to be written */
 static const Writer *written_for; /* whose */
 static char a_batch[1];           /* stands for a batch's memory */
+static char a_tree[1], a_snapshot[1];
+static bool has_last, has_then;
 
 void change_free(Change *change)
 {
@@ -69,16 +71,40 @@ bool batch_write(Batch *batch, DconfdbStore *store, const Turn *turn, DconfdbErr
     return is_written;
 }
 
-bool batch_is_refused(const Batch *batch, size_t number)
+/* ---- what was there then */
+
+DconfdbSnapshot *dconfdb_store_snapshot(DconfdbStore *store)
 {
-    CHECK(has_batch && number < batch->count, "memory: an edit of the batch");
-    return any_bool();
+    CHECK(is_tried && !has_then && store == written_for->store && is_held(&written_for->turn), "order: what is there is asked for once, behind the write");
+    has_then = true;
+    return (DconfdbSnapshot *)(void *)a_snapshot;
 }
 
-bool batch_is_left_out(const Batch *batch, size_t number)
+void dconfdb_snapshot_unref(DconfdbSnapshot *snapshot)
+{
+    CHECK(has_then && snapshot == (DconfdbSnapshot *)(void *)a_snapshot, "memory: what is given back is had");
+    has_then = false;
+}
+
+GTree *tried_last(const Batch *batch)
+{
+    CHECK(has_batch && !has_last && batch->count == asked, "memory: the edits of a batch that is had");
+    has_last = true;
+    return (GTree *)(void *)a_tree;
+}
+
+void g_tree_unref(GTree *tree)
+{
+    CHECK(has_last && tree == (GTree *)(void *)a_tree, "memory: what is given back is had");
+    has_last = false;
+}
+
+DconfdbTried tried_edit(const Batch *batch, size_t number, bool is_done, GTree *last, const DconfdbSnapshot *then)
 {
     CHECK(has_batch && number < batch->count, "memory: an edit of the batch");
-    return any_bool();
+    CHECK(has_last && last == (GTree *)(void *)a_tree && has_then && then == (DconfdbSnapshot *)(void *)a_snapshot, "memory: what is asked is had");
+    CHECK(is_done == is_written, "answer: whether it is written");
+    return (DconfdbTried){is_done, any_bool(), any_bool(), any_bool(), any_bool(), any_bool()};
 }
 
 void batch_end(Batch *batch)
@@ -112,7 +138,7 @@ uint32_t dconfdb_path_kind(const uint8_t *text, size_t len, uint32_t wanted, boo
     return any_bool() ? DCONFDB_PATH_DIRECTORY : any_u32();
 }
 
-bool dconfdb_is_unmade(const DconfdbTried *edit) { return edit->is_refused || edit->is_left_out; }
+bool dconfdb_is_unmade(const DconfdbTried *edit) { return edit->is_refused || edit->is_left_out || (edit->is_written && !(edit->is_now || edit->is_again || edit->is_there)); }
 
 uint64_t dconfdb_moment_beside(const DconfdbTime *change, size_t n, const DconfdbTime *others, size_t others_n, uint64_t moment)
 {
@@ -180,5 +206,5 @@ static void tries_once(void)
     try(&service);
     all_are_answered_or_wait();
     CHECK(!has_turn, "descriptor: the turn is given back");
-    CHECK(!has_batch, "memory: the batch is given back");
+    CHECK(!has_batch && !has_last && !has_then, "memory: the batch is given back, and all that was asked of it");
 }

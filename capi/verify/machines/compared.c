@@ -119,7 +119,7 @@ static void compare_taking(void)
 
 static void compare_standing(const DconfdbStood *stood)
 {
-    for (uint32_t purpose = 0; purpose <= DCONFDB_TO_OPEN_FOLDER; purpose++) {
+    for (uint32_t purpose = 0; purpose <= DCONFDB_TO_SYNC_NAME; purpose++) {
         uint32_t told, wanted;
         if (dconfdb_standing(purpose, stood, &told) != standing_given(purpose, stood, &wanted) || told != wanted)
             fail("standing", "another answer than is given");

@@ -82,7 +82,7 @@ static inline uint32_t stands_followed(const DconfdbStood *stood, uint32_t *told
 /* Of folders on the way. */
 static inline uint32_t stands_on_way(uint32_t purpose, const DconfdbStood *stood, uint32_t *told)
 {
-    enum { NO_FILE = 2, NO_FOLDER_THERE = 20 };
+    enum { NO_FILE = 2, NO_RIGHT = 13, NO_FOLDER_THERE = 20, NOT_SO = 22, READ_ONLY = 30 };
     *told = 0;
     if (purpose == DCONFDB_TO_OPEN_FOLDER && stood->is_root)
         return stood->fault == 0 && stood->is_named ? DCONFDB_IS_GOOD : DCONFDB_IS_OTHER;
@@ -90,6 +90,8 @@ static inline uint32_t stands_on_way(uint32_t purpose, const DconfdbStood *stood
         return DCONFDB_IS_NOTHING;
     if (purpose == DCONFDB_TO_ENTER && stood->fault == NO_FOLDER_THERE)
         return DCONFDB_IS_OTHER;
+    if (purpose == DCONFDB_TO_SYNC_NAME && (stood->fault == NO_RIGHT || stood->fault == NOT_SO || stood->fault == READ_ONLY))
+        return DCONFDB_IS_NOTHING;
     *told = stood->fault;
     if (stood->fault == 0 && purpose == DCONFDB_TO_READ_LINK && (stood->mode & 0170000) != 0120000)
         *told = NO_FOLDER_THERE;
@@ -274,7 +276,7 @@ static inline void taking_looked(DconfdbTaking *taking, const DconfdbStood *stoo
 
 static inline bool is_for_others_given(const DconfdbStood *above)
 {
-    return above->fault == 0 && ((above->is_root && above->user != 0) || lock_bits_given(above->mode, true) != 0600);
+    return (above->is_root && above->user != 0) || lock_bits_given(above->mode, true) != 0600;
 }
 
 static inline void taking_given(DconfdbTaking *taking, const DconfdbStood *stood)
@@ -291,7 +293,12 @@ static inline void taking_given(DconfdbTaking *taking, const DconfdbStood *stood
         }
         break;
     case DCONFDB_TAKING_OPEN: taking_opened(taking, stood); break;
-    case DCONFDB_TAKING_LOOK_ABOVE: taking->task = is_for_others_given(stood) ? DCONFDB_TAKING_MAKE_UNNAMED : DCONFDB_TAKING_MAKE; break;
+    case DCONFDB_TAKING_LOOK_ABOVE:
+        if (fault != 0)
+            taking_failed(taking, fault);
+        else
+            taking->task = is_for_others_given(stood) ? DCONFDB_TAKING_MAKE_UNNAMED : DCONFDB_TAKING_MAKE;
+        break;
     case DCONFDB_TAKING_MAKE_UNNAMED:
     case DCONFDB_TAKING_MAKE_RENAMED:
     case DCONFDB_TAKING_MAKE: taking_made(taking, fault); break;

@@ -71,18 +71,14 @@ is_tell Tell = true
 is_tell _ = false
 
 -- how a change fails, or finds no place
-fails : (refused : Bool) → is_tell (if refused then Refused else Failed) ≡ false
+fails : (is_barred : Bool) → is_tell (if is_barred then Refused else Failed) ≡ false
 fails true = refl
 fails false = refl
-
-closes : (has_store : Bool) → is_tell (if has_store then Refused else Failed) ≡ false
-closes true = refl
-closes false = refl
 
 gives_up : (place has_store refused : Bool) →
     is_tell (if place then (if refused then Refused else Failed) else if has_store then Refused else Failed) ≡ false
 gives_up true has_store refused = fails refused
-gives_up false has_store refused = closes has_store
+gives_up false has_store refused = fails has_store
 
 -- what comes next once all is written that was asked for before, and once what is there was settled
 abbrev begun : Bool → Bool → Bool → ChangeTask
@@ -167,16 +163,18 @@ others_are_told_first = in_order
 
 -- ---- what is told again
 
-abbrev tried : Bool → Bool → Bool → Bool → Bool → Tried
-tried written refused left now there = record { is_written = written; is_refused = refused; is_left_out = left; is_now = now; is_there = there }
+abbrev tried : Bool → Bool → Bool → Bool → Bool → Bool → Tried
+tried written refused left now there again =
+    record { is_written = written; is_refused = refused; is_left_out = left; is_now = now; is_there = there; is_again = again }
 
-so : (w r l n t : Bool) → is_unmade (tried w r l n t) ≡ false → IsSo (tried w r l n t)
-so w true l n t e = absurd (let bad : true ≡ false = e in cc)
-so w false true n t e = absurd (let bad : true ≡ false = e in cc)
-so false false false n t e = record { refused = refl; left = refl; made = λ is. absurd (let bad : false ≡ true = is in cc) }
-so true false false true t e = record { refused = refl; left = refl; made = λ is. refl }
-so true false false false true e = record { refused = refl; left = refl; made = λ is. refl }
-so true false false false false e = absurd (let bad : true ≡ false = e in cc)
+so : (w r l n t a : Bool) → is_unmade (tried w r l n t a) ≡ false → IsSo (tried w r l n t a)
+so w true l n t a e = absurd (let bad : true ≡ false = e in cc)
+so w false true n t a e = absurd (let bad : true ≡ false = e in cc)
+so false false false n t a e = record { refused = refl; left = refl; made = λ is. absurd (let bad : false ≡ true = is in cc) }
+so true false false true t a e = record { refused = refl; left = refl; made = λ is. refl }
+so true false false false t true e = record { refused = refl; left = refl; made = λ is. refl }
+so true false false false true false e = record { refused = refl; left = refl; made = λ is. refl }
+so true false false false false false e = absurd (let bad : true ≡ false = e in cc)
 
 pub what_is_lost_is_told_again : WhatIsLostIsToldAgain
-what_is_lost_is_told_again t e = so t.is_written t.is_refused t.is_left_out t.is_now t.is_there e
+what_is_lost_is_told_again t e = so t.is_written t.is_refused t.is_left_out t.is_now t.is_there t.is_again e

@@ -121,13 +121,19 @@ OthersAreToldFirst = (task : ChangeTask) (is_so : Bool) (k : ChangeKnown) → Is
 
 -- it is refused or left out, or others have set its path since
 abbrev pub is_unmade : Tried → Bool
-is_unmade t = t.is_refused || (t.is_left_out || (t.is_written && not (t.is_now || t.is_there)))
+is_unmade t = t.is_refused || (t.is_left_out || (t.is_written && not (t.is_now || (t.is_again || t.is_there))))
 
--- Of an edit that was tried, and isn't told again, all is so, or it goes on waiting.
+-- Of an edit that was tried, and isn't told again, all is so, or a later one that was tried with it is told of instead, or it goes on waiting.
 pub record IsSo (t : Tried) : Type 0 where
   pub refused : t.is_refused ≡ false
   pub left : t.is_left_out ≡ false
-  pub made : t.is_written ≡ true → (t.is_now || t.is_there) ≡ true
+  pub made : t.is_written ≡ true → (t.is_now || (t.is_again || t.is_there)) ≡ true
 
 abbrev pub WhatIsLostIsToldAgain : Type 0
 WhatIsLostIsToldAgain = (t : Tried) → is_unmade t ≡ false → IsSo t
+
+-- ---- what goes on waiting
+
+-- What was tried of a path, and isn't unmade, waits again, unless something newer is asked for there.
+abbrev pub waits_again : Bool → Bool → Bool
+waits_again is_unmade is_newer = not (is_unmade || is_newer)

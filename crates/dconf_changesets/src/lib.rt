@@ -23,7 +23,9 @@ mod saying;
 pub use above::shared_within;
 pub use asking::{LookDue, LookKnown, asked_after, look_due, look_number};
 pub use differences::{Base, differs};
-pub use making::{ChangeKnown, ChangeTask, Tried, change_after, change_number, is_unmade};
+pub use making::{
+    ChangeKnown, ChangeTask, Tried, change_after, change_number, is_unmade, waits_again,
+};
 pub use rows::{Effect, effect_number, effect_of};
 pub use saying::{Said, is_said, is_same_word};
 

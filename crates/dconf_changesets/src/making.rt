@@ -1,6 +1,6 @@
 //! What becomes of a change whose caller waits for it.
 ghost use Rattle.std.specs.Prelude.{◌≡◌};
-ghost use Rattle.dconf_changesets.specs.Making.{begins_with, change_after, change_number, closed_by, fails_by, given_up, has_place, is_unmade, puts, tells};
+ghost use Rattle.dconf_changesets.specs.Making.{begins_with, change_after, change_number, closed_by, fails_by, given_up, has_place, is_unmade, puts, tells, waits_again};
 
 /// What comes next, in this order.
 #[derive(Clone, Copy)]
@@ -173,11 +173,23 @@ pub struct Tried {
     pub is_now: bool,
     /// The user has what it says.
     pub is_there: bool,
+    /// A later edit of its path was tried with it: whoever is told of that is told of this.
+    pub is_again: bool,
 }
 
 /// Whether it is not made, so that whoever was told of it is told again: it is refused or left out, or others have set its path since.
 pub fn is_unmade(edit: &Tried) -> bool
     ensures { result ≡ is_unmade edit.now }
 {
-    edit.is_refused || (edit.is_left_out || (edit.is_written && !(edit.is_now || edit.is_there)))
+    edit.is_refused
+        || (edit.is_left_out
+            || (edit.is_written && !(edit.is_now || (edit.is_again || edit.is_there))))
+}
+
+/// Whether what could not be written waits again, each path by itself: it is not unmade, and nothing newer is asked for there. So of each path the
+/// newest word waits that can be made.
+pub fn waits_again(is_unmade: bool, is_newer: bool) -> bool
+    ensures { result ≡ waits_again is_unmade is_newer }
+{
+    !is_unmade && !is_newer
 }

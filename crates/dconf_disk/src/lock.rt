@@ -2,6 +2,7 @@
 ghost use Rattle.std.specs.Prelude.{◌≡◌, Some};
 
 use dconf_files::lock_bits;
+use dconf_verdicts::{Standing, name_synced};
 use dconf_waits::{LockWait, WaitAnswer, WaitEnd, WaitStep};
 use std::alloc::{AllocError, Global};
 use std::error::Error;
@@ -15,6 +16,11 @@ use std::{fmt, fs, io};
 
 /// The file that is locked, in the folder of those that are replaced.
 const LOCK: &str = "/.lock";
+
+/// The folder above one, by that one's path.
+const ABOVE: &str = "/..";
+
+const EIO: u32 = 5;
 
 /// Reading and writing for the file's owner.
 const READ_AND_WRITE: u32 = 0o600;
@@ -91,25 +97,29 @@ impl FolderLock {
     /// Takes the lock of the folder of this path; that of a file's name is [`folder_of`](crate::folder_of) it.
     ///
     /// It tries five thousand times a second, for ten seconds at most; the first try comes at once. `Busy` comes after the last one,
-    /// and `Device` as soon as the host answers an error. What it costs, beside the wait, is a few calls of the host a try.
+    /// and `Device` as soon as the host answers an error. What it costs, beside the wait, is a few calls of the host a try. Who makes the
+    /// file brings the folder's own name to the disk first.
     pub fn take<R: Files<File = File> + Clock>(
         rt: &R,
         alloc: Global,
         folder: &str,
     ) -> Result<FolderLock, LockFault> {
-        let mut name = String::from_str(alloc, folder)?;
-        name.push_str(LOCK)?;
-        let name = name.as_str();
+        let (name, above) = (below(alloc, folder, LOCK)?, below(alloc, folder, ABOVE)?);
+        let paths = Paths {
+            folder,
+            lock: name.as_str(),
+            above: above.as_str(),
+        };
         // Where the program has no stdin, stdout or stderr, the first file that is opened is in its place. A folder can be neither read
         // nor written; from the lock's file an input would be empty, and an output would be lost in it.
-        let above = fs::open(rt, folder)?;
-        let mut lock = open_lock(rt, folder, name)?;
+        let opened = fs::open(rt, folder)?;
+        let mut lock = open_lock(rt, paths)?;
         let began = Instant::now(rt)?;
         let mut wait = LockWait::begin(LONGEST_WAIT);
         for _ in 0..MOST_STEPS {
             match wait.next() {
                 WaitStep::Try => {
-                    let answer = try_once(rt, &mut lock, folder, name, &began)?;
+                    let answer = try_once(rt, &mut lock, paths, &began)?;
                     wait.answered(answer);
                 }
                 WaitStep::Pause => {
@@ -118,7 +128,7 @@ impl FolderLock {
                 }
                 WaitStep::Done(WaitEnd::Had) => {
                     return Ok(FolderLock {
-                        _folder: above,
+                        _folder: opened,
                         _lock: lock,
                     });
                 }
@@ -129,18 +139,29 @@ impl FolderLock {
     }
 }
 
+/// The folder, the lock's file in it, and the folder above.
+#[derive(Clone, Copy)]
+struct Paths<'a> {
+    folder: &'a str,
+    lock: &'a str,
+    above: &'a str,
+}
+
+fn below(alloc: Global, folder: &str, name: &str) -> Result<String, AllocError> {
+    format!(in alloc; "{folder}{name}")
+}
+
 /// Tries to take the lock. Where its name is another file's by now, that is the one to be tried next.
 fn try_once<R: Files<File = File> + Clock>(
     rt: &R,
     lock: &mut File,
-    folder: &str,
-    name: &str,
+    paths: Paths<'_>,
     began: &Instant,
 ) -> Result<WaitAnswer, LockFault> {
     match lock.try_lock() {
-        Ok(()) if is_named(rt, lock, name)? => Ok(WaitAnswer::Got),
+        Ok(()) if is_named(rt, lock, paths.lock)? => Ok(WaitAnswer::Got),
         Ok(()) => {
-            *lock = open_lock(rt, folder, name)?;
+            *lock = open_lock(rt, paths)?;
             Ok(WaitAnswer::Moved(passed(rt, began)?))
         }
         Err(TryLockError::Error(error)) => Err(LockFault::Device(error)),
@@ -154,19 +175,37 @@ fn passed<R: Clock>(rt: &R, began: &Instant) -> io::Result<u64> {
 }
 
 /// The lock's file, opened. It is made where it is missing. A folder that can't be opened can't be synced, so it isn't locked.
-fn open_lock<R: Files<File = File>>(rt: &R, folder: &str, name: &str) -> io::Result<File> {
-    let above = fs::open(rt, folder)?.metadata()?;
+fn open_lock<R: Files<File = File>>(rt: &R, paths: Paths<'_>) -> io::Result<File> {
+    let folder = fs::open(rt, paths.folder)?.metadata()?;
     for _ in 0..MOST_OPENINGS {
-        match open_old(rt, name) {
+        match open_old(rt, paths.lock) {
             Err(error) if error.kind() == ErrorKind::NotFound => {}
             answer => return answer,
         }
-        match make_new(rt, &above, name) {
+        sync_name(rt, paths.above)?;
+        match make_new(rt, &folder, paths.lock) {
             Err(error) if error.kind() == ErrorKind::AlreadyExists => {}
             answer => return answer,
         }
     }
     Err(io::Error::from(ErrorKind::NotFound))
+}
+
+/// Brings the folder's own name to the disk, by the folder above it: whoever made it may have been killed before that.
+fn sync_name<R: Files<File = File>>(rt: &R, above: &str) -> io::Result<()> {
+    match sync(rt, above) {
+        Err(error) if is_fault(&error) => Err(error),
+        _ => Ok(()),
+    }
+}
+
+fn sync<R: Files<File = File>>(rt: &R, folder: &str) -> io::Result<()> {
+    fs::open(rt, folder)?.sync_all()
+}
+
+fn is_fault(error: &io::Error) -> bool {
+    let errno = error.raw_os_error().map_or(EIO, i32::unsigned_abs);
+    matches!(name_synced(errno), Standing::Fault(_))
 }
 
 /// Opened to be written, so that a network file system can lock it. What is no file is not opened.

@@ -1,12 +1,17 @@
 -- What the thread does next that writes what waits.
 use Rattle.std.specs.Prelude.{ℕ, ◌≡◌, ◌⊎◌, Bool, true, false, not, ◌&&◌, ◌||◌, if◌then◌else◌, ◌==◌, nat_lt, nat_le}
 use Rattle.dconf_rounds.specs.declared.rounds.Known.{Known}
+use Rattle.dconf_rounds.specs.declared.rounds.WritingKnown.{WritingKnown}
 use Rattle.dconf_rounds.specs.declared.rounds.Task.{Task}
 use Rattle.dconf_rounds.specs.declared.rounds.Task.TheVariants.{Tell, Watch, Look, Take, Write, Leave, Rest, End, GiveUp}
 
 -- it has not ended, and is in the process that began it
 abbrev pub is_at_work : Bool → ℕ → ℕ → Bool
 is_at_work has_ended begun_in process = not has_ended && (begun_in == process)
+
+-- Somebody may write in the user's database: there is one, it isn't known to be closed to this program, and who asks is at work.
+abbrev pub is_open : WritingKnown → Bool
+is_open k = is_at_work k.has_ended k.begun_in k.process && (k.has_user && not k.is_closed)
 
 -- it writes, waits for its turn, or is to try again
 abbrev pub has_work : Known → Bool

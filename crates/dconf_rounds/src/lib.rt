@@ -17,7 +17,9 @@ mod telling;
 mod writers;
 
 pub use glances::{Glance, GlanceKnown, glance_after, glance_number};
-pub use rounds::{Known, Task, has_work, is_at_work, task_after, task_number};
+pub use rounds::{
+    Known, Task, WritingKnown, has_work, is_at_work, is_open, task_after, task_number,
+};
 pub use syncs::{SyncKnown, SyncTask, sync_after, sync_number};
 pub use telling::{TellKnown, Telling, passes_over, tell_next, telling_number};
 pub use writers::{

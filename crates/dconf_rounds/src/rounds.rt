@@ -1,6 +1,6 @@
 //! What the thread does next that writes what waits, tells, and watches the files. All moments are of one clock; 0 is none.
 ghost use Rattle.std.specs.Prelude.{◌≡◌};
-ghost use Rattle.dconf_rounds.specs.Rounds.{ending, has_failed, has_work, is_at_work, is_left, is_waiting, leaves, looks_first, takes, task_after, task_number, watches, writes};
+ghost use Rattle.dconf_rounds.specs.Rounds.{ending, has_failed, has_work, is_at_work, is_left, is_open, is_waiting, leaves, looks_first, takes, task_after, task_number, watches, writes};
 
 /// A task of a round, in the order in which they come.
 #[derive(Clone, Copy)]
@@ -65,6 +65,28 @@ pub fn is_at_work(has_ended: bool, begun_in: u32, process: u32) -> bool
     ensures { result ≡ is_at_work has_ended begun_in process }
 {
     !has_ended && begun_in == process
+}
+
+/// What is known of who writes in the user's database.
+#[repr(C)]
+#[derive(Clone, Copy)]
+pub struct WritingKnown {
+    /// In which process it was begun, and in which one it is asked.
+    pub begun_in: u32,
+    pub process: u32,
+    /// It has ended.
+    pub has_ended: bool,
+    /// There is a user's database.
+    pub has_user: bool,
+    /// Nobody who has this program's rights may write there.
+    pub is_closed: bool,
+}
+
+/// Whether somebody may write in the user's database.
+pub fn is_open(known: &WritingKnown) -> bool
+    ensures { result ≡ is_open known.now }
+{
+    is_at_work(known.has_ended, known.begun_in, known.process) && known.has_user && !known.is_closed
 }
 
 /// Whether the thread writes, or is to try again, or waits for its turn: as long as it does, the program's end waits for it.

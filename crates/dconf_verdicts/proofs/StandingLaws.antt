@@ -100,6 +100,14 @@ enter_none false true false false false errno e = cc
 enter_none false false may false true errno e = cc
 enter_none false false may false false errno e = cc
 
+abbrev sync_name : Bool → Bool → ℕ → Standing
+sync_name done none errno = if done then Good else if none then Nothing else Fault errno
+
+sync_good : (done none : Bool) (errno : ℕ) → sync_name done none errno ≡ Good → done ≡ true
+sync_good true none errno e = refl
+sync_good false true errno e = cc
+sync_good false false errno e = cc
+
 pub each_is_safe : EachIsSafe
 each_is_safe s = record {
   regular = take_good (s.fault == 0) s.fault (is_regular s.mode) (fault_of_mode s.mode) (nat_lt s.most s.size) (s.size == 0) (nat_lt 65536 s.size) s.may_map s.may_stop;
@@ -111,4 +119,5 @@ each_is_safe s = record {
   opened = open_good s.is_root (s.fault == 0) s.is_named s.fault;
   made = make_good (s.fault == 0) s.is_root (s.user == 0) s.fault;
   entered = enter_none (s.fault == 0) (s.fault == 2) s.may_make (s.tried == 0) (s.fault == 20) s.fault;
+  synced = sync_good (s.fault == 0) (s.fault == 13 || (s.fault == 22 || s.fault == 30)) s.fault;
 }

@@ -2,7 +2,7 @@
 use Rattle.std.specs.Prelude.{ℕ, ◌≡◌, ◌/◌, ◌%◌, Bool, true, false, if◌then◌else◌, ◌==◌, ◌&&◌, ◌||◌, not, nat_lt}
 use Rattle.dconf_verdicts.specs.declared.standing.Seen.{Seen}
 use Rattle.dconf_verdicts.specs.declared.standing.Purpose.{Purpose}
-use Rattle.dconf_verdicts.specs.declared.standing.Purpose.TheVariants.{Look, Open, Take, OpenLock, HoldLock, Follow, MakeRoom, Exchange, Make, GiveName, TakePlace, SetAside, MoveAside, MakeNamed, Enter, ReadLink, MakeIn, OpenFolder}
+use Rattle.dconf_verdicts.specs.declared.standing.Purpose.TheVariants.{Look, Open, Take, OpenLock, HoldLock, Follow, MakeRoom, Exchange, Make, GiveName, TakePlace, SetAside, MoveAside, MakeNamed, Enter, ReadLink, MakeIn, OpenFolder, SyncName}
 use Rattle.dconf_verdicts.specs.declared.standing.Standing.{Standing}
 use Rattle.dconf_verdicts.specs.declared.standing.Standing.TheVariants.{Good, Nothing, Map, Head, Other, Fault}
 
@@ -87,6 +87,11 @@ abbrev pub folder_opened : Seen → Standing
 folder_opened s =
     if s.is_root then (if s.fault == 0 && s.is_named then Good else Other) else if s.fault == 0 then Good else Fault s.fault
 
+-- A folder's name is brought to the disk by the folder above. What may not be read (EACCES), or isn't written at all (EINVAL, EROFS), has nothing that this
+-- program could bring there.
+abbrev pub name_synced : ℕ → Standing
+name_synced errno = if errno == 0 then Good else if errno == 13 || (errno == 22 || errno == 30) then Nothing else Fault errno
+
 -- what is there already (EEXIST) need not be made
 abbrev pub made : ℕ → Standing
 made errno = if errno == 0 then Good else if errno == 17 then Nothing else Fault errno
@@ -145,6 +150,7 @@ standing_of Enter s = entered s
 standing_of ReadLink s = link_read s
 standing_of MakeIn s = made_in s
 standing_of OpenFolder s = folder_opened s
+standing_of SyncName s = name_synced s.fault
 
 -- ---- numbers
 
@@ -153,7 +159,8 @@ purpose_of n =
     if n == 0 then Look else if n == 1 then Open else if n == 2 then Take else if n == 3 then OpenLock else if n == 4 then HoldLock else
     if n == 5 then Follow else if n == 6 then MakeRoom else if n == 7 then Exchange else if n == 8 then Make else
     if n == 9 then GiveName else if n == 10 then TakePlace else if n == 11 then SetAside else if n == 12 then MoveAside else
-    if n == 13 then MakeNamed else if n == 14 then Enter else if n == 15 then ReadLink else if n == 16 then MakeIn else OpenFolder
+    if n == 13 then MakeNamed else if n == 14 then Enter else if n == 15 then ReadLink else if n == 16 then MakeIn else
+    if n == 17 then OpenFolder else SyncName
 
 abbrev pub standing_number : Standing → ℕ
 standing_number Good = 0
@@ -188,6 +195,8 @@ pub record IsSafe (s : Seen) : Type 0 where
   pub made : (s.is_root ≡ true) → (standing_of MakeIn s ≡ Good) → (s.user == 0) ≡ true
   -- nothing is made where a link led
   pub entered : (standing_of Enter s ≡ Nothing) → (s.tried == 0) ≡ true
+  -- a name is on the disk only where the system says so
+  pub synced : (standing_of SyncName s ≡ Good) → (s.fault == 0) ≡ true
 
 abbrev pub EachIsSafe : Type 0
 EachIsSafe = (s : Seen) → IsSafe s

@@ -26,6 +26,7 @@ pub use faults::{
 };
 pub use standing::{Purpose, Seen, Standing, standing_numbers, standing_of};
 pub use told::{Told, told_code, told_of};
+pub use ways::name_synced;
 
 /// A change is refused only where it sets what may not be written. Else it waits, if anything of it may be written: also where it says
 /// what waits, or is there, already.
@@ -50,8 +51,8 @@ pub fn each_call_has_one_answer()
     ensures { EachHasOneAnswer }
 {}
 
-/// Only a regular file is read, or is a lock; a lock that is had has its name, and no other; and root follows no link that another could have
-/// put there.
+/// Only a regular file is read, or is a lock; a lock that is had has its name, and no other; root follows no link that another could have
+/// put there; and a folder's name is on the disk only where the host says so.
 pub fn each_file_is_safe()
     ensures { EachIsSafe }
 {}

@@ -6,7 +6,7 @@ ghost use Rattle.dconf_verdicts.specs.Standings.{fault_of_mode, is_no_file, is_r
 use crate::names::{
     exchanged, moved_aside, name_given, named_anew, place_taken, room_made, set_aside,
 };
-use crate::ways::{entered, folder_opened, followed, link_read, made, made_in};
+use crate::ways::{entered, folder_opened, followed, link_read, made, made_in, name_synced};
 
 /// Whatever is larger is mapped, or only its head is read at first. A small file costs less to read than to map.
 const SMALL: u64 = 65536;
@@ -87,6 +87,8 @@ pub enum Purpose {
     MakeIn,
     /// A folder was opened by its path.
     OpenFolder,
+    /// A folder's name was brought to the disk, by the folder above it.
+    SyncName,
 }
 
 /// What becomes of it.
@@ -129,11 +131,12 @@ pub fn standing_of(purpose: Purpose, seen: &Seen) -> Standing
         Purpose::ReadLink => link_read(seen),
         Purpose::MakeIn => made_in(seen),
         Purpose::OpenFolder => folder_opened(seen),
+        Purpose::SyncName => name_synced(seen.fault),
     }
 }
 
 /// The same in numbers. Purposes: 0 look, 1 open, 2 take, 3 open a lock, 4 hold it, 5 follow, 6 make room, 7 exchange, 8 make, 9 give the
-/// name, 10 take a place, 11 set aside, 12 move aside, 13 make by a name, 14 enter, 15 read a link, 16 make in it, else open a folder. Answers: 0 good, 1 nothing, 2 map, 3 head, 4 another way, 5 a fault; and the fault's errno, or 0.
+/// name, 10 take a place, 11 set aside, 12 move aside, 13 make by a name, 14 enter, 15 read a link, 16 make in it, 17 open a folder, else bring its name to the disk. Answers: 0 good, 1 nothing, 2 map, 3 head, 4 another way, 5 a fault; and the fault's errno, or 0.
 pub fn standing_numbers(purpose: u32, seen: &Seen) -> (u32, u32)
     ensures number { result.0 ≡ standing_number (standing_of (purpose_of purpose) seen.now) }
     ensures fault { result.1 ≡ standing_fault (standing_of (purpose_of purpose) seen.now) }
@@ -271,6 +274,7 @@ fn purpose_of(number: u32) -> Purpose
         14 => Purpose::Enter,
         15 => Purpose::ReadLink,
         16 => Purpose::MakeIn,
-        _ => Purpose::OpenFolder,
+        17 => Purpose::OpenFolder,
+        _ => Purpose::SyncName,
     }
 }

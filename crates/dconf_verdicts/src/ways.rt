@@ -1,7 +1,7 @@
 //! Folders on the way to a file: which are entered, and which links are followed.
 ghost use Rattle.std.specs.Prelude.{◌≡◌};
 ghost use Rattle.dconf_verdicts.specs.declared.standing.Standing.TheVariants as Standing;
-ghost use Rattle.dconf_verdicts.specs.Standings.{entered, folder_opened, followed, is_link, is_roots_alone, link_read, made, made_in};
+ghost use Rattle.dconf_verdicts.specs.Standings.{entered, folder_opened, followed, is_link, is_roots_alone, link_read, made, made_in, name_synced};
 
 use crate::standing::{Seen, Standing};
 
@@ -15,6 +15,10 @@ const EACCES: u32 = 13;
 const EEXIST: u32 = 17;
 
 const ENOTDIR: u32 = 20;
+
+const EINVAL: u32 = 22;
+
+const EROFS: u32 = 30;
 
 const ELOOP: u32 = 40;
 
@@ -74,6 +78,17 @@ pub(crate) fn made(errno: u32) -> Standing
     match errno {
         0 => Standing::Good,
         EEXIST => Standing::Nothing,
+        errno => Standing::Fault(errno),
+    }
+}
+
+/// What becomes of a folder whose name was to be brought to the disk, by the folder above it, with that errno, or 0.
+pub fn name_synced(errno: u32) -> Standing
+    ensures { result ≡ name_synced errno }
+{
+    match errno {
+        0 => Standing::Good,
+        EACCES | EINVAL | EROFS => Standing::Nothing,
         errno => Standing::Fault(errno),
     }
 }

@@ -122,9 +122,11 @@ old_falls t standing.Other = later_falls t 3 4 (omega arith) (omega arith) (omeg
 
 above_falls : (t : TakingRecord) (s : Seen) → Falls (left_at 4 t) (above_seen t s)
 above_falls t s =
-    by_test (is_for_others s) _ (to t 5) (to t 7)
+    by_test (not (s.fault == 0)) _ (failed t s.fault) _
+    (λ is. failed_falls t s.fault (99 - t.openings) 9)
+    (λ at_once. by_test (is_for_others s) _ (to t 5) (to t 7)
     (λ is. later_falls t 4 5 (omega arith) (omega arith) (omega arith) refl)
-    (λ is. later_falls t 4 7 (omega arith) (omega arith) (omega arith) refl)
+    (λ is. later_falls t 4 7 (omega arith) (omega arith) (omega arith) refl))
 
 anew_falls : (t : TakingRecord) (p : ℕ) → Falls (16000 * again_left t.is_again + (1450 * (9 - t.forks) + (1450 * made_left t.has_made + (14 * (99 - t.openings) + p)))) (opened_anew t)
 anew_falls t p =

@@ -49,11 +49,12 @@ by_old t standing = to t 4
 -- What others may take gets its name only once they may, so that who is killed before keeps nobody from it: the folder is another's than root's
 -- that makes it, or others may write in it.
 abbrev pub is_for_others : Seen → Bool
-is_for_others s = (s.fault == 0) && ((s.is_root && not (s.user == 0)) || not (lock_bits s.mode true == 384))
+is_for_others s = (s.is_root && not (s.user == 0)) || not (lock_bits s.mode true == 384)
 
--- 5: a file without a name, and then 6: with another one, and then 7: by its own
+-- 4: The folder's own name is on the disk before anything is made in it: who made the folder may have been killed before that. 5: a file without a name
+-- is made, and then 6: with another one, and then 7: by its own.
 abbrev pub above_seen : TakingRecord → Seen → TakingRecord
-above_seen t s = if is_for_others s then to t 5 else to t 7
+above_seen t s = if not (s.fault == 0) then failed t s.fault else if is_for_others s then to t 5 else to t 7
 
 -- What others made meanwhile (EEXIST) is opened: a hundred times. A host that can't make it so has it made in the next way.
 abbrev pub opened_anew : TakingRecord → TakingRecord

@@ -28,7 +28,7 @@ const OPEN_FOLDER: u32 = 1;
 const MAKE_FOLDER: u32 = 2;
 /// to open what has the lock's name in it;
 const OPEN_OLD: u32 = 3;
-/// to look at the folder;
+/// to bring its name to the disk, and look at it;
 const LOOK_ABOVE: u32 = 4;
 /// to make a file that has no name, and then the lock's;
 const MAKE_UNNAMED: u32 = 5;
@@ -63,7 +63,7 @@ const BY_OPENING: u32 = 3;
 #[repr(C)]
 #[derive(Clone, Copy)]
 pub struct TakingRecord {
-    /// What is to be done next: 1 open the folder, 2 make it, 3 open what has the lock's name, 4 look at the folder, 5 make a file that has no
+    /// What is to be done next: 1 open the folder, 2 make it, 3 open what has the lock's name, 4 bring the folder's name to the disk and look at it, 5 make a file that has no
     /// name at first, 6 one that has another name at first, 7 one by its name, 8 list it, 9 lock it, 10 look at its names, 11 take its name; or
     /// it is over: 13 it is had, 14 others have it, 15 it isn't had, and what is open is to be closed.
     pub task: u32,
@@ -155,7 +155,9 @@ impl TakingRecord {
     fn above_seen(self, seen: &Seen) -> TakingRecord
         ensures { result ≡ above_seen self seen.now }
     {
-        if is_for_others(seen) {
+        if seen.fault != 0 {
+            self.failed(seen.fault)
+        } else if is_for_others(seen) {
             self.to(MAKE_UNNAMED)
         } else {
             self.to(MAKE_OWN)
@@ -291,6 +293,5 @@ impl TakingRecord {
 fn is_for_others(folder: &Seen) -> bool
     ensures { result ≡ is_for_others folder.now }
 {
-    folder.fault == 0
-        && (folder.is_root && folder.user != 0 || lock_bits(folder.mode, true) != READ_AND_WRITE)
+    folder.is_root && folder.user != 0 || lock_bits(folder.mode, true) != READ_AND_WRITE
 }

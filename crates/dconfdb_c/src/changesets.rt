@@ -3,13 +3,13 @@ ghost use Rattle.std.specs.Prelude.{◌≡◌};
 ghost use Rattle.dconf_changesets.specs.Above.{shared_within};
 ghost use Rattle.dconf_changesets.specs.Asking.{asked_after, look_due, look_number};
 ghost use Rattle.dconf_changesets.specs.Differences.{differs};
-ghost use Rattle.dconf_changesets.specs.Making.{change_after, change_number, is_unmade};
+ghost use Rattle.dconf_changesets.specs.Making.{change_after, change_number, is_unmade, waits_again};
 ghost use Rattle.dconf_changesets.specs.Rows.{effect_number, effect_of};
 ghost use Rattle.dconf_changesets.specs.Saying.{is_said, is_same_word};
 
 use dconf_changesets::{
     Base, ChangeKnown, LookKnown, Said, Tried, asked_after, change_number, differs, effect_number,
-    effect_of, is_said, is_same_word, is_unmade, look_number, shared_within,
+    effect_of, is_said, is_same_word, is_unmade, look_number, shared_within, waits_again,
 };
 
 /// What becomes of the row of a path in a set of changes where one is set, or reset: 0 it stays, 1 it goes, 2 it takes the change's value,
@@ -106,4 +106,12 @@ pub extern "C" fn dconfdb_is_unmade(edit: &Tried) -> bool
     ensures { result ≡ is_unmade edit.now }
 {
     is_unmade(edit)
+}
+
+/// Whether what could not be written waits again, each path by itself: it is not unmade, and nothing newer is asked for there.
+#[unsafe(no_mangle)]
+pub extern "C" fn dconfdb_waits_again(is_unmade: bool, is_newer: bool) -> bool
+    ensures { result ≡ waits_again is_unmade is_newer }
+{
+    waits_again(is_unmade, is_newer)
 }

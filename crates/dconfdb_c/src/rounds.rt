@@ -2,13 +2,13 @@
 //! store's files, and by who tells what is seen otherwise.
 ghost use Rattle.std.specs.Prelude.{◌≡◌};
 ghost use Rattle.dconf_rounds.specs.Glances.{glance_after, glance_number};
-ghost use Rattle.dconf_rounds.specs.Rounds.{has_work, is_at_work, task_after, task_number};
+ghost use Rattle.dconf_rounds.specs.Rounds.{has_work, is_at_work, is_open, task_after, task_number};
 ghost use Rattle.dconf_rounds.specs.Telling.{tell_next, telling_number};
 ghost use Rattle.dconf_rounds.specs.Writers.{writer_number};
 
 use dconf_rounds::{
-    GlanceKnown, Known, TellKnown, WriterKnown, glance_number, has_work, is_at_work, task_number,
-    telling_number, writer_number,
+    GlanceKnown, Known, TellKnown, WriterKnown, WritingKnown, glance_number, has_work, is_at_work,
+    is_open, task_number, telling_number, writer_number,
 };
 
 /// Whether what was begun in one process is at work in this one: it has not ended, and this is no child of that process by fork().
@@ -17,6 +17,14 @@ pub extern "C" fn dconfdb_is_at_work(has_ended: bool, begun_in: u32, process: u3
     ensures { result ≡ is_at_work has_ended begun_in process }
 {
     is_at_work(has_ended, begun_in, process)
+}
+
+/// Whether somebody may write in the user's database: there is one, it isn't closed to this program, and who asks is at work.
+#[unsafe(no_mangle)]
+pub extern "C" fn dconfdb_is_open(known: &WritingKnown) -> bool
+    ensures { result ≡ is_open known.now }
+{
+    is_open(known)
 }
 
 /// Whether the thread writes, or is to try again, or waits for its turn: as long as it does, the program's end waits for it.

@@ -2,7 +2,7 @@
 //! looks at the files, what becomes of a change whose caller waits for it, and what is told.
 use dconf_changesets::{
     Base, ChangeKnown, Effect, LookKnown, Said, Tried, asked_after, change_number, differs,
-    effect_number, effect_of, is_said, is_unmade, look_number, shared_within,
+    effect_number, effect_of, is_said, is_unmade, look_number, shared_within, waits_again,
 };
 use std::test::Fail;
 
@@ -172,6 +172,7 @@ const TRIED: Tried = Tried {
     is_left_out: false,
     is_now: false,
     is_there: true,
+    is_again: false,
 };
 
 fn tell_what_is_lost() -> bool {
@@ -191,6 +192,10 @@ fn tell_what_is_lost() -> bool {
         is_now: true,
         ..lost
     };
+    let again = Tried {
+        is_again: true,
+        ..lost
+    };
     let waits = Tried {
         is_written: false,
         ..lost
@@ -200,7 +205,11 @@ fn tell_what_is_lost() -> bool {
         && is_unmade(&left)
         && is_unmade(&lost)
         && !is_unmade(&now)
+        && !is_unmade(&again)
         && !is_unmade(&waits)
+        && waits_again(false, false)
+        && !waits_again(true, false)
+        && !waits_again(false, true)
 }
 
 const PLAIN: ChangeKnown = ChangeKnown {

@@ -1,8 +1,8 @@
 //! What is done in turn by who writes what waits, by who has it written, or ends, or wants to know that it is on the disk, and by who looks at
 //! the files.
 use dconf_rounds::{
-    GlanceKnown, Known, SyncKnown, TellKnown, WriterKnown, glance_number, has_work, is_at_work,
-    passes_over, sync_number, task_number, telling_number, writer_number,
+    GlanceKnown, Known, SyncKnown, TellKnown, WriterKnown, WritingKnown, glance_number, has_work,
+    is_at_work, is_open, passes_over, sync_number, task_number, telling_number, writer_number,
 };
 use dconf_seen::Known as SeenKey;
 use std::test::Fail;
@@ -597,10 +597,32 @@ fn work_is_known() -> bool {
         && !has_work(&IDLE)
 }
 
+fn who_may_write_is_known() -> bool {
+    let open = WritingKnown {
+        begun_in: 7,
+        process: 7,
+        has_ended: false,
+        has_user: true,
+        is_closed: false,
+    };
+    let closed = WritingKnown {
+        is_closed: true,
+        ..open
+    };
+    let userless = WritingKnown {
+        has_user: false,
+        ..open
+    };
+    let child = WritingKnown { process: 8, ..open };
+    is_open(&open) && !is_open(&closed) && !is_open(&userless) && !is_open(&child)
+}
+
 #[test]
 fn tasks_come_in_their_order(rt: HostRuntime) -> Result<(), Fail> {
     assert!(rt; tasks_are_due() && threads_end() && syncs_are_answered() && looks_end());
-    assert!(rt; notices_are_told() && odd_keys_are_known() && work_is_known());
+    assert!(rt;
+        notices_are_told() && odd_keys_are_known() && work_is_known() && who_may_write_is_known()
+    );
     Ok(())
 }
 

@@ -72,7 +72,7 @@ fn locks_are_taken() -> bool {
         && goes(TakingRecord::new(), &again, (15, 2, 0))
 }
 
-/// What others may take is made without its name first.
+/// What others may take is made without its name first, and nothing is made in a folder whose name isn't on the disk.
 fn locks_are_made() -> bool {
     let open = Seen {
         mode: 0o040_775,
@@ -105,8 +105,10 @@ fn locks_are_made() -> bool {
         (4, own),
         (7, failed(FULL)),
     ];
+    let unnamed = [(1, FILE), (3, failed(MISSING)), (4, failed(FULL))];
     goes(TakingRecord::new(), &full, (15, 3, FULL))
         && goes(TakingRecord::new(), &other, (15, 3, FULL))
+        && goes(TakingRecord::new(), &unnamed, (15, 3, FULL))
 }
 
 /// The tenth fork is one more than may be.

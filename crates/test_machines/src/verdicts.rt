@@ -1,8 +1,8 @@
 //! What becomes of a change that is asked for, and of one that waits; and what a fault means to it.
 use dconf_files::{FileStamp, FileTime, bits_for, lock_bits, sameness_number};
 use dconf_verdicts::{
-    NewEdit, Seen, answer_number, entry_number, is_news, is_there, standing_numbers, told_code,
-    verdict_number,
+    NewEdit, Seen, Standing, answer_number, entry_number, is_news, is_there, name_synced,
+    standing_numbers, told_code, verdict_number,
 };
 use dconf_waiting::{
     Failing, Patience, Progress, Tally, Waiter, WaitingEdit, fate_number, found, put, settle,
@@ -204,6 +204,12 @@ fn ways_stand() -> bool {
         && standing_numbers(17, &moved) == (4, 0)
         && failed(17, 13) == (4, 0)
         && standing_numbers(17, &users) == (0, 0)
+        && failed(18, 0) == (0, 0)
+        && failed(18, 13) == (1, 0)
+        && failed(18, 22) == (1, 0)
+        && failed(18, 30) == (1, 0)
+        && failed(18, 5) == (5, 5)
+        && matches!(name_synced(28), Standing::Fault(28))
 }
 
 fn the_newest_is_found() -> bool {

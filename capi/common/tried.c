@@ -1,0 +1,57 @@
+/* What became of edits that were tried together: what is known of each, beside those behind it. */
+#include "tried.h"
+#include "seen.h"
+
+#include <string.h>
+
+static int by_path(gconstpointer one, gconstpointer other)
+{
+    return strcmp(one, other);
+}
+
+GTree *tried_last(const Batch *batch)
+{
+    GTree *last = g_tree_new(by_path);
+    for (size_t at = 0; at < batch->count; at++)
+        g_tree_replace(last, (gpointer)batch->edits[at]->path, GSIZE_TO_POINTER(at));
+    return last;
+}
+
+/* Whether an edit behind that one is of its path, or, if it is a directory, of one below it. */
+static bool is_said_again(GTree *last, const char *path, size_t number)
+{
+    bool is = false;
+    GTreeNode *node = g_tree_lower_bound(last, path);
+    while (!is && node && paths_meet(path, g_tree_node_key(node))) {
+        is = GPOINTER_TO_SIZE(g_tree_node_value(node)) > number;
+        node = g_tree_node_next(node);
+    }
+    return is;
+}
+
+/* Whether an edit behind that one is of a directory above it. */
+static bool is_said_above(GTree *last, const char *path, size_t number)
+{
+    g_autofree char *above = g_strdup(path);
+    gpointer at;
+    bool is = false;
+    for (char *slash = strrchr(above, '/'); !is && slash; slash = strrchr(above, '/')) {
+        slash[1] = 0;
+        is = g_tree_lookup_extended(last, above, NULL, &at) && GPOINTER_TO_SIZE(at) > number;
+        slash[0] = 0;
+    }
+    return is;
+}
+
+DconfdbTried tried_edit(const Batch *batch, size_t number, bool is_written, GTree *last, const DconfdbSnapshot *then)
+{
+    const DconfdbEdit *edit = batch->edits[number];
+    return (DconfdbTried){
+        .is_written = is_written,
+        .is_refused = batch_is_refused(batch, number),
+        .is_left_out = batch_is_left_out(batch, number),
+        .is_now = batch->moments[number] == UINT64_MAX,
+        .is_there = dconfdb_snapshot_has_edit(then, edit),
+        .is_again = is_said_again(last, edit->path, number) || is_said_above(last, edit->path, number),
+    };
+}
