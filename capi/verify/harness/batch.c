@@ -17,7 +17,7 @@ static DconfdbEdit edits[QUEUE_EDITS];
 static Batch batch;
 static Turn turn;
 static unsigned had, writes, asks, answers;
-static bool is_left, may_be;
+static bool is_left, may_be, has_users, may_write_there;
 static DconfdbError written;
 static bool is_written;
 
@@ -113,12 +113,26 @@ bool dconfdb_snapshot_is_writable(const DconfdbSnapshot *snapshot, const char *p
     return is_left = any_bool();
 }
 
-/* ---- a proved call: any answer */
+const char *dconfdb_store_user_file(const DconfdbStore *at)
+{
+    CHECK(at == store, "memory: a store");
+    has_users = any_bool();
+    return has_users ? lent : NULL;
+}
+
+/* ---- proved calls: any answer */
+
+bool dconfdb_is_open(const DconfdbWriting *known)
+{
+    CHECK(known->has_user == has_users && known->is_closed == batch.queue.is_closed, "answer: whether there is a user's database, and whether it is closed");
+    CHECK(known->begun_in == known->process && !known->has_ended, "answer: who writes is at work");
+    return may_write_there = any_bool();
+}
 
 bool dconfdb_may_be_made(const uint8_t *path, size_t len, bool sets, bool is_open, bool may_write)
 {
     CHECK((const char *)path == edits[0].path && len == 2 && sets == (edits[0].type != NULL), "step: what is asked is whether the edit may be made");
-    CHECK(is_open == !batch.queue.is_closed && may_write == is_left, "step: by whether somebody may write there, and the key may be written");
+    CHECK(is_open == may_write_there && may_write == is_left, "step: by whether somebody may write there, and the key may be written");
     answers++;
     return may_be = any_bool();
 }
