@@ -1337,7 +1337,7 @@ enum {
 
 /* What is known. */
 typedef struct {
-    uint32_t first, second; /* what dconfdb_same_file says of the two files that may be the profile */
+    uint32_t first, second; /* what dconfdb_same_file says of the first file that may be the profile; and of one of the others that isn't the same, if there is one */
     bool is_open;
     bool keeps_profile;  /* the profile of a store that is open counts as it was read: nobody looks at it again */
     bool is_done;        /* the files were read, or the store was opened */
@@ -1858,7 +1858,7 @@ enum {
     DCONFDB_CHANGING_FAILED   /* over, for another fault */
 };
 
-/* What is known; but for the first two from when all is written that was asked for before. */
+/* What is known; but for the first two, and whether there is a store, from when all is written that was asked for before. */
 typedef struct {
     bool is_empty;      /* it asks for nothing */
     bool is_refused;    /* it sets a key that may not be written */

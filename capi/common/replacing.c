@@ -2,6 +2,7 @@
 #define _GNU_SOURCE
 #define _FILE_OFFSET_BITS 64
 #include "replacing.h"
+#include "folders.h"
 #include "handed.h"
 #include "stood.h"
 
@@ -286,6 +287,8 @@ int folder_settle(const char *folder, const char *name)
     int fault = name ? settle_at(at, name) : 0;
     if (fault == 0 && fsync(at) != 0)
         fault = errno;
+    if (fault == 0)
+        fault = folder_sync_name(at);
     close(at);
     return fault;
 }

@@ -46,12 +46,16 @@ static bool is_said_above(GTree *last, const char *path, size_t number)
 DconfdbTried tried_edit(const Batch *batch, size_t number, bool is_written, GTree *last, const DconfdbSnapshot *then)
 {
     const DconfdbEdit *edit = batch->edits[number];
-    return (DconfdbTried){
+    DconfdbTried tried = {
         .is_written = is_written,
         .is_refused = batch_is_refused(batch, number),
         .is_left_out = batch_is_left_out(batch, number),
         .is_now = batch->moments[number] == UINT64_MAX,
-        .is_there = dconfdb_snapshot_has_edit(then, edit),
-        .is_again = is_said_again(last, edit->path, number) || is_said_above(last, edit->path, number),
     };
+    /* What takes time is asked only where it counts: of a directory, whether there is any key. */
+    if (!tried.is_now) {
+        tried.is_again = is_said_again(last, edit->path, number) || is_said_above(last, edit->path, number);
+        tried.is_there = !tried.is_again && dconfdb_snapshot_has_edit(then, edit);
+    }
+    return tried;
 }

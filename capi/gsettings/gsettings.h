@@ -188,6 +188,7 @@ typedef struct {
     gint is_let_go;   /* nobody holds the backend any longer; atomic */
     gint has_given_up; /* the worker, at the program's end; atomic */
     gint is_watching; /* what others change is noticed without a look at the files; atomic */
+    bool is_whole;    /* all that happens to the files is told; the worker's alone */
     _Atomic gint64 looks; /* when a read is to look at the files again */
 
     gint64 again; /* for the worker alone, as what follows: when a write is tried again; 0: none is */
@@ -291,6 +292,13 @@ static inline bool is_at_work(const DconfdbBackend *self)
 static inline bool is_open(const DconfdbBackend *self)
 {
     const DconfdbWriting known = {(uint32_t)self->process, (uint32_t)getpid(), self->has_ended, self->has_user, false};
+    return dconfdb_is_open(&known);
+}
+
+/* Whether what waits can be written, by who is at work. */
+static inline bool may_be_settled(const DconfdbBackend *self)
+{
+    const DconfdbWriting known = {.has_user = self->has_user};
     return dconfdb_is_open(&known);
 }
 

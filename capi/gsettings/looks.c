@@ -151,7 +151,7 @@ static void hand_out(DconfdbBackend *self, Looking *it)
 static void settle_what_is_there(DconfdbBackend *self)
 {
     g_mutex_lock(&self->lock);
-    if (waiting_settle(&self->waiting, self->now, is_open(self))) {
+    if (waiting_settle(&self->waiting, self->now, may_be_settled(self))) {
         self->is_to_settle = true;
         g_cond_broadcast(&self->settles);
     }

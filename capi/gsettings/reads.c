@@ -110,7 +110,7 @@ GVariant *dconfdb_backend_read(GSettingsBackend *backend, const char *key, const
     DconfdbKnown known = {.waits = source.is_edited,
                           .sets = source.value != NULL,
                           .writable = source.has_user,
-                          .may_write = source.is_edited && seen_is_writable(source.now, true, key),
+                          .may_write = source.is_edited && dconfdb_snapshot_is_writable(or_nothing(source.now), key),
                           .edit_fits = fits(source.value, expected),
                           .stored_fits = fits(stored, expected)};
     bool is_odd;

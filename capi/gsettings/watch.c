@@ -1,11 +1,12 @@
 /* The store's files, watched by the worker: by inotify, or, where that can't be had, by a look each second. */
 #include "gsettings.h"
 
+/* What is watched from here on was not looked at since: till then reads look for themselves. */
 static void begin(DconfdbBackend *self)
 {
-    bool is_whole = store_folder(self) && watch_begin(self->watch, &self->place);
-    g_atomic_int_set(&self->is_watching, is_whole);
-    watch_answer(self->watch, is_whole);
+    g_atomic_int_set(&self->is_watching, false);
+    self->is_whole = store_folder(self) && watch_begin(self->watch, &self->place);
+    watch_answer(self->watch, self->is_whole);
 }
 
 /* Until there is nothing to do but to rest. A look by another thread may have opened the store anew, also meanwhile. */
@@ -16,8 +17,10 @@ static void carry_out(DconfdbBackend *self)
         if (g_atomic_int_compare_and_exchange(&self->is_reopened, TRUE, FALSE))
             watch_opened_anew(self->watch);
         WatchStep step = watch_step(self->watch, &until);
-        if (step == WATCH_REST)
+        if (step == WATCH_REST) {
+            g_atomic_int_set(&self->is_watching, self->is_whole);
             return;
+        }
         if (step == WATCH_FILES)
             begin(self);
         else

@@ -54,7 +54,7 @@ static void finds_changing(void)
     enum { EMPTY = 1, REFUSED = 2, STORE = 4, USER = 8, THERE = 16, LEFT = 32, NEWS = 64, WATCHED = 128, BARRED = 256, FIELDS = 9 };
     static const char *const names[FIELDS] = {"is_empty", "is_refused", "has_store", "has_user", "is_there",
                                               "is_left",  "is_news",    "is_watched", "is_barred"};
-    is_so(task_after(0, true, EMPTY) == 7 && task_after(0, true, REFUSED) == 8 && task_after(0, true, LEFT | NEWS | WATCHED) == 1, "DconfdbChanging");
+    is_so(task_after(0, true, EMPTY) == 7 && task_after(0, true, REFUSED | STORE) == 8 && task_after(0, true, REFUSED) == 1 && task_after(0, true, LEFT | NEWS | WATCHED) == 1, "DconfdbChanging");
     is_so(task_after(6, true, USER | THERE) == 9 && task_after(6, true, STORE | THERE) == 8 && task_after(1, true, STORE | THERE) == 6, "DconfdbChanging");
     is_so(task_after(1, true, STORE | USER | THERE) == 2 && task_after(1, true, STORE | USER) == 4, "DconfdbChanging");
     is_so(task_after(1, true, STORE | USER | LEFT) == 3 && task_after(4, true, NEWS | WATCHED) == 5 && task_after(4, true, NEWS) == 7, "DconfdbChanging");

@@ -267,13 +267,6 @@ gboolean engine_has_user(Engine *self)
     return store && dconfdb_store_user_file(store);
 }
 
-/* A client begins anew in a child of fork(), so it is at work wherever it is asked. */
-bool engine_is_open(Engine *self)
-{
-    const DconfdbWriting known = {.has_user = engine_has_user(self)};
-    return dconfdb_is_open(&known);
-}
-
 /* ---- its life */
 
 /* `lock` is held. What a thread of the parent's works at is never freed here. */

@@ -149,14 +149,14 @@ static bool is_redundant(Engine *self, const DconfdbSnapshot *now, const Dconfdb
 }
 
 /* `lock` is held. What becomes of the changes beside what waits. */
-static uint32_t entry_of(Engine *self, bool is_open, const DconfdbSnapshot *now, const Edits *edits, DConfChangeset *changes)
+static uint32_t entry_of(Engine *self, bool has_user, const DconfdbSnapshot *now, const Edits *edits, DConfChangeset *changes)
 {
     g_autofree DconfdbNewEdit *known = g_new0(DconfdbNewEdit, edits->edits->len);
     for (guint at = 0; at < edits->edits->len; at++) {
         const DconfdbEdit *edit = edit_at(edits, at);
         g_autoptr(GVariant) value = NULL;
         dconf_changeset_get(changes, edit->path, &value);
-        known[at] = known_by_rights(edit, is_open, now);
+        known[at] = known_by_rights(edit, is_open(has_user), now);
         known[at].is_same = is_redundant(self, or_nothing(now), edit, value);
     }
     bool is_there;
@@ -166,9 +166,9 @@ static uint32_t entry_of(Engine *self, bool is_open, const DconfdbSnapshot *now,
 /* Lets the changes wait, unless they are refused, or nothing of them is left. Gives what becomes of them. */
 static uint32_t add_waiting(Engine *self, const DconfdbSnapshot *now, const Edits *edits, DConfChangeset *changes)
 {
-    bool is_open = engine_is_open(self);
+    bool has_user = engine_has_user(self);
     g_mutex_lock(&self->lock);
-    uint32_t entry = entry_of(self, is_open, now, edits, changes);
+    uint32_t entry = entry_of(self, has_user, now, edits, changes);
     if (entry != DCONFDB_ENTRY_REFUSED && entry != DCONFDB_ENTRY_EMPTY) {
         if (!self->waiting)
             self->waiting = dconf_changeset_new();

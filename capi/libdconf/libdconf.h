@@ -79,8 +79,12 @@ void engine_end_write(Engine *self);
 /* Whether the profile has a user's database: without one nothing can be written. */
 gboolean engine_has_user(Engine *self);
 
-/* Whether somebody may write there. */
-bool engine_is_open(Engine *self);
+/* Whether somebody may write there: a client begins anew in a child of fork(), so it is at work wherever it is asked. */
+static inline bool is_open(bool has_user)
+{
+    const DconfdbWriting known = {.has_user = has_user};
+    return dconfdb_is_open(&known);
+}
 
 /* Before anything waits or is written: in a child of fork() nothing does yet, as what waits is the parent's, and so is who writes it. */
 void engine_begin_here(Engine *self);

@@ -52,7 +52,7 @@ static uint32_t find(Engine *self, const gchar *key, DConfReadFlags flags, const
     bool of_user = (flags & DCONF_READ_USER_VALUE) != 0, of_default = (flags & DCONF_READ_DEFAULT_VALUE) != 0;
     DconfdbKnown known = {.waits = is_edited, .sets = value != NULL, .edit_fits = true, .stored_fits = true};
     known.writable = of_user && engine_has_user(self);
-    known.may_write = is_edited && seen_is_writable(now, true, key); /* whoever asked for the edit could */
+    known.may_write = is_edited && dconfdb_snapshot_is_writable(or_nothing(now), key); /* whoever asked for the edit could */
     bool is_odd;
     return dconfdb_found(of_user, of_default, &known, &is_odd);
 }

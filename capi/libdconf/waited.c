@@ -204,6 +204,8 @@ static void put_back(Engine *self, DConfChangeset *taken, GHashTable *unmade)
     g_mutex_lock(&self->lock);
     DConfChangeset *newer = self->waiting;
     self->waiting = merged(taken, unmade, newer);
+    if (dconf_changeset_is_empty(self->waiting))
+        g_clear_pointer(&self->waiting, dconf_changeset_unref);
     self->writing = self->flying = NULL;
     g_mutex_unlock(&self->lock);
     g_clear_pointer(&newer, dconf_changeset_unref);
@@ -265,7 +267,7 @@ static bool make(Try *try)
     DconfdbSnapshot *now = engine_look(try->engine);
     Edits edits = edits_of(try->changes);
     DconfdbChanging changing = {.has_store = try->store, .has_user = engine_has_user(try->engine)};
-    g_autofree DconfdbNewEdit *known = known_of(&edits, engine_is_open(try->engine), now);
+    g_autofree DconfdbNewEdit *known = known_of(&edits, is_open(changing.has_user), now);
     changing.is_there = edits_are_there(known, edits.edits->len);
     leave_out(&edits, known);
     changing.is_left = edits.edits->len > 0;

@@ -84,14 +84,11 @@ typedef struct {
     DconfdbChanging known;
 } Change;
 
-/* Whether something is set that may not be. A reset that may not does nothing, as dconf has it. Without a store nobody knows, and the turn tells
- * why. */
+/* Whether something is set that may not be. A reset that may not does nothing, as dconf has it. */
 static bool is_refused(Engine *engine, const Edits *edits)
 {
     DconfdbSnapshot *now = engine_look(engine);
-    if (!now)
-        return false;
-    g_autofree DconfdbNewEdit *known = known_of(edits, engine_is_open(engine), now);
+    g_autofree DconfdbNewEdit *known = known_of(edits, is_open(engine_has_user(engine)), now);
     dconfdb_snapshot_unref(now);
     bool is_there;
     return dconfdb_entry(known, edits->edits->len, &is_there) == DCONFDB_ENTRY_REFUSED;
@@ -103,11 +100,20 @@ static void learn(Change *self)
     self->now = engine_look(self->engine);
     self->known.has_store = engine_store(self->engine, &self->fault);
     self->known.has_user = engine_has_user(self->engine);
-    g_autofree DconfdbNewEdit *known = known_of(&self->edits, engine_is_open(self->engine), self->now);
+    g_autofree DconfdbNewEdit *known = known_of(&self->edits, is_open(self->known.has_user), self->now);
     self->known.is_there = edits_are_there(known, self->edits.edits->len);
     self->told = effective(&self->edits, known, self->changes);
     leave_out(&self->edits, known);
     self->known.is_left = self->edits.edits->len > 0;
+}
+
+/* Whether a thread tries again to write what waits. */
+static bool has_thread(Engine *engine)
+{
+    g_mutex_lock(&engine->lock);
+    bool has = engine->has_thread;
+    g_mutex_unlock(&engine->lock);
+    return has;
 }
 
 /* Keeps others from its turn until it is over, and writes what was asked for before: that is before it in the store, too. */
@@ -116,7 +122,7 @@ static bool take_turn(Change *self)
     g_mutex_lock(&self->engine->turn);
     self->has_turn = true;
     self->tag = new_tag();
-    if (!write_waiting(self->engine, TRUE, &self->fault))
+    if (!write_waiting(self->engine, has_thread(self->engine), &self->fault))
         return false;
     learn(self);
     set_writing(self->engine, self->changes);
@@ -195,6 +201,7 @@ gboolean engine_change_sync(Engine *engine, DConfChangeset *changes, gchar **tag
     Change self = {.engine = engine, .changes = changes, .edits = edits_of(changes), .fault = DCONFDB_ERROR_INIT};
     self.known.is_empty = dconf_changeset_is_empty(changes);
     self.known.is_refused = !self.known.is_empty && is_refused(engine, &self.edits);
+    self.known.has_store = engine_store(engine, &self.fault);
     gboolean is_done = answer(make(&self), &self.fault, error);
     if (is_done && tag)
         *tag = self.tag ? g_steal_pointer(&self.tag) : g_strdup("");

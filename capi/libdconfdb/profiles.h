@@ -4,11 +4,15 @@
 
 #include "files.h"
 
-/* Of one that can't be looked at nothing is known. */
+/* Of so many the states are kept. */
+enum { MOST_PROFILES = 16 };
+
+/* Of one that can't be looked at, or that is behind those, nothing is known. */
 typedef struct {
     uint64_t asked;
     bool is_unseen; /* there is such a one */
-    FileState first, other; /* the first one, and the first of the others that is there */
+    int count;
+    FileState files[MOST_PROFILES];
 } Profiles;
 
 /* `names` has so many at its start, a zero byte after each. */

@@ -1,8 +1,8 @@
 /* dconfdb-service: the D-Bus service ca.desrt.dconf, by which programs with dconf's own library write, in a sandbox, say. */
+#include "folders.h"
 #include "looked.h"
 #include "service.h"
 
-#include <errno.h>
 #include <glib-unix.h>
 #include <stdlib.h>
 #include <unistd.h>
@@ -143,8 +143,9 @@ static void clear(Service *service)
 
 static void make_folder(const char *path)
 {
-    if (g_mkdir_with_parents(path, 0700) != 0)
-        g_printerr("dconfdb-service: %s: %s\n", path, g_strerror(errno));
+    int fault = folder_make(path);
+    if (fault != 0)
+        g_printerr("dconfdb-service: %s: %s\n", path, g_strerror(fault));
 }
 
 static void make_folders(const StorePlace *place)

@@ -102,7 +102,9 @@ static bool takes_away(const char *directory, const char *path)
 static void put_resets(GTree *edits, Newest *newest, const DconfdbSnapshot *before, const char *directory)
 {
     char *paths = snapshot_paths(before, directory, NULL);
-    for (const char *at = paths; at && *at; at = next_text(at))
+    if (!paths)
+        g_error("no memory is left");
+    for (const char *at = paths; *at; at = next_text(at))
         put_reset(edits, newest, at);
     GTreeNode *node = g_tree_lower_bound(newest->edits, directory);
     for (; node && takes_away(directory, g_tree_node_key(node)); node = g_tree_node_next(node))

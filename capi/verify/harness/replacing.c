@@ -263,6 +263,14 @@ int settle(void)
     return 0;
 }
 
+static int named_by = -1; /* what came of bringing the folder's own name to the disk */
+
+int folder_sync_name(int folder)
+{
+    CHECK(is_open(folder) && was_done(FSYNC), "order: the folder is on the disk, and then its name");
+    return named_by = any_fault();
+}
+
 /* harness folder_settle: unwind 6, with machines.c */
 int folder_settle_(void)
 {
@@ -274,8 +282,9 @@ int folder_settle_(void)
         CHECK(last[OPEN].fault == 0 || last[OPEN].fault == ENOENT, "answer: only a missing folder needs no sync");
         CHECK(last[OPEN].fault != 0 || (was_done(FSYNC) && last[FSYNC].file == last[OPEN].count), "order: the file, and then its folder");
         CHECK(last[OPEN].fault != 0 || !of || count_of[OPENAT] == 1, "step: the file is opened");
+        CHECK(last[OPEN].fault != 0 || named_by == 0, "order: the folder's own name, too");
         REACHED("all is on the disk");
     }
-    CHECK(fault == 0 || fault == last[OPEN].fault || fault == last[OPENAT].fault || fault == last[FSYNC].fault, "answer: the fault of what failed");
+    CHECK(fault == 0 || fault == last[OPEN].fault || fault == last[OPENAT].fault || fault == last[FSYNC].fault || fault == named_by, "answer: the fault of what failed");
     return 0;
 }

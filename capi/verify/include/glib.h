@@ -103,12 +103,15 @@ ENDS(GHashTable, g_hash_table_unref)
 typedef struct GTree GTree;
 typedef struct GTreeNode GTreeNode;
 typedef gboolean (*GTraverseFunc)(gpointer key, gpointer value, gpointer data);
+GTree *g_tree_new(GCompareFunc compare);
 GTree *g_tree_new_full(GCompareDataFunc compare, gpointer data, GDestroyNotify key, GDestroyNotify value);
 void g_tree_replace(GTree *tree, gpointer key, gpointer value);
 gpointer g_tree_lookup(GTree *tree, gconstpointer key);
 GTreeNode *g_tree_lower_bound(GTree *tree, gconstpointer key);
 GTreeNode *g_tree_node_next(GTreeNode *node);
 gpointer g_tree_node_key(GTreeNode *node);
+gpointer g_tree_node_value(GTreeNode *node);
+gboolean g_tree_lookup_extended(GTree *tree, gconstpointer key, gpointer *its, gpointer *value);
 void g_tree_foreach(GTree *tree, GTraverseFunc call, gpointer data);
 void g_tree_unref(GTree *tree);
 

@@ -82,7 +82,7 @@ static inline uint32_t stands_followed(const DconfdbStood *stood, uint32_t *told
 /* Of folders on the way. */
 static inline uint32_t stands_on_way(uint32_t purpose, const DconfdbStood *stood, uint32_t *told)
 {
-    enum { NO_FILE = 2, NO_RIGHT = 13, NO_FOLDER_THERE = 20, NOT_SO = 22, READ_ONLY = 30 };
+    enum { NOT_HIS = 1, NO_FILE = 2, NO_RIGHT = 13, NO_FOLDER_THERE = 20, NOT_SO = 22, READ_ONLY = 30, NO_CALL = 38, NOT_KNOWN = 95 };
     *told = 0;
     if (purpose == DCONFDB_TO_OPEN_FOLDER && stood->is_root)
         return stood->fault == 0 && stood->is_named ? DCONFDB_IS_GOOD : DCONFDB_IS_OTHER;
@@ -90,7 +90,9 @@ static inline uint32_t stands_on_way(uint32_t purpose, const DconfdbStood *stood
         return DCONFDB_IS_NOTHING;
     if (purpose == DCONFDB_TO_ENTER && stood->fault == NO_FOLDER_THERE)
         return DCONFDB_IS_OTHER;
-    if (purpose == DCONFDB_TO_SYNC_NAME && (stood->fault == NO_RIGHT || stood->fault == NOT_SO || stood->fault == READ_ONLY))
+    if (purpose == DCONFDB_TO_SYNC_NAME
+        && (stood->fault == NOT_HIS || stood->fault == NO_RIGHT || stood->fault == NOT_SO || stood->fault == READ_ONLY || stood->fault == NO_CALL
+            || stood->fault == NOT_KNOWN))
         return DCONFDB_IS_NOTHING;
     *told = stood->fault;
     if (stood->fault == 0 && purpose == DCONFDB_TO_READ_LINK && (stood->mode & 0170000) != 0120000)

@@ -5,7 +5,7 @@ use Rattle.dconf_changesets.specs.declared.making.ChangeKnown.{ChangeKnown}
 use Rattle.dconf_changesets.specs.declared.making.ChangeTask.{ChangeTask}
 use Rattle.dconf_changesets.specs.declared.making.ChangeTask.TheVariants.{Before, Settle, Put, Others, Tell, GiveUp, Made, Refused, Failed}
 use Rattle.dconf_changesets.specs.declared.making.Tried.{Tried}
-use Rattle.dconf_changesets.specs.Making.{Answers, IsSo, IsToldInOrder, MadeMeansOnTheDisk, OthersAreToldFirst, WhatIsLostIsToldAgain, closed_by, fails_by, given_up, has_place, is_made, is_said, is_unmade, puts, said_at_last}
+use Rattle.dconf_changesets.specs.Making.{Answers, IsSo, IsToldInOrder, MadeMeansOnTheDisk, OthersAreToldFirst, WhatIsLostIsToldAgain, closed_by, fails_by, given_up, has_place, is_made, is_said, is_unmade, puts, refuses, said_at_last}
 
 abbrev answers : Bool → Bool → Bool → Answers
 answers before settled put = record { before = before; settled = settled; put = put }
@@ -25,17 +25,19 @@ known is_empty is_refused has_store has_user is_there is_left is_news is_watched
 
 abbrev said_of : ChangeKnown → Answers → ChangeTask
 said_of k a =
-    if k.is_empty then Made else if k.is_refused then Refused else if not a.before then fails_by k else
+    if k.is_empty then Made else if refuses k then Refused else if not a.before then fails_by k else
     if not (has_place k) then closed_by k else if is_made a k then Made else fails_by k
 
 -- what is known, and what the tasks answer
 said_by : (e r h u t l n w v b s p : Bool) →
     said_at_last (answers b s p) (known e r h u t l n w v) ≡ said_of (known e r h u t l n w v) (answers b s p)
 said_by true r h u t l n w v b s p = refl
-said_by false true h u t l n w v b s p = refl
-said_by false false h u t l n w true false s p = refl
-said_by false false h u t l n w false false s p = refl
-said_by false false false u t l n w v true s p = refl
+said_by false true true u t l n w v b s p = refl
+said_by false r false u t l n w true false s p = refl
+said_by false r false u t l n w false false s p = refl
+said_by false r false u t l n w v true s p = refl
+said_by false false true u t l n w true false s p = refl
+said_by false false true u t l n w false false s p = refl
 said_by false false true false t l n w v true s p = refl
 said_by false false true true false false false w v true s p = refl
 said_by false false true true false false true false v true s p = refl

@@ -13,8 +13,12 @@ has_place k = k.has_store && k.has_user
 abbrev pub closed_by : ChangeKnown → ChangeTask
 closed_by k = if k.has_store then Refused else Failed
 
+-- without a store nobody knows what may be written, and it fails by why there is none
+abbrev pub refuses : ChangeKnown → Bool
+refuses k = k.has_store && k.is_refused
+
 abbrev pub begins_with : ChangeKnown → ChangeTask
-begins_with k = if k.is_empty then Made else if k.is_refused then Refused else Before
+begins_with k = if k.is_empty then Made else if refuses k then Refused else Before
 
 -- what dconf says of the fault by which it was not made
 abbrev pub fails_by : ChangeKnown → ChangeTask
@@ -93,7 +97,7 @@ is_made a k = has_place k && ((k.is_there && a.settled) || (not k.is_left || a.p
 abbrev pub MadeMeansOnTheDisk : Type 0
 MadeMeansOnTheDisk =
     (a : Answers) (k : ChangeKnown) →
-    said_at_last a k ≡ (if k.is_empty then Made else if k.is_refused then Refused else if not a.before then fails_by k else
+    said_at_last a k ≡ (if k.is_empty then Made else if refuses k then Refused else if not a.before then fails_by k else
     if not (has_place k) then closed_by k else if is_made a k then Made else fails_by k)
 
 -- what the change says is there, or was never put

@@ -25,7 +25,7 @@ pub enum ChangeTask {
     Failed,
 }
 
-/// What is known; but for the first two from when all is written that was asked for before.
+/// What is known; but for the first two, and whether there is a store, from when all is written that was asked for before.
 #[repr(C)]
 #[derive(Clone, Copy)]
 pub struct ChangeKnown {
@@ -103,7 +103,7 @@ fn begins_with(known: &ChangeKnown) -> ChangeTask
     if known.is_empty {
         return ChangeTask::Made;
     }
-    if known.is_refused {
+    if known.has_store && known.is_refused {
         return ChangeTask::Refused;
     }
     ChangeTask::Before

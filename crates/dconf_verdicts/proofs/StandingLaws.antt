@@ -3,7 +3,7 @@ use Rattle.std.proofs.Common.{◌≡◌, Bool, true, false, not, ◌&&◌, ◌||
 use Rattle.std.specs.Prelude.{ℕ, if◌then◌else◌, nat_lt}
 use Rattle.dconf_verdicts.specs.declared.standing.Standing.{Standing}
 use Rattle.dconf_verdicts.specs.declared.standing.Standing.TheVariants.{Good, Nothing, Map, Head, Other, Fault}
-use Rattle.dconf_verdicts.specs.Standings.{is_regular, is_roots_alone, is_no_file, fault_of_mode, EachIsSafe}
+use Rattle.dconf_verdicts.specs.Standings.{is_regular, is_roots_alone, is_no_file, fault_of_mode, is_not_ours, EachIsSafe}
 
 abbrev sized : Bool → Bool → Bool → Bool → Bool → Standing
 sized over none large map stop = if over then Fault 75 else if none then Nothing else if not large then Good else if map then Map else if stop then Head else Good
@@ -119,5 +119,5 @@ each_is_safe s = record {
   opened = open_good s.is_root (s.fault == 0) s.is_named s.fault;
   made = make_good (s.fault == 0) s.is_root (s.user == 0) s.fault;
   entered = enter_none (s.fault == 0) (s.fault == 2) s.may_make (s.tried == 0) (s.fault == 20) s.fault;
-  synced = sync_good (s.fault == 0) (s.fault == 13 || (s.fault == 22 || s.fault == 30)) s.fault;
+  synced = sync_good (s.fault == 0) (is_not_ours s.fault) s.fault;
 }

@@ -87,10 +87,13 @@ abbrev pub folder_opened : Seen → Standing
 folder_opened s =
     if s.is_root then (if s.fault == 0 && s.is_named then Good else Other) else if s.fault == 0 then Good else Fault s.fault
 
--- A folder's name is brought to the disk by the folder above. What may not be read (EACCES), or isn't written at all (EINVAL, EROFS), has nothing that this
--- program could bring there.
+-- A folder's name is brought to the disk by the folder above it. Of one that this program may not read (EPERM, EACCES), or that isn't written at all (EINVAL,
+-- EROFS, ENOSYS, EOPNOTSUPP), it can bring nothing there.
+abbrev pub is_not_ours : ℕ → Bool
+is_not_ours errno = errno == 1 || (errno == 13 || (errno == 22 || (errno == 30 || (errno == 38 || errno == 95))))
+
 abbrev pub name_synced : ℕ → Standing
-name_synced errno = if errno == 0 then Good else if errno == 13 || (errno == 22 || errno == 30) then Nothing else Fault errno
+name_synced errno = if errno == 0 then Good else if is_not_ours errno then Nothing else Fault errno
 
 -- what is there already (EEXIST) need not be made
 abbrev pub made : ℕ → Standing

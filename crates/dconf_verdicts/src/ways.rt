@@ -8,6 +8,8 @@ use crate::standing::{Seen, Standing};
 /// So many links are followed on a way, as the host itself does.
 const MOST_LINKS: u64 = 40;
 
+const EPERM: u32 = 1;
+
 const ENOENT: u32 = 2;
 
 const EACCES: u32 = 13;
@@ -20,7 +22,11 @@ const EINVAL: u32 = 22;
 
 const EROFS: u32 = 30;
 
+const ENOSYS: u32 = 38;
+
 const ELOOP: u32 = 40;
+
+const EOPNOTSUPP: u32 = 95;
 
 pub(crate) fn followed(seen: &Seen) -> Standing
     ensures { result ≡ followed seen.now }
@@ -88,7 +94,7 @@ pub fn name_synced(errno: u32) -> Standing
 {
     match errno {
         0 => Standing::Good,
-        EACCES | EINVAL | EROFS => Standing::Nothing,
+        EPERM | EACCES | EINVAL | EROFS | ENOSYS | EOPNOTSUPP => Standing::Nothing,
         errno => Standing::Fault(errno),
     }
 }

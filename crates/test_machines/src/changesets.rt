@@ -233,6 +233,10 @@ fn are_made() -> bool {
         is_refused: true,
         ..PLAIN
     };
+    let unknown = ChangeKnown {
+        has_store: false,
+        ..refused
+    };
     let there = ChangeKnown {
         is_there: true,
         ..PLAIN
@@ -256,6 +260,7 @@ fn are_made() -> bool {
     change_number(0, true, &empty) == 7
         && change_number(0, true, &refused) == 8
         && change_number(0, true, &PLAIN) == 1
+        && change_number(0, true, &unknown) == 1
         && change_number(1, true, &PLAIN) == 3
         && change_number(3, true, &PLAIN) == 4
         && change_number(4, true, &PLAIN) == 7
