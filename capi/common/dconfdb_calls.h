@@ -1233,7 +1233,7 @@ uint32_t dconfdb_round_after(uint32_t task, const DconfdbRound *known);
 typedef struct {
     bool has_writer;   /* another thread writes what waits */
     bool has_failed;   /* a try has failed by a fault that lasts, and is to be made again later */
-    bool has_store;
+    bool has_store;    /* there is one, or a place for one */
     bool has_looked;   /* the files were looked at since it was asked for */
     bool is_to_settle; /* nobody knows yet that what was there already is on the disk */
 } DconfdbSync;
@@ -1826,7 +1826,7 @@ enum {
 /* What is known of them. */
 typedef struct {
     uint64_t until;  /* when whoever watches them looks again of itself; 0: once something is told */
-    bool is_open;    /* a store is open */
+    bool is_open;    /* a store is open; or the first one could not be opened, and whoever looks tries again */
     bool is_watched; /* somebody watches them, and looks when something happens */
     bool is_whole;   /* all that happens to them is told, */
     bool is_told;    /* something may have been that nobody has looked at yet */
@@ -1881,7 +1881,7 @@ typedef struct {
     bool is_left_out; /* it is left out of its change */
     bool is_now;      /* it counts as set when it is made: nobody has set its path since */
     bool is_there;    /* the user has what it says */
-    bool is_again;    /* a later edit of its path was tried with it: whoever is told of that is told of this */
+    bool is_again;    /* a later edit of its path, of one below it or of a directory above it was tried with it: whoever is told of that is told of this */
 } DconfdbTried;
 
 /* Whether it is not made: whoever was told of it is told again. */

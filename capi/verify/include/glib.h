@@ -100,6 +100,9 @@ guint g_hash_table_size(GHashTable *table);
 void g_hash_table_unref(GHashTable *table);
 ENDS(GHashTable, g_hash_table_unref)
 
+#define GPOINTER_TO_SIZE(pointer) ((gsize)(uintptr_t)(pointer))
+#define GSIZE_TO_POINTER(size) ((gpointer)(uintptr_t)(size))
+
 typedef struct GTree GTree;
 typedef struct GTreeNode GTreeNode;
 typedef gboolean (*GTraverseFunc)(gpointer key, gpointer value, gpointer data);

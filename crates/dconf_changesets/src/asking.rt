@@ -29,7 +29,7 @@ pub enum LookDue {
 pub struct LookKnown {
     /// When whoever watches them looks again of itself; 0: once something is told.
     pub until: u64,
-    /// A store is open.
+    /// A store is open; or the first one could not be opened, and whoever looks tries again.
     pub is_open: bool,
     /// Somebody watches them, and looks when something happens.
     pub is_watched: bool,

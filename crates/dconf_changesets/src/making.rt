@@ -173,7 +173,7 @@ pub struct Tried {
     pub is_now: bool,
     /// The user has what it says.
     pub is_there: bool,
-    /// A later edit of its path was tried with it: whoever is told of that is told of this.
+    /// A later edit of its path, of one below it or of a directory above it was tried with it: whoever is told of that is told of this.
     pub is_again: bool,
 }
 
