@@ -5,3 +5,4 @@ pub mod TwinsLaws
 pub mod SearchLaws
 pub mod RelockedLaws
 pub mod ChangedLaws
+pub mod OwnLaws

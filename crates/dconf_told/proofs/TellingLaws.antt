@@ -34,7 +34,7 @@ use Rattle.dconf_told.specs.declared.seen.DconfdbView.{DconfdbView}
 
 -- ---- truths
 
-both_true : (a b : Bool) → a ≡ true → b ≡ true → (a && b) ≡ true
+pub both_true : (a b : Bool) → a ≡ true → b ≡ true → (a && b) ≡ true
 both_true true b e f = f
 both_true false b e f = absurd (no_truth e)
 
@@ -42,7 +42,7 @@ is_not : (b : Bool) → not b ≡ true → b ≡ false
 is_not true e = absurd (no_truth e)
 is_not false e = refl
 
-key_told : (p : List ℕ) → (is_key_text p ≡ true) ↔ IsKeyText p
+pub key_told : (p : List ℕ) → (is_key_text p ≡ true) ↔ IsKeyText p
 key_told p = (
   λ e. let b = and_parts (is_utf8 p) (is_key_path p) e in (IsUtf8-from_is_utf8 p b.0, b.1),
   λ h. both_true (is_utf8 p) (is_key_path p) (is_utf8-from_IsUtf8 p h.0) h.1,

@@ -4,3 +4,4 @@ pub mod Telling
 pub mod Relocking
 pub mod Files
 pub mod Changed
+pub mod Own

@@ -1,6 +1,6 @@
 //! Which keys are seen otherwise than before, through layers and beside edits that wait: so who listens is told of them, by [`told`].
-//! And which paths may be written otherwise than before, by [`relocked`]; whether anything is otherwise, by [`is_changed`]; and what is
-//! remembered of what others changed, by [`remembered`].
+//! And which paths may be written otherwise than before, by [`relocked`]; whether anything is otherwise, by [`is_changed`]; what is
+//! remembered of what others changed, by [`remembered`]; and which keys edits are of, by [`own_keys`].
 #![tactic(auto)]
 
 ghost use Rattle.dconf_told.specs.Changed.{OfItselfNothingDiffers, WhatIsToldIsAChange};
@@ -9,6 +9,7 @@ mod alike;
 mod changed;
 mod files;
 mod news;
+mod own;
 mod relocking;
 mod seen;
 mod sides;
@@ -18,6 +19,7 @@ pub use alike::are_seen_alike;
 pub use changed::{is_changed, remembered, remembered_texts};
 pub use files::DconfdbFileSeen;
 pub use news::{DconfdbKeyAsked, told, told_texts};
+pub use own::{own_keys, own_texts};
 pub use relocking::{relocked, relocked_texts};
 pub use seen::{DconfdbView, DconfdbWaits};
 pub use sides::may_write;
