@@ -1729,6 +1729,11 @@ uint32_t dconfdb_told(const DconfdbLayer *before, size_t before_n, const Dconfdb
 uint32_t dconfdb_relocked(const DconfdbLayer *before, size_t before_n, const DconfdbLayer *after, size_t after_n, bool was_writable,
                           bool is_writable, bool same_others, uint8_t *room, size_t room_len, size_t *len);
 
+/* The keys that edits are of, which are given by their paths: each key that one names, and each key below a directory that one names which the
+ * layers have before or after. They come as dconfdb_list has them. MEMORY, and then nothing is written. */
+uint32_t dconfdb_own_keys(const DconfdbLayer *before, size_t before_n, const DconfdbLayer *after, size_t after_n, const DconfdbBytes *edits,
+                          size_t count, uint8_t *room, size_t room_len, size_t *len);
+
 /* Whether a path may be written, a key's or all that is below a directory: somebody may write (`is_open`), `writable`, the first layer is the
  * user's, and no lock covers it. A path that doesn't start with `/` is locked by nobody. A key that may be written takes no memory. */
 enum { DCONFDB_MAY_NOT, DCONFDB_MAY, DCONFDB_MAY_NO_MEMORY };

@@ -32,7 +32,7 @@ static bool is_said_again(GTree *last, const char *path, size_t number)
 /* Whether an edit behind that one is of a directory above it. */
 static bool is_said_above(GTree *last, const char *path, size_t number)
 {
-    g_autofree char *above = g_strdup(path);
+    char *above = g_strdup(path);
     gpointer at;
     bool is = false;
     for (char *slash = strrchr(above, '/'); !is && slash; slash = strrchr(above, '/')) {
@@ -40,6 +40,7 @@ static bool is_said_above(GTree *last, const char *path, size_t number)
         is = g_tree_lookup_extended(last, above, NULL, &at) && GPOINTER_TO_SIZE(at) > number;
         slash[0] = 0;
     }
+    g_free(above);
     return is;
 }
 

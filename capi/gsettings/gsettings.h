@@ -188,7 +188,7 @@ typedef struct {
     gint is_let_go;   /* nobody holds the backend any longer; atomic */
     gint has_given_up; /* the worker, at the program's end; atomic */
     gint is_watching; /* what others change is noticed without a look at the files; atomic */
-    bool is_whole;    /* all that happens to the files is told; the worker's alone */
+    gint is_heard;    /* what happens to the files is told; from when what is owed then is looked at, `is_watching`; atomic */
     _Atomic gint64 looks; /* when a read is to look at the files again */
 
     gint64 again; /* for the worker alone, as what follows: when a write is tried again; 0: none is */

@@ -29,7 +29,7 @@ static void keep(void *notice, const char *text)
 
 void warn_once(DconfdbBackend *self, Notice *notice, const DconfdbError *error)
 {
-    warned_renew(&self->told, self->store, error, g_atomic_int_get(&self->is_watching), keep, notice);
+    warned_renew(&self->told, self->store, error, g_atomic_int_get(&self->is_heard), keep, notice);
 }
 
 void warn_of_files(DconfdbBackend *self, Notice *notice)

@@ -5,8 +5,8 @@
 static void begin(DconfdbBackend *self)
 {
     g_atomic_int_set(&self->is_watching, false);
-    self->is_whole = store_folder(self) && watch_begin(self->watch, &self->place);
-    watch_answer(self->watch, self->is_whole);
+    g_atomic_int_set(&self->is_heard, store_folder(self) && watch_begin(self->watch, &self->place));
+    watch_answer(self->watch, g_atomic_int_get(&self->is_heard));
 }
 
 /* Until there is nothing to do but to rest. A look by another thread may have opened the store anew, also meanwhile. */
@@ -18,7 +18,7 @@ static void carry_out(DconfdbBackend *self)
             watch_opened_anew(self->watch);
         WatchStep step = watch_step(self->watch, &until);
         if (step == WATCH_REST) {
-            g_atomic_int_set(&self->is_watching, self->is_whole);
+            g_atomic_int_set(&self->is_watching, g_atomic_int_get(&self->is_heard));
             return;
         }
         if (step == WATCH_FILES)

@@ -10,6 +10,8 @@ uint32_t dconfdb_notes_written(const void *notes, size_t n, uint64_t moment, uin
 void dconfdb_store_after(void *known, uint32_t what, bool yes, uint64_t number, const void *old);
 uint32_t dconfdb_told(const void *before, size_t before_n, const void *after, size_t after_n, bool was_writable, bool is_writable, bool same_others,
                       const void *asked, size_t count, uint8_t *room, size_t room_len, size_t *len);
+uint32_t dconfdb_own_keys(const void *before, size_t before_n, const void *after, size_t after_n, const void *edits, size_t count, uint8_t *room,
+                          size_t room_len, size_t *len);
 uint32_t dconfdb_leave_out(const void *notes, size_t n, const void *seen, size_t seen_n, const void *edits, size_t count, uint64_t now, bool *room,
                            size_t room_len, size_t *len);
 uint32_t dconfdb_note_seen(const void *notes, size_t n, const void *seen, size_t seen_n, uint64_t now, void *room, size_t room_len, size_t *len);
@@ -271,6 +273,19 @@ static void tries_key(void)
     printf("TAKES(DconfdbKeyAsked, %d);\n", KEY);
 }
 
+/* ---- edits of two keys, of which the second is found, too */
+
+static void tries_own(void)
+{
+    _Alignas(16) uint8_t edits[2 * LENT];
+    uint8_t room[ROOM];
+    size_t len = 0;
+    lends(edits, "/k", 2);
+    lends(edits + LENT, "/j", 2);
+    is_so(dconfdb_own_keys(file, 0, file, 0, edits, 2, room, ROOM, &len) == 0, "dconfdb_own_keys");
+    is_so(len == 6 && memcmp(room, "/j\0/k", len) == 0, "dconfdb_own_keys");
+}
+
 /* ---- whether the user's file is on the disk, of which each field in turn changes what is asked next */
 
 enum { HAS_FILE, IS_KNOWN, IS_UNSYNCED, IS_IN_TURN, ASKS_ONLY, IS_READABLE, SETTLING };
@@ -343,4 +358,5 @@ void finds_others(void)
     tries_seen();
     finds_ending();
     tries_key();
+    tries_own();
 }

@@ -1,14 +1,12 @@
 /* Signals: who is told of what, in the client's context. */
+#define _POSIX_C_SOURCE 200809L
 #include "../gsettings/catch_up.h"
 #include "libdconf.h"
 
 #include "edit_with.h"
 #include "lists.h"
 #include "seen.h"
-#include "paths.h"
-
-#include <stdlib.h>
-#include <string.h>
+#include "texts.h"
 
 typedef struct {
     Engine *engine;
@@ -98,46 +96,6 @@ void notice_changed(Engine *self, DConfChangeset *changes, const gchar *tag, gbo
 
 /* ---- what others changed */
 
-/* Keys that this client changes, and what it says of each: that is seen already. Paths and values are lent. */
-typedef struct {
-    GArray *edits; /* of DconfdbEdit */
-    GPtrArray *paths; /* lists of the paths below directories */
-} Own;
-
-/* What the changes say of a key. */
-static void add_key(const Own *own, DConfChangeset *changes, const gchar *key)
-{
-    g_autoptr(GVariant) value = NULL; /* the changes have it */
-    if (!dconf_changeset_get(changes, key, &value))
-        return;
-    DconfdbEdit edit = edit_with(key, value);
-    g_array_append_val(own->edits, edit);
-}
-
-/* The same of each key below a directory. */
-static void add_below(const Own *own, DConfChangeset *changes, const DconfdbSnapshot *snapshot, const gchar *directory)
-{
-    char *paths = snapshot && dconf_is_dir(directory, NULL) ? snapshot_paths(snapshot, directory, NULL) : NULL;
-    if (!paths)
-        return;
-    g_ptr_array_add(own->paths, paths);
-    for (const char *at = paths; *at; at = next_text(at))
-        add_key(own, changes, at);
-}
-
-static void add_own(const Own *own, DConfChangeset *changes, const DconfdbSnapshot *before, const DconfdbSnapshot *now)
-{
-    const gchar *prefix, *const *paths;
-    guint count = dconf_changeset_describe(changes, &prefix, &paths, NULL);
-    for (guint i = 0; i < count; i++) {
-        gchar *path = g_strconcat(prefix, paths[i], NULL);
-        g_ptr_array_add(own->paths, path);
-        add_key(own, changes, path);
-        add_below(own, changes, before, path);
-        add_below(own, changes, now, path);
-    }
-}
-
 /* What others changed, and what is told of that. */
 typedef struct {
     Engine *engine;
@@ -145,22 +103,51 @@ typedef struct {
     DConfChangeset *own;
 } Others;
 
+/* The keys that this client itself changes. False: no memory is left. */
+static bool finds_own(const Others *others, Told *told)
+{
+    const gchar *prefix = "", *const *rests = NULL;
+    guint count = others->own ? dconf_changeset_describe(others->own, &prefix, &rests, NULL) : 0;
+    g_auto(GStrv) paths = g_new0(gchar *, count + 1);
+    g_autofree DconfdbBytes *edits = g_new(DconfdbBytes, count + 1);
+    for (guint i = 0; i < count; i++) {
+        paths[i] = g_strconcat(prefix, rests[i], NULL);
+        edits[i] = text_bytes(paths[i]);
+    }
+    return seen_own(told, others->before, others->now, edits, count, NULL);
+}
+
+/* What the changes say of each of these keys: that is seen already. Paths and values are lent. */
+static GArray *own_edits(DConfChangeset *changes, const char *paths)
+{
+    GArray *edits = g_array_new(FALSE, FALSE, sizeof(DconfdbEdit));
+    for (const char *at = paths; *at; at = next_text(at)) {
+        g_autoptr(GVariant) value = NULL; /* the changes have it */
+        if (!dconf_changeset_get(changes, at, &value))
+            continue;
+        DconfdbEdit edit = edit_with(at, value);
+        g_array_append_val(edits, edit);
+    }
+    return edits;
+}
+
 /* The keys that are seen otherwise beside what this client changes. False: no memory is left. */
 static bool finds_changed(const void *it, Told *told)
 {
     const Others *others = it;
-    Own own = {g_array_new(FALSE, FALSE, sizeof(DconfdbEdit)), g_ptr_array_new_with_free_func(free)};
-    if (others->own)
-        add_own(&own, others->own, others->before, others->now);
-    SeenKey *keys = g_new(SeenKey, own.edits->len);
-    for (guint i = 0; i < own.edits->len; i++) {
-        const DconfdbEdit *edit = &g_array_index(own.edits, DconfdbEdit, i);
+    Told own;
+    if (!finds_own(others, &own))
+        return false;
+    GArray *edits = own_edits(others->own, own.paths);
+    SeenKey *keys = g_new(SeenKey, edits->len);
+    for (guint i = 0; i < edits->len; i++) {
+        const DconfdbEdit *edit = &g_array_index(edits, DconfdbEdit, i);
         keys[i] = (SeenKey){edit->path, NULL, edit, edit};
     }
-    bool is = seen_otherwise(told, others->before, others->now, keys, own.edits->len, NULL);
+    bool is = seen_otherwise(told, others->before, others->now, keys, edits->len, NULL);
     g_free(keys);
-    g_array_unref(own.edits);
-    g_ptr_array_unref(own.paths);
+    g_array_unref(edits);
+    seen_free(&own);
     return is;
 }
 

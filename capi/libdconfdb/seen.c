@@ -57,6 +57,19 @@ static uint32_t lists_relocked(const DconfdbSnapshot *after, const void *of, uin
                             have_others_in_common(before, after), room, room_len, len);
 }
 
+typedef struct {
+    const DconfdbSnapshot *before;
+    const DconfdbBytes *edits;
+    size_t count;
+} Edits;
+
+static uint32_t lists_own(const DconfdbSnapshot *after, const void *of, uint8_t *room, size_t room_len, size_t *len)
+{
+    const Edits *edits = of;
+    const DconfdbSnapshot *before = edits->before;
+    return dconfdb_own_keys(before->layers, before->count, after->layers, after->count, edits->edits, edits->count, room, room_len, len);
+}
+
 const DconfdbSnapshot *seen_nothing(void)
 {
     static DconfdbLayer no_layer = DCONFDB_EMPTY_LAYER;
@@ -100,6 +113,12 @@ bool seen_otherwise(Told *told, const DconfdbSnapshot *before, const DconfdbSnap
 bool seen_relocked(Told *told, const DconfdbSnapshot *before, const DconfdbSnapshot *after, DconfdbError *error)
 {
     return is_told(told, lists_relocked, or_nothing(after), or_nothing(before), error);
+}
+
+bool seen_own(Told *told, const DconfdbSnapshot *before, const DconfdbSnapshot *after, const DconfdbBytes *edits, size_t count, DconfdbError *error)
+{
+    Edits of = {or_nothing(before), edits, count};
+    return is_told(told, lists_own, or_nothing(after), &of, error);
 }
 
 void seen_free(Told *told)

@@ -29,6 +29,10 @@ bool seen_otherwise(Told *told, const DconfdbSnapshot *before, const DconfdbSnap
  * isn't told by itself. `before` may be NULL, and nothing might be written. False as of seen_otherwise(). */
 bool seen_relocked(Told *told, const DconfdbSnapshot *before, const DconfdbSnapshot *after, DconfdbError *error);
 
+/* The keys that edits of these paths are of: those that they name, and those below the directories that they name which one of the snapshots has. Each
+ * may be NULL. False as of seen_otherwise(). */
+bool seen_own(Told *told, const DconfdbSnapshot *before, const DconfdbSnapshot *after, const DconfdbBytes *edits, size_t count, DconfdbError *error);
+
 void seen_free(Told *told);
 
 /* Who tells what is seen otherwise: how the values are found, and how the paths of a list are sent, as dconfdb_tell_next has it. */

@@ -1,12 +1,14 @@
 //! What is seen of a key while an edit of it may wait, and which paths stand for which.
-ghost use Rattle.std.specs.Prelude.{◌≡◌, ◌≢◌, ◌≤◌, ◌==◌, ℕ, List, false, true};
+ghost use Rattle.std.specs.Prelude.{◌≡◌, ◌≢◌, ◌≤◌, ◌==◌, ℕ, List, false, map, true};
 ghost use Rattle.dconf_model.specs.Paths.{is_short, starts_with_slash};
+ghost use Rattle.dconf_layers.specs.LayerSettings.{settings_of};
 ghost use Rattle.dconf_rounds.specs.Telling.{passes_over};
 ghost use Rattle.dconf_seen.specs.Allowed.{may_be_made};
 ghost use Rattle.dconf_seen.specs.Covering.{meets};
 ghost use Rattle.dconf_seen.specs.Reading.{found_by, found_number, known_word};
 ghost use Rattle.dconf_seen.specs.Waiting.{may_write};
 ghost use Rattle.dconf_texts.specs.Kinds.{kind_at, kind_number, wanted_kind};
+ghost use Rattle.dconf_told.specs.Own.{AreOwn, each_of};
 ghost use Rattle.dconf_told.specs.Relocking.{AreRelocked};
 ghost use Rattle.dconf_told.specs.Telling.{AreTold, before_in};
 ghost use Rattle.dconfdb_calls.specs.Given.{HandsOut};
@@ -18,7 +20,7 @@ use dconf_layers::{Layer, LentLayers};
 use dconf_rounds::passes_over;
 use dconf_seen::{Known, found_by, found_number, may_be_made, meets};
 use dconf_texts::{is_short, kind_at, number_of_kind, wanted_kind};
-use dconf_told::{DconfdbKeyAsked, may_write, relocked_texts, told_texts};
+use dconf_told::{DconfdbKeyAsked, may_write, own_texts, relocked_texts, told_texts};
 use dconfdb_calls::{Fault, hand_out};
 use std::alloc::Global;
 
@@ -105,6 +107,31 @@ pub extern "C" fn dconfdb_relocked(
     let before = LentLayers::new(was_writable, before);
     let after = LentLayers::new(is_writable, after);
     match relocked_texts(alloc, before, after, same_others) {
+        Ok(paths) => {
+            *len = hand_out(paths.as_slice(), room);
+            0
+        }
+        Err(_) => Fault::Memory.number(),
+    }
+}
+
+/// The keys that edits are of: each key whose path an edit names, and each key below a directory that an edit names which the layers have
+/// before or after. They are handed out as `dconfdb_list` does.
+#[unsafe(no_mangle)]
+pub extern "C" fn dconfdb_own_keys(
+    alloc: Global,
+    before: &[Layer<'_>],
+    after: &[Layer<'_>],
+    edits: &[&[u8]],
+    room: &mut [u8],
+    len: &mut usize,
+) -> u32
+    ensures done { result ≡ 0 → (paths : List (List ℕ)) × AreOwn (map settings_of before.now) (map settings_of after.now) (each_of edits.now) paths
+        × HandsOut (ended paths) room.old room.new len.new }
+    ensures refused { result ≢ 0 → result ≡ 1 }
+    ensures kept { result ≢ 0 → (room.new ≡ room.old) × (len.new ≡ len.old) }
+{
+    match own_texts(alloc, before, after, edits) {
         Ok(paths) => {
             *len = hand_out(paths.as_slice(), room);
             0

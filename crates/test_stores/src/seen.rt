@@ -8,7 +8,8 @@ use dconf_seen::{
 use dconf_texts::{PathKind, is_short, kind_at, kind_below, kind_of, number_of_kind, wanted_kind};
 use dconf_told::{
     DconfdbFileSeen, DconfdbKeyAsked, DconfdbView, DconfdbWaits, are_seen_alike, is_changed,
-    may_write, relocked, relocked_texts, remembered, remembered_texts, told, told_texts,
+    may_write, own_keys, own_texts, relocked, relocked_texts, remembered, remembered_texts, told,
+    told_texts,
 };
 use std::alloc::{AllocError, Global};
 use std::test::Fail;
@@ -177,6 +178,16 @@ fn are_remembered(alloc: Global, own: &[Layer<'_>], both: &[Layer<'_>]) -> bool 
         && are_bytes(remembered_texts(alloc, none, open, false), b"/k\0")
 }
 
+/// Whether edits are of the keys that they name, and of those that the layers have below a directory, before or after.
+fn are_own(alloc: Global, own: &[Layer<'_>]) -> bool {
+    are_these(own_keys(alloc, own, &[], &[b"/"]), "/k")
+        && are_these(own_keys(alloc, &[], own, &[b"/", b"/k"]), "/k")
+        && are_these(own_keys(alloc, own, own, &[b"/j"]), "/j")
+        && are_these(own_keys(alloc, own, own, &[b"/k/"]), "")
+        && are_these(own_keys(alloc, own, own, &[]), "")
+        && are_bytes(own_texts(alloc, own, own, &[b"/", b"/a/b"]), b"/a/b\0/k\0")
+}
+
 /// Whether the same is seen with such an edit as without, by who asks for a type.
 fn is_alike(alloc: Global, layers: &[Layer<'_>], edit: DconfdbWaits<'_>, of: &[u8]) -> bool {
     let view = |edit| DconfdbView {
@@ -279,6 +290,7 @@ fn who_listens_is_told(rt: HostRuntime) -> Result<(), Fail> {
     assert!(rt; are_told(alloc, &own, &both) && are_relocked(alloc, &own, &both));
     assert!(rt; may_be_written(alloc, &both) && are_seen(alloc, &own, &both));
     assert!(rt; are_changed(alloc, &own, &both) && are_remembered(alloc, &own, &both));
+    assert!(rt; are_own(alloc, &own));
     Ok(())
 }
 
