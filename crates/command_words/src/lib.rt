@@ -11,4 +11,4 @@ mod sources;
 
 pub use commands::Command;
 pub use replaced::{Replaced, user_file};
-pub use sources::{SourceFolder, updates};
+pub use sources::{SOURCES_END, SourceFolder, updates};

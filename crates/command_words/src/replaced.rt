@@ -6,6 +6,7 @@ ghost use Rattle.command_words.specs.Replaced.{file_of_first, replaced_by, targe
 
 use crate::commands::Command;
 use dconf_path::{Database, DatabaseKind, ProfileFault, read_profile, settings_text};
+use dconf_places::file_name;
 use std::alloc::{AllocError, Global};
 
 /// The file that a command replaces.
@@ -66,12 +67,7 @@ fn name_of_first(
     ensures { IfOk result (λ name. string_bytes name ≡ file_of_first profile.now (map database_of databases.now)) }
 {
     match databases.first() {
-        Some(
-            Database {
-                kind: DatabaseKind::User,
-                name,
-            },
-        ) => format!(in alloc; "{name}.user"),
+        Some(first) if first.kind == DatabaseKind::User => file_name(alloc, *first),
         _ => String::from_str(alloc, profile),
     }
 }

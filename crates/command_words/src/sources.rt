@@ -5,7 +5,12 @@ ghost use Rattle.command_words.specs.Commands.{command_of};
 ghost use Rattle.command_words.specs.Updates.{folder_of};
 
 use crate::commands::Command;
+use dconf_path::{Database, DatabaseKind};
+use dconf_places::file_name;
 use std::alloc::{AllocError, Global};
+
+/// What the name of a folder with sources ends in, behind that of the database.
+pub const SOURCES_END: &str = ".d";
 
 /// The folder NAME.d with the sources of the database NAME.db.
 #[derive(Debug, Drop)]
@@ -39,10 +44,12 @@ impl SourceFolder {
         ensures { IfOk result (λ command. command_of command ≡ compile_of (folder_of self.now)) }
     {
         let name = self.name.as_str();
-        let locks = format!(in alloc; "{name}.d/locks/")?;
-        let keyfiles = format!(in alloc; "{name}.d/")?;
+        let kind = DatabaseKind::System;
+        let made = Database { kind, name };
+        let locks = format!(in alloc; "{name}{SOURCES_END}/locks/")?;
+        let keyfiles = format!(in alloc; "{name}{SOURCES_END}/")?;
         Ok(Command::Compile {
-            out: format!(in alloc; "{name}.db")?,
+            out: file_name(alloc, made)?,
             locks: sources_in(alloc, locks.as_str(), &self.locks)?,
             keyfiles: sources_in(alloc, keyfiles.as_str(), &self.keyfiles)?,
         })

@@ -1,5 +1,5 @@
 -- A command and the library read one file for a line.
-use Rattle.std.proofs.Common.{◌≡◌, ◌≢◌, ℕ, Bool, true, false, List, [], ◌∷◌, ◌++◌, refl, sym, ◌∙◌, ap, arith, codes, length, length-append}
+use Rattle.std.proofs.Common.{◌≡◌, ◌≢◌, ℕ, Bool, true, false, List, [], ◌∷◌, ◌++◌, refl, sym, ◌∙◌, ap, codes}
 use Rattle.std.specs.Prelude.{if◌then◌else◌, ◌==◌, ◌&&◌, ◌||◌, eqb}
 use Rattle.std.proofs.lemmas.Bool.{eq-eqb, eqb-true}
 use Rattle.std.proofs.lemmas.List.Folds.{list_any-append}
@@ -7,13 +7,13 @@ use Rattle.dconf_model.specs.Paths.{starts_with_slash}
 use Rattle.dconf_model.specs.Profiles.{Database, Kind, is_user}
 use Rattle.dconf_model.specs.Profiles.Kind.{user_db, system_db, file_db}
 use Rattle.dconf_model.proofs.ParentLaws.{by_bool}
-use Rattle.dconf_model.proofs.SameBytes.{itself, other_path}
+use Rattle.dconf_model.proofs.SameBytes.{other_path}
 use Rattle.dconf_places.specs.Places.{has_slash}
 use Rattle.dconf_places.proofs.Holding.{else_is}
 use Rattle.dconf_homes.specs.Homes.{Home, dconfs_path, file_in}
 use Rattle.dconf_found.specs.Renamed.{held_name, swapped, users_names}
 use Rattle.dconf_found.specs.DconfsLines.{OneFileForALine, file_read, path_in, shown_name, without_dot}
-use Rattle.dconf_found.proofs.RenamedLaws.{is_first, is_neither}
+use Rattle.dconf_found.proofs.RenamedLaws.{is_neither, users_is_held}
 
 then_is : {X : Type 0} (is : Bool) (x y : X) → is ≡ true → (if is then x else y) ≡ x
 then_is true x y e = refl
@@ -67,22 +67,6 @@ untouched user name e f =
     ∙ is_neither n.shown_new n.held_new name
     (other_path name n.shown_new (differ name n.shown_new f (with_end n.shown (codes ".new") shown refl)))
     (other_path name n.held_new (differ name n.held_new f (with_end user (codes ".new") e refl)))
-
-no_new : (user : List ℕ) → user ≢ user ++ codes ".new"
-no_new user e =
-    let long : length user ≡ length (user ++ codes ".new") = ap (λ (l : List ℕ). length l) e in
-    omega (arith, length-append user (codes ".new"), long)
-
-no_shown_new : (user : List ℕ) → user ≢ (user ++ codes ".user") ++ codes ".new"
-no_shown_new user e =
-    let long : length user ≡ length ((user ++ codes ".user") ++ codes ".new") = ap (λ (l : List ℕ). length l) e in
-    omega (arith, length-append (user ++ codes ".user") (codes ".new"), length-append user (codes ".user"), long)
-
-users_is_held : (user : List ℕ) → held_name (users_names user) (user ++ codes ".user") ≡ user
-users_is_held user =
-    let n = users_names user in
-    ap (swapped n.shown_new n.held_new) (is_first n.shown n.held n.shown (itself n.shown))
-    ∙ is_neither n.shown_new n.held_new user (other_path user n.shown_new (no_shown_new user)) (other_path user n.held_new (no_new user))
 
 -- ---- each line
 

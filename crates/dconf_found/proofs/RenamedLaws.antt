@@ -1,12 +1,12 @@
 -- What a folder has by other names: by them it has the same.
-use Rattle.std.proofs.Common.{◌≡◌, ◌≢◌, ◌⊎◌, inl, inr, ℕ, Bool, true, false, List, [], ◌∷◌, ◌++◌, Option, Some, None, refl, sym, ◌∙◌, ap}
+use Rattle.std.proofs.Common.{◌≡◌, ◌≢◌, ◌⊎◌, inl, inr, ℕ, Bool, true, false, List, [], ◌∷◌, ◌++◌, Option, Some, None, refl, sym, ◌∙◌, ap, arith, codes, length, length-append}
 use Rattle.std.specs.Prelude.{if◌then◌else◌, ◌+◌}
 use Rattle.std.specs.Str.{bytes_eq}
 use Rattle.dconf_model.specs.Folders.{Event, content, content_of, file_of, files_made, is_file, read_content}
 use Rattle.dconf_model.specs.Folders.Event.{create, append, sync, touch, rename, remove, link, exchange, sync_folder}
 use Rattle.dconf_model.proofs.SameBytes.{itself, other_path, same_or_not, path_itself}
 use Rattle.dconf_folders.specs.Asides.{is_free_for, is_none_or}
-use Rattle.dconf_found.specs.Renamed.{Names, held_events, held_name, swapped}
+use Rattle.dconf_found.specs.Renamed.{Names, held_events, held_name, swapped, users_names}
 
 -- ---- a swap, twice, is none
 
@@ -66,7 +66,7 @@ made_so_many n (exchange one two ∷ es) = made_so_many n es
 made_so_many n (sync_folder ∷ es) = made_so_many n es
 
 -- one of two, by a test that is the same
-by_test : {X : Type 0} (b c : Bool) (x y p q : X) → b ≡ c → x ≡ p → y ≡ q → (if b then x else y) ≡ (if c then p else q)
+pub by_test : {X : Type 0} (b c : Bool) (x y p q : X) → b ≡ c → x ≡ p → y ≡ q → (if b then x else y) ≡ (if c then p else q)
 by_test true true x y p q e f g = f
 by_test false false x y p q e f g = g
 by_test true false x y p q e f g = absurd (let bad : true ≡ false = e in cc)
@@ -120,7 +120,7 @@ same_read n es name = ap (content_of (held_events n es)) (same_file n es name) �
 abbrev pub shown_name : Names → List ℕ → List ℕ
 shown_name n name = swapped n.shown n.held (swapped n.shown_new n.held_new name)
 
-back : (n : Names) (name : List ℕ) → held_name n (shown_name n name) ≡ name
+pub back : (n : Names) (name : List ℕ) → held_name n (shown_name n name) ≡ name
 back n name = ap (swapped n.shown_new n.held_new) (twice n.shown n.held (swapped n.shown_new n.held_new name)) ∙ twice n.shown_new n.held_new name
 
 -- a name that is free there is free by the other one
@@ -134,3 +134,21 @@ pub as_linked : (n : Names) (es : List Event) (name aside held : List ℕ) → h
     → link held aside ∷ held_events n es ≡ held_events n (link name (shown_name n aside) ∷ es)
 as_linked n es name aside held is =
     ap (λ (it : List ℕ). link it aside ∷ held_events n es) is ∙ ap (λ (it : List ℕ). link (held_name n name) it ∷ held_events n es) (sym (back n aside))
+
+-- ---- the names of a user's database
+
+pub no_new : (user : List ℕ) → user ≢ user ++ codes ".new"
+no_new user e =
+    let long : length user ≡ length (user ++ codes ".new") = ap (λ (l : List ℕ). length l) e in
+    omega (arith, length-append user (codes ".new"), long)
+
+pub no_shown_new : (user : List ℕ) → user ≢ (user ++ codes ".user") ++ codes ".new"
+no_shown_new user e =
+    let long : length user ≡ length ((user ++ codes ".user") ++ codes ".new") = ap (λ (l : List ℕ). length l) e in
+    omega (arith, length-append (user ++ codes ".user") (codes ".new"), length-append user (codes ".user"), long)
+
+pub users_is_held : (user : List ℕ) → held_name (users_names user) (user ++ codes ".user") ≡ user
+users_is_held user =
+    let n = users_names user in
+    ap (swapped n.shown_new n.held_new) (is_first n.shown n.held n.shown (itself n.shown))
+    ∙ is_neither n.shown_new n.held_new user (other_path user n.shown_new (no_shown_new user)) (other_path user n.held_new (no_new user))

@@ -1,13 +1,13 @@
 -- The profile of all users, as it is read: its databases of the system are files beside it, and none of a user's folder.
 use Rattle.std.specs.Prelude.{◌≡◌, ◌⊎◌, ℕ, List, [], ◌∷◌, ◌++◌, codes, flat_map, Option, Some, None, Ok, Err}
 use Rattle.dconf_model.specs.Lines.{LineFault}
-use Rattle.dconf_model.specs.Profiles.{Database, Kind, database_text, profile_of}
+use Rattle.dconf_model.specs.Profiles.{Database, Kind, database_text, file_of_kind, profile_of}
 use Rattle.dconf_model.specs.Profiles.Kind.{user_db, system_db, file_db}
 
 -- `system-db:NAME` is the file NAME.db beside the profile
 abbrev pub beside_by : Kind → List ℕ → Database
 beside_by user_db name = record { kind = user_db; name = name }
-beside_by system_db name = record { kind = file_db; name = codes "/etc/dconfdb/" ++ (name ++ codes ".db") }
+beside_by system_db name = record { kind = file_db; name = codes "/etc/dconfdb/" ++ file_of_kind system_db name }
 beside_by file_db name = record { kind = file_db; name = name }
 
 abbrev pub beside : Database → Database

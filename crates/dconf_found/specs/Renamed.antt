@@ -1,9 +1,11 @@
 -- The names that files have for who reads a folder, and those that they have in it.
-use Rattle.std.specs.Prelude.{ℕ, List, [], ◌++◌, codes, map, if◌then◌else◌}
+use Rattle.std.specs.Prelude.{ℕ, List, [], map, if◌then◌else◌}
 use Rattle.std.specs.Str.{bytes_eq}
 use Rattle.std.specs.String.{string_bytes}
 use Rattle.dconf_model.specs.Folders.{Event}
 use Rattle.dconf_model.specs.Folders.Event.{create, append, sync, touch, rename, remove, link, exchange, sync_folder}
+use Rattle.dconf_model.specs.Profiles.{file_of_kind}
+use Rattle.dconf_model.specs.Profiles.Kind.{user_db}
 use Rattle.dconf_model.specs.Replacing.{new_name}
 use Rattle.dconf_found.specs.declared.renamed.Renames.{Renames}
 use Rattle.dconf_found.specs.declared.renamed.RenamedFolder.{RenamedFolder}
@@ -21,9 +23,9 @@ no_names = record { shown = []; held = []; shown_new = []; held_new = [] }
 -- The database `user-db:NAME` is NAME.user in a folder of our own kind, and NAME where dconf has it.
 abbrev pub users_names : List ℕ → Names
 users_names name = record {
-  shown = name ++ codes ".user";
+  shown = file_of_kind user_db name;
   held = name;
-  shown_new = new_name (name ++ codes ".user");
+  shown_new = new_name (file_of_kind user_db name);
   held_new = new_name name;
 }
 

@@ -4,6 +4,7 @@ ghost use Rattle.dconf_path.specs.Profiles.{database_of};
 ghost use Rattle.dconf_found.specs.Everyones.{IsEveryones, IsWritten, everyones_text, line_of};
 
 use dconf_path::{Database, DatabaseKind, ProfileFault, read_profile, settings_text};
+use dconf_places::{EVERYONES_FOLDER, end_of};
 use std::alloc::{AllocError, Global};
 
 /// The profile of all users, by the bytes of its file: each `system-db:NAME` is there `file-db:/etc/dconfdb/NAME.db`, so that a folder of a
@@ -48,13 +49,22 @@ fn push_line(text: &mut String, database: Database<'_>) -> Result<(), AllocError
     ensures { OnOk result (string_bytes text.new ≡ string_bytes text.old ++ line_of (database_of database.entry)) }
 {
     let name = database.name;
-    let (start, end) = match database.kind {
-        DatabaseKind::User => ("user-db:", "\n"),
-        DatabaseKind::System => ("file-db:/etc/dconfdb/", ".db\n"),
-        DatabaseKind::File => ("file-db:", "\n"),
-    };
-    text.push_str(start)?;
-    text.push_str(name)?;
-    text.push_str(end)?;
+    match database.kind {
+        DatabaseKind::User => push_three(text, "user-db:", name, "\n"),
+        DatabaseKind::System => {
+            push_three(text, "file-db:", EVERYONES_FOLDER, "/")?;
+            push_three(text, name, end_of(database.kind), "\n")
+        }
+        DatabaseKind::File => push_three(text, "file-db:", name, "\n"),
+    }
+}
+
+/// Adds three texts.
+fn push_three(text: &mut String, one: &str, two: &str, three: &str) -> Result<(), AllocError>
+    ensures { OnOk result (string_bytes text.new ≡ string_bytes text.old ++ (one.now ++ (two.now ++ three.now))) }
+{
+    text.push_str(one)?;
+    text.push_str(two)?;
+    text.push_str(three)?;
     Ok(())
 }

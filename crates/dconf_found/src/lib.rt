@@ -13,6 +13,7 @@
 #![tactic(auto)]
 
 ghost use Rattle.dconf_found.specs.DconfsLines.{OneFileForALine};
+ghost use Rattle.dconf_found.specs.EitherKind.{TurnIsWholeInEitherKind};
 
 mod bad;
 mod bad_databases;
@@ -33,4 +34,10 @@ pub use renamed::{RenamedFolder, Renames};
 /// For a line of a profile in dconf's places a command reads the file that the library reads.
 pub fn a_line_means_one_file()
     ensures { OneFileForALine }
+{}
+
+/// What a turn leaves of the user's file, by the name by which a folder of either kind is shown, it leaves of it by the name that it has there: a crash
+/// at any moment, a failure and a cut at any step leave the old bytes or the new ones, and every other file but the new one as it was.
+pub fn a_turn_is_whole_in_either_kind()
+    ensures { TurnIsWholeInEitherKind }
 {}

@@ -3,6 +3,8 @@ ghost use Rattle.std.specs.Prelude.{◌≡◌, IfOk};
 ghost use Rattle.dconf_found.specs.Renamed.{held_name, names_of, no_names, swapped, users_names};
 
 use dconf_folders::{Folder, FolderFault, Old};
+use dconf_path::{Database, DatabaseKind};
+use dconf_places::{end_of, file_name};
 use std::alloc::{AllocError, Global};
 
 /// The names that a file has for who reads the folder, and those that it has in it.
@@ -31,10 +33,12 @@ impl Renames {
     pub fn of_users(alloc: Global, name: &str) -> Result<Renames, AllocError>
         ensures { IfOk result (λ it. names_of it ≡ users_names name.now) }
     {
+        let kind = DatabaseKind::User;
+        let end = end_of(kind);
         Ok(Renames {
-            shown: format!(in alloc; "{name}.user")?,
+            shown: file_name(alloc, Database { kind, name })?,
             held: String::from_str(alloc, name)?,
-            shown_new: format!(in alloc; "{name}.user.new")?,
+            shown_new: format!(in alloc; "{name}{end}.new")?,
             held_new: format!(in alloc; "{name}.new")?,
         })
     }

@@ -11,6 +11,9 @@ ghost use Rattle.dconf_homes.specs.Told.{home_of, store_kind_of, surroundings_of
 use dconf_path::DatabaseKind;
 use dconf_places::{Environment, Given, Location, PathParts, database_path, is_beside};
 
+/// Where dconf has its databases of the system, and their sources.
+pub const DATABASES_FOLDER: &str = "/etc/dconf/db";
+
 /// What is around a program that looks for its store.
 #[repr(C)]
 #[derive(Clone, Copy)]
@@ -303,7 +306,7 @@ fn dconfs_folder(folder: &[u8], kind: DatabaseKind) -> &[u8]
     ensures { result.now ≡ dconfs_folder folder.now (kind_of kind) }
 {
     match kind {
-        DatabaseKind::System => b"/etc/dconf/db",
+        DatabaseKind::System => DATABASES_FOLDER.as_bytes(),
         DatabaseKind::User => folder,
         DatabaseKind::File => folder,
     }

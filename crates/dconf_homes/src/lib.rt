@@ -12,7 +12,7 @@ mod homes;
 mod looks;
 mod sought;
 
-pub use homes::{Around, FoundKind, Place, Wanted, is_users};
+pub use homes::{Around, DATABASES_FOLDER, FoundKind, Place, Wanted, is_users};
 pub use looks::{DconfdbProfileLook, DconfdbProfileNext};
 pub use sought::{MANDATORY_FOLDER, MOST_DIRS, PROFILES_FOLDER, Sought, SoughtStep};
 

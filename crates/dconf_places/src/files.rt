@@ -1,12 +1,14 @@
 //! The file that a profile's line means.
-ghost use Rattle.std.specs.Prelude.{◌≡◌};
-ghost use Rattle.dconf_path.specs.Profiles.{kind_of};
+ghost use Rattle.std.specs.Prelude.{◌≡◌, IfOk, string_bytes};
+ghost use Rattle.dconf_model.specs.Profiles.{database_file};
+ghost use Rattle.dconf_path.specs.Profiles.{database_of, kind_of};
 ghost use Rattle.dconf_places.specs.Numbers.{kind_numbered};
 ghost use Rattle.dconf_places.specs.Places.{database_path, folder_for, is_beside};
 ghost use Rattle.dconf_places.specs.Told.{end_of, text_of};
 
 use crate::parts::PathParts;
-use dconf_path::DatabaseKind;
+use dconf_path::{Database, DatabaseKind};
+use std::alloc::{AllocError, Global};
 
 /// The profile of all users, and the folder of it and of its databases of the system.
 pub const EVERYONES_PROFILE: &str = "/etc/dconfdb/profile";
@@ -53,7 +55,7 @@ pub fn database_path<'a>(
         first: folder_for(folder, is_beside, kind),
         second: b"/",
         third: name,
-        fourth: end_of(kind),
+        fourth: end_of(kind).as_bytes(),
     }
 }
 
@@ -69,13 +71,21 @@ fn folder_for(folder: &[u8], is_beside: bool, kind: DatabaseKind) -> &[u8]
     }
 }
 
-/// What its name ends in.
-fn end_of(kind: DatabaseKind) -> &'static [u8]
+/// What the name of a database's file ends in, behind the database's own.
+pub fn end_of(kind: DatabaseKind) -> &'static str
     ensures { result.now ≡ end_of (kind_of kind) }
 {
     match kind {
-        DatabaseKind::User => b".user",
-        DatabaseKind::System => b".db",
-        DatabaseKind::File => b"",
+        DatabaseKind::User => ".user",
+        DatabaseKind::System => ".db",
+        DatabaseKind::File => "",
     }
+}
+
+/// The name of the file that holds a database: NAME.user of a user's, NAME.db of the system's, and PATH itself. The error is a failed allocation.
+pub fn file_name(alloc: Global, database: Database<'_>) -> Result<String, AllocError>
+    ensures { IfOk result (λ name. string_bytes name ≡ database_file (database_of database.entry)) }
+{
+    let (name, end) = (database.name, end_of(database.kind));
+    format!(in alloc; "{name}{end}")
 }

@@ -13,8 +13,8 @@ mod parts;
 mod profile;
 
 pub use files::{
-    EVERYONES_FOLDER, EVERYONES_PROFILE, OWN_PROFILE, USERS_PROFILE, database_path, is_beside,
-    kind_of_number,
+    EVERYONES_FOLDER, EVERYONES_PROFILE, OWN_PROFILE, USERS_PROFILE, database_path, end_of,
+    file_name, is_beside, kind_of_number,
 };
 pub use location::{Environment, Given, Location};
 pub use parts::PathParts;
