@@ -17,4 +17,3 @@ mod store_files;
 mod user_database;
 
 pub use commands::answered;
-pub use store_files::file_name;

@@ -1,5 +1,5 @@
 //! The files of a store: the profile, and the databases that it names.
-ghost use Rattle.std.specs.Prelude.{◌≡◌, ℕ, Err, Ok, IfOk, IfErr, length, map, string_bytes, vec_items};
+ghost use Rattle.std.specs.Prelude.{◌≡◌, ℕ, Err, Ok, IfOk, IfErr, length, map, vec_items};
 ghost use Rattle.dconf_model.specs.Databases.{AreLayers};
 ghost use Rattle.dconf_model.specs.Outcomes.{OrLine, OrNoDatabase, WithDatabases, WithLayers};
 ghost use Rattle.dconf_model.specs.Profiles.{database_file, has_writable, profile_of};
@@ -13,7 +13,8 @@ ghost use Rattle.dconf_commands.specs.StoreReads.{NoDatabases, NoItems, bytes_of
 use dconf_engine::{Engine, EngineFault, open_layers};
 use dconf_folders::Folder;
 use dconf_layers::Layer;
-use dconf_path::{Database, DatabaseKind, Profile, ProfileFault, read_profile, settings_text};
+use dconf_path::{Database, Profile, ProfileFault, read_profile, settings_text};
+use dconf_places::file_name;
 use dconf_streams::{NamedFile, Refusal, file_if_any, refused, refused_at};
 use std::alloc::{AllocError, Global};
 
@@ -134,16 +135,4 @@ fn read_database<F: Folder>(
 {
     let name = file_name(alloc, database)?;
     file_if_any(alloc, folder, name.as_str())
-}
-
-/// The name of the file that holds a database: NAME.user of a user's, NAME.db of the system's, and PATH itself. The error is a failed allocation.
-pub fn file_name(alloc: Global, database: Database<'_>) -> Result<String, AllocError>
-    ensures { IfOk result (λ name. string_bytes name ≡ database_file (database_of database.entry)) }
-{
-    let name = database.name;
-    match database.kind {
-        DatabaseKind::User => format!(in alloc; "{name}.user"),
-        DatabaseKind::System => format!(in alloc; "{name}.db"),
-        DatabaseKind::File => String::from_str(alloc, name),
-    }
 }

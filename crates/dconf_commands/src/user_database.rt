@@ -13,9 +13,9 @@ ghost use Rattle.dconf_engine.specs.ChangeFaults.{refusal_of};
 ghost use Rattle.dconf_streams.specs.Answers.{GivesOutcome};
 ghost use Rattle.dconf_commands.specs.Refusals.{IsLockedPath, RefusedFor};
 
-use crate::store_files::file_name;
 use dconf_engine::{ChangeFault, ChangeFlaw, Engine};
 use dconf_path::Profile;
+use dconf_places::file_name;
 use dconf_streams::{Answer, Refusal, refused};
 use gvdb_write::WriteFault;
 use std::alloc::{AllocError, Global};

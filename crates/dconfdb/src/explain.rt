@@ -1,10 +1,10 @@
 //! What is said below the line of a refusal to a person who reads it: dconf_words' text, of what can be seen here.
 use crate::sources::is_folder;
 use command_words::Command;
-use dconf_commands::file_name;
 use dconf_disk::{Folder, StdFolder, folder_of};
 use dconf_found::Renames;
 use dconf_path::read_profile;
+use dconf_places::file_name;
 use dconf_words::{About, Facts, Hint, Said, WORDS, Word};
 use std::alloc::{AllocError, Global};
 use std::env::{self, Env};

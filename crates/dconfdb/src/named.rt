@@ -1,8 +1,7 @@
 //! The databases that the profile of a store names, for what is said of them.
-use dconf_commands::file_name;
 use dconf_disk::{Folder, StdFolder};
 use dconf_path::{Database, DatabaseKind};
-use dconf_places::{EVERYONES_FOLDER, kind_of_number};
+use dconf_places::{EVERYONES_FOLDER, file_name, kind_of_number};
 use dconf_surroundings::Found;
 use dconfdb_calls::{DconfdbName, profile_databases};
 use std::alloc::AllocError;

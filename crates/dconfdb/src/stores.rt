@@ -1,8 +1,8 @@
 //! A store that was found, as it is read.
-use dconf_commands::file_name;
 use dconf_disk::{Folder, StdFolder};
 use dconf_found::{FoundFolder, RenamedFolder};
 use dconf_path::{DatabaseKind, Profile, ProfileFault, read_profile, settings_text};
+use dconf_places::file_name;
 use dconf_streams::{NamedFile, Refusal, file_if_any, named_file, refused, refused_at};
 use dconf_surroundings::Found;
 use std::alloc::{AllocError, Global};

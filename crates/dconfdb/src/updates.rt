@@ -6,18 +6,17 @@ use crate::named::warn_of_missing_ones;
 use crate::runs::run_in_turn;
 use crate::session::Session;
 use crate::sources::{Unread, is_folder, names_in, source_folder};
+use command_words::SOURCES_END;
 use dconf_args::{Command, Replaced, SourceFolder, updates};
 use dconf_cli::{Counted, is_made};
 use dconf_disk::StdFolder;
 use dconf_habits::in_dconfs_place;
+use dconf_homes::DATABASES_FOLDER;
 use dconf_places::{EVERYONES_FOLDER, Given};
 use dconf_surroundings::{NotFound, Surroundings};
 use std::alloc::AllocError;
 use std::io::ErrorKind;
 use std::{env, fs};
-
-/// Where dconf has its databases of the system.
-const DCONFS_FOLDER: &str = "/etc/dconf/db";
 
 /// How the databases of a folder are named.
 #[derive(Clone, Copy)]
@@ -56,7 +55,7 @@ pub(crate) fn update(rt: &HostRuntime, folder: Option<String>, forces: bool, is_
 pub(crate) fn update_machines(rt: &HostRuntime, dconfs: Making, ours: Making) -> u8 {
     let machine = Surroundings::of_machine(rt);
     match machine.and_then(|machine| machine.is_dconfs(Given::Nobody)) {
-        Ok(true) => update_in(rt, DCONFS_FOLDER, Naming::InPlace, dconfs),
+        Ok(true) => update_in(rt, DATABASES_FOLDER, Naming::InPlace, dconfs),
         Ok(false) => update_in(rt, EVERYONES_FOLDER, Naming::Own, ours),
         Err(fault) => refuse_place(rt, fault),
     }
@@ -94,22 +93,19 @@ pub(crate) fn update_in(rt: &HostRuntime, folder: &str, naming: Naming, making: 
 fn update_each(rt: &HostRuntime, names: &[String], naming: Naming, making: Making) -> u8 {
     let mut status = 0;
     for name in names {
-        if let Some(database) = name.as_str().strip_suffix(".d")
+        if let Some(database) = name.as_str().strip_suffix(SOURCES_END)
             && !database.is_empty()
             && is_folder(rt, name.as_str())
         {
-            status |= update_one(rt, database, naming, making);
+            status |= update_one(rt, name.as_str(), database, naming, making);
         }
     }
     status
 }
 
-/// Makes the database of one folder.
-fn update_one(rt: &HostRuntime, name: &str, naming: Naming, making: Making) -> u8 {
-    let Ok(folder) = format!(in rt.alloc(); "{name}.d") else {
-        return refuse_memory(rt);
-    };
-    match source_folder(rt, folder.as_str(), name) {
+/// Makes the database of this name of one folder.
+fn update_one(rt: &HostRuntime, folder: &str, name: &str, naming: Naming, making: Making) -> u8 {
+    match source_folder(rt, folder, name) {
         Ok(folder) => match command_of(rt, folder, naming) {
             Ok(Some(command)) => make(rt, command, naming, making),
             Ok(None) => 0,
