@@ -141,7 +141,7 @@ gboolean dconfdb_backend_get_writable(GSettingsBackend *backend, const char *nam
     DconfdbBackend *self = backend_of(backend);
     look_if_unwatched(self);
     lock_or_open(self);
-    bool is = snapshot_may_write(self->now, is_open(self), name);
+    bool is = snapshot_may_write(self->now, is_at_work(self), name); /* that there is a user's database, the snapshot says */
     g_mutex_unlock(&self->lock);
     return is;
 }

@@ -1,5 +1,5 @@
 -- What differs between two stores or databases, in lines, and as a keyfile that makes the first like the second. This project's.
-use Rattle.std.specs.Prelude.{◌≡◌, ℕ, List, [], ◌∷◌, ◌++◌, Bool, true, false, Option, Some, None, Ok, codes, flat_map, if◌then◌else◌, is_none, is_some, not, ◌&&◌, ◌||◌}
+use Rattle.std.specs.Prelude.{◌≡◌, ℕ, List, [], ◌∷◌, ◌++◌, Bool, true, Option, Some, None, Ok, codes, flat_map, if◌then◌else◌, is_none, is_some, not, ◌&&◌, ◌||◌}
 use Rattle.std.specs.List.{list_all}
 use Rattle.std.specs.Str.{bytes_eq}
 use Rattle.gv_model.specs.Tree.{Tree}
