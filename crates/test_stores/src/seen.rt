@@ -182,10 +182,10 @@ fn are_remembered(alloc: Global, own: &[Layer<'_>], both: &[Layer<'_>]) -> bool 
 fn are_own(alloc: Global, own: &[Layer<'_>]) -> bool {
     are_these(own_keys(alloc, own, &[], &[b"/"]), "/k")
         && are_these(own_keys(alloc, &[], own, &[b"/", b"/k"]), "/k")
-        && are_these(own_keys(alloc, own, own, &[b"/j"]), "/j")
-        && are_these(own_keys(alloc, own, own, &[b"/k/"]), "")
-        && are_these(own_keys(alloc, own, own, &[]), "")
-        && are_bytes(own_texts(alloc, own, own, &[b"/", b"/a/b"]), b"/a/b\0/k\0")
+        && are_these(own_keys(alloc, own, &[], &[b"/j"]), "/j")
+        && are_these(own_keys(alloc, &[], own, &[b"/k/"]), "")
+        && are_these(own_keys(alloc, own, &[], &[]), "")
+        && are_bytes(own_texts(alloc, &[], own, &[b"/", b"/a/b"]), b"/a/b\0/k\0")
 }
 
 /// Whether the same is seen with such an edit as without, by who asks for a type.
