@@ -22,6 +22,9 @@ except ImportError:
     frame.verdict(without_gi)
 
 DCONFS, OURS = '/usr/libexec/dconf-service', os.environ['DCONFDB_SERVICE']
+IS_DCONFS = 'IS_DCONFS' in os.environ
+MOUNTS = '''mkdir "$1/upper" "$1/work" && mount -t overlay -o "lowerdir=/etc,upperdir=$1/upper,workdir=$1/work" none /etc &&
+    mkdir -p /etc/dconfdb && echo dconf > /etc/dconfdb/store && shift && exec "$@"'''
 WRITER = '/ca/desrt/dconf/Writer/'
 SECONDS = 30
 BUS = '''<busconfig>
@@ -125,12 +128,14 @@ class Desk:
         self.store.mkdir(parents=True, mode=0o700)
         self.run.mkdir(mode=0o700)
         (self.run / 'dconf').mkdir(mode=0o700)
-        if service == OURS:
+        if service == OURS and not IS_DCONFS:
             (self.store / 'profile').write_text(profile)
             for name in ('user', 'other'):
                 (self.store / name).symlink_to(f'{name}.user')
         self.environ = {'PATH': os.environ['PATH'], 'HOME': str(folder), 'XDG_CONFIG_HOME': str(self.config), 'XDG_RUNTIME_DIR': str(self.run), 'LC_ALL': 'C.UTF-8',
                         'XDG_CACHE_HOME': str(folder / 'cache'), 'DCONFDB_STORE': str(self.store), 'GSETTINGS_BACKEND': 'dconf', 'DCONF_PROFILE': str(folder / 'dconf.profile'), 'G_DEBUG': 'fatal-criticals'} | (environ or {})
+        if IS_DCONFS:
+            del self.environ['DCONFDB_STORE']
         (folder / 'dconf.profile').write_text('user-db:user\n')
         (folder / 'services' / 'ca.desrt.dconf.service').write_text(f'[D-BUS Service]\nName=ca.desrt.dconf\nExec={service}\n')
         (folder / 'bus.conf').write_text(BUS.format(folder=folder))
@@ -200,3 +205,21 @@ class Desk:
 def verdict(main):
     """Calls `main` with the part's folder, and ends as the scripts of tests do."""
     frame.verdict(lambda _: main(Path(sys.argv[1])))
+
+
+def verdict_on_dconfs(main):
+    """The same on a machine whose store is of dconf's kind, as /etc says in mounts of the part's own: dconf's readers are told by their flag there alone."""
+    if IS_DCONFS:
+        verdict(main)
+    else:
+        verdict(inside)
+
+
+def inside(folder):
+    """What the part says there."""
+    words = [*frame.spaces(), 'sh', '-c', MOUNTS, 'sh', folder, sys.executable, sys.argv[0], folder]
+    ran = subprocess.run(words, env=os.environ | {'IS_DCONFS': 'yes'}, stdin=subprocess.DEVNULL, stdout=subprocess.PIPE, text=True, check=False)
+    said = ran.stdout.strip().partition(': ')[2] or ran.stdout.strip()
+    if ran.returncode:
+        raise Stop(said)
+    return said
