@@ -5,7 +5,7 @@
 #include "files.h"
 
 /* Of so many the states are kept. */
-enum { MOST_PROFILES = 16 };
+enum { MOST_PROFILES = 64 };
 
 /* Of one that can't be looked at, or that is behind those, nothing is known. */
 typedef struct {
