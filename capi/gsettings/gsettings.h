@@ -210,7 +210,7 @@ bool store_find(DconfdbBackend *self, DconfdbError *error);
 /* Its folder; NULL: its place isn't found yet. */
 static inline const char *store_folder(const DconfdbBackend *self)
 {
-    return g_atomic_pointer_get(&self->folder);
+    return g_atomic_pointer_get((char **)&self->folder); /* only read */
 }
 
 /* Opens it for the first time, if nobody has: the worker does, or whoever needs a snapshot sooner. */
