@@ -82,14 +82,14 @@ static void tries_same(void)
     dconfdb_store_close(other);
 }
 
-/* That there is no file is on the disk, too. */
+/* That there is no file is on the disk, too, and so is the folder's name. */
 static void tries_none(void)
 {
     DconfdbEdit reset = {"/k", NULL, NULL, 0};
     TRY(mkdir("none", 0700) == 0);
     DconfdbStore *store = dconfdb_store_open("none", &error);
     syncs = 0;
-    TRY(store && dconfdb_store_change(store, NULL, &reset, 1, &error) && syncs == 1);
+    TRY(store && dconfdb_store_change(store, NULL, &reset, 1, &error) && syncs == 2);
     fault = EIO;
     TRY(!dconfdb_store_change(store, NULL, &reset, 1, &error) && error.outcome == DCONFDB_OUTCOME_UNSETTLED && error.errnum == EIO);
     fault = 0;
