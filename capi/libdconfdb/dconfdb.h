@@ -223,8 +223,8 @@ typedef struct DconfdbStore DconfdbStore;
 typedef struct DconfdbOptions {
     size_t size;      /* this struct's: a later version, in which more fields follow, reads no more than that */
     bool is_lenient;  /* it is opened by dconfdb_store_open_lenient */
-    bool is_unsynced; /* a change doesn't wait for the disk: if the machine crashes soon after, the user's file may have
-                       * its old bytes or, on some file systems, be empty or torn */
+    bool is_unsynced; /* a change doesn't wait for the disk, but once for the name of its folder: if the machine crashes
+                       * soon after, the user's file may have its old bytes or, on some file systems, be empty or torn */
     int longest_wait; /* how many milliseconds a change waits for its turn; if negative, it waits without end */
 } DconfdbOptions;
 
