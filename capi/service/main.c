@@ -138,6 +138,7 @@ static void clear(Service *service)
     g_clear_object(&service->bus);
     g_hash_table_unref(service->writers);
     g_main_loop_unref(service->loop);
+    free(service->files);
     place_release(&service->place);
 }
 
@@ -170,14 +171,26 @@ static bool begin(Service *service)
     return true;
 }
 
+/* False: it can't be found, which is said. */
+static bool find(const char *folder, Service *service)
+{
+    bool are_all;
+    DconfdbError error = DCONFDB_ERROR_INIT;
+    bool has_place = place_find(folder, &service->place, &error);
+    service->files = has_place ? place_files(&service->place, &service->profiles, &are_all, &error) : NULL;
+    if (service->files)
+        return true;
+    if (has_place)
+        place_release(&service->place);
+    say(error.text);
+    return false;
+}
+
 static int serve(const char *folder)
 {
     static Service service;
-    DconfdbError error = DCONFDB_ERROR_INIT;
-    if (!place_find(folder, &service.place, &error)) {
-        say(error.text);
+    if (!find(folder, &service))
         return 1;
-    }
     service.loop = g_main_loop_new(NULL, FALSE);
     service.writers = g_hash_table_new_full(g_str_hash, g_str_equal, NULL, (GDestroyNotify)writer_free);
     bool is_ready = begin(&service), is_running = is_ready && service_begin_writing(&service);

@@ -7,6 +7,7 @@
 #include "dconfdb_calls.h"
 #include "order.h"
 #include "place.h"
+#include "profiles.h"
 #include "seen.h"
 #include "warned.h"
 #include "watch.h"
@@ -21,6 +22,8 @@ typedef struct Writer Writer;
  * adds changes of databases that are in use. A writer's `turn` is taken before `lock`. */
 typedef struct {
     StorePlace place;
+    char *files; /* of the place: first those that may be the profile, so many */
+    int profiles;
     GDBusConnection *bus;
     GDBusNodeInfo *interfaces;
     Blame *blame; /* NULL: nobody asked for it */
@@ -92,10 +95,13 @@ struct Writer {
 
     Watch *watch;
     guint hears, waits; /* sources, of what happens and of time; 0: none */
-    bool is_old;        /* another profile may name other databases: the store is to be opened anew */
+    Profiles seen;      /* when the store was opened */
     Warned warned;      /* the faults that were said, and are there still */
     gint is_to_look; /* the main thread looks when `turn` is free; atomic */
 };
+
+/* The files that may be the profile, as they are now. */
+Profiles service_profiles(const Service *service);
 
 /* The store in which the database of that name is the user's. NULL: it can't be opened. */
 DconfdbStore *store_named(const Service *service, const char *name, DconfdbError *error);

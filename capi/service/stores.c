@@ -50,6 +50,11 @@ static DconfdbStore *keep(DconfdbStore *kept, DconfdbStore *one, DconfdbStore *o
     return kept;
 }
 
+Profiles service_profiles(const Service *service)
+{
+    return profiles_now(service->files, service->profiles);
+}
+
 DconfdbStore *store_named(const Service *service, const char *name, DconfdbError *error)
 {
     DconfdbStore *alone = open_alone(service, name, error);
@@ -64,13 +69,14 @@ DconfdbStore *store_named(const Service *service, const char *name, DconfdbError
 
 /* ---- who is told of it */
 
-static Writer *writer_new(Service *service, const char *name, DconfdbStore *store)
+static Writer *writer_new(Service *service, const char *name, DconfdbStore *store, const Profiles *seen)
 {
     Writer *writer = g_new0(Writer, 1);
     writer->service = service;
     writer->name = g_strdup(name);
     writer->object = g_strconcat("/ca/desrt/dconf/Writer/", name, NULL);
     writer->store = store;
+    writer->seen = *seen;
     writer->told = dconfdb_store_snapshot(store);
     writer->watch = watch_new(DCONFDB_WATCHER_SERVICE);
     g_mutex_init(&writer->turn);
@@ -82,10 +88,11 @@ Writer *writer_named(Service *service, const char *name, DconfdbError *error)
     Writer *writer = g_hash_table_lookup(service->writers, name);
     if (writer)
         return writer;
+    Profiles seen = service_profiles(service); /* before one is read */
     DconfdbStore *store = store_named(service, name, error);
     if (!store)
         return NULL;
-    writer = writer_new(service, name, store);
+    writer = writer_new(service, name, store, &seen);
     g_mutex_lock(&service->lock);
     g_hash_table_insert(service->writers, writer->name, writer);
     g_mutex_unlock(&service->lock);

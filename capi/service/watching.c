@@ -1,4 +1,5 @@
 /* What others change is seen as the proved machine has it, and told; in the main thread, which waits for no write. */
+#include "looked.h"
 #include "service.h"
 
 #include <glib-unix.h>
@@ -9,18 +10,6 @@ static void go_on(Writer *writer);
 
 /* ---- a look */
 
-static bool open_anew(Writer *writer, DconfdbError *error)
-{
-    DconfdbStore *store = store_named(writer->service, writer->name, error);
-    if (!store)
-        return false;
-    store_take_over(store, writer->store);
-    dconfdb_store_close(writer->store);
-    writer->store = store;
-    writer->is_old = false;
-    return true;
-}
-
 static void warn(void *it, const char *text)
 {
     (void)it;
@@ -29,21 +18,29 @@ static void warn(void *it, const char *text)
 
 /* A look, and what is known of it. */
 typedef struct {
+    Profiles profiles;
     DconfdbGlance known;
     DconfdbSnapshot *before; /* what listeners knew of; NULL: nothing was handed out */
     DconfdbError error;
 } Looking;
 
-/* Which files those of a store that is opened anew are is known to who watches them: they were watched before. */
-static Looking looking_of(const Writer *writer)
+/* Opens the store in the place of the one that is open. */
+static bool open_anew(Writer *writer, Looking *it)
 {
-    uint32_t profile = writer->is_old ? DCONFDB_FILE_UNSURE : DCONFDB_FILE_SAME;
-    return (Looking){.known = {.first = profile, .second = profile, .is_open = true, .has_same_files = true}, .error = DCONFDB_ERROR_INIT};
+    DconfdbStore *store = store_named(writer->service, writer->name, &it->error);
+    if (!store)
+        return false;
+    it->known.has_same_files = have_same_files(store, writer->store);
+    store_take_over(store, writer->store);
+    dconfdb_store_close(writer->store);
+    writer->store = store;
+    writer->seen = it->profiles;
+    return true;
 }
 
 static void read_files(Writer *writer, uint32_t task, Looking *it)
 {
-    it->known.is_done = task == DCONFDB_GLANCE_REFRESH ? dconfdb_store_refresh(writer->store, NULL, &it->error) : open_anew(writer, &it->error);
+    it->known.is_done = task == DCONFDB_GLANCE_REFRESH ? dconfdb_store_refresh(writer->store, NULL, &it->error) : open_anew(writer, it);
 }
 
 /* Tells what is new: after a look that failed nothing is. */
@@ -64,6 +61,9 @@ static void carry_out(Writer *writer, uint32_t task, Looking *it)
     case DCONFDB_GLANCE_HEED: /* a change that waits is to be overtaken by what others changed since it came */
         heed_others(writer->store, it->before, writer->told);
         break;
+    case DCONFDB_GLANCE_WATCH:
+        watch_opened_anew(writer->watch);
+        break;
     default:
         read_files(writer, task, it);
     }
@@ -72,8 +72,9 @@ static void carry_out(Writer *writer, uint32_t task, Looking *it)
 /* `turn` is held. False: it failed. */
 static bool look(Writer *writer)
 {
-    Looking it = looking_of(writer);
+    Looking it = {.profiles = service_profiles(writer->service), .known = {.is_open = true}, .error = DCONFDB_ERROR_INIT};
     uint32_t task = DCONFDB_GLANCE_BEGINS;
+    profiles_compare(&writer->seen, &it.profiles, &it.known);
     while ((task = dconfdb_glance_after(task, &it.known)) < DCONFDB_GLANCE_SEEN)
         carry_out(writer, task, &it);
     dconfdb_snapshot_unref(it.before);
@@ -122,7 +123,6 @@ static gboolean hear(int file, GIOCondition condition, gpointer data)
 /* The files that are the store's now: the profiles may name others by then. */
 static void begin(Writer *writer)
 {
-    writer->is_old = true;
     watch_answer(writer->watch, watch_begin(writer->watch, place_of(writer->store)));
     if (writer->hears == 0 && watch_descriptor(writer->watch) >= 0)
         writer->hears = g_unix_fd_add(watch_descriptor(writer->watch), G_IO_IN, hear, writer);

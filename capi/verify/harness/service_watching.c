@@ -13,7 +13,7 @@ static Writer writer = {.service = &service};
 static char old_store, new_store, a_watch; /* stand for stores, and a watch */
 static char old_told, new_told;            /* and for snapshots */
 static int had_old, had_new;               /* how often these are had */
-static bool is_old_open = true, is_new_open;
+static bool is_old_open = true, is_new_open, is_compared, has_new_files;
 static unsigned answered, steps;
 static int descriptor;
 static bool has_fd, has_timeout, is_idle;
@@ -22,6 +22,29 @@ uint32_t dconfdb_look_due(uint32_t looker, const DconfdbLookKnown *known)
 {
     CHECK(looker == DCONFDB_LOOKER_SEES, "step: it wants to see the files");
     return look_due_given(known);
+}
+
+/* ---- the profiles */
+
+Profiles service_profiles(const Service *of)
+{
+    CHECK(of == &service && is_held(&writer.turn), "order: nobody writes meanwhile");
+    return (Profiles){.asked = 1};
+}
+
+void profiles_compare(const Profiles *read, const Profiles *now, DconfdbGlance *known)
+{
+    CHECK(read == &writer.seen && now->asked == 1 && !is_compared, "step: those that were read are beside those of now");
+    is_compared = true;
+    known->first = any_u32();
+    known->second = any_u32();
+}
+
+bool have_same_files(const DconfdbStore *one, const DconfdbStore *other)
+{
+    CHECK((const char *)one == &new_store && is_new_open && (const char *)other == &old_store && is_old_open, "memory: stores that are open");
+    has_new_files = any_bool();
+    return !has_new_files;
 }
 
 /* ---- stores and snapshots */
@@ -113,7 +136,9 @@ uint32_t dconfdb_glance_after(uint32_t task, const DconfdbGlance *known)
 {
     uint32_t next = any_u32();
     CHECK(!known->is_barred && !known->is_to_settle, "step: the turn is had, and nothing is settled by a look");
-    GIVEN(next > task && next <= DCONFDB_GLANCE_FAILED && next != DCONFDB_GLANCE_WATCH && next != DCONFDB_GLANCE_SETTLE && next != DCONFDB_GLANCE_AGAIN);
+    CHECK(known->is_open && is_compared && known->has_same_files == (is_new_open && !has_new_files), "answer: what is known is so");
+    GIVEN(next > task && next <= DCONFDB_GLANCE_FAILED && next != DCONFDB_GLANCE_SETTLE && next != DCONFDB_GLANCE_AGAIN);
+    GIVEN(next != DCONFDB_GLANCE_WATCH || known->is_done);
     GIVEN(next != DCONFDB_GLANCE_HEED || (known->is_other && task == DCONFDB_GLANCE_HAND));
     GIVEN(next != DCONFDB_GLANCE_HAND || known->is_done);
     GIVEN(task >= DCONFDB_GLANCE_HAND ? next >= DCONFDB_GLANCE_HEED : task == DCONFDB_GLANCE_BEGINS || next >= DCONFDB_GLANCE_HAND);
@@ -144,6 +169,12 @@ int64_t watch_answer(Watch *watch, bool yes)
     CHECK(none_is_held(), "order: who writes is kept from nothing");
     answered++;
     return 0;
+}
+
+void watch_opened_anew(Watch *watch)
+{
+    CHECK((const char *)(const void *)watch == &a_watch, "memory: a watch");
+    REACHED("other files are to be watched");
 }
 
 bool watch_begin(Watch *watch, const StorePlace *place) { (void)watch, (void)place; return any_bool(); }
@@ -188,7 +219,6 @@ static void set_up(void)
     writer.store = (DconfdbStore *)&old_store;
     writer.told = (DconfdbSnapshot *)(void *)&old_told;
     writer.watch = (Watch *)(void *)&a_watch;
-    writer.is_old = any_bool();
     had_old = 1;
     descriptor = any_bool() ? 5 : -1;
 }
@@ -201,6 +231,7 @@ int service_look(void)
     bool is = real_look(&writer);
     g_mutex_unlock(&writer.turn);
     CHECK((char *)writer.store == &new_store ? is_new_open && !is_old_open : is_old_open && !is_new_open, "memory: one store is open");
+    CHECK((char *)writer.store != &new_store || writer.seen.asked == 1, "answer: by which profiles it was opened is known");
     CHECK(had_old + had_new == 1 && *had_of(writer.told) == 1, "memory: each snapshot is given back");
     if (is && is_new_open)
         REACHED("it is opened anew");
