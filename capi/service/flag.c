@@ -5,13 +5,15 @@
 
 /* Whoever has the lock now sets the flag too, once the database is replaced. A folder that was taken away isn't made again for it. Mostly who wrote
  * has set it in his turn, and nobody has read since: then no lock is taken. */
-void flag_readers(const Writer *writer)
+void flag_readers(const Writer *writer, bool has_turn)
 {
     FolderLock lock;
     const char *path = place_flag(writer->store), *folder = writer->service->place.folder;
     if (!path || flag_is_missing(path))
         return;
-    if (g_file_test(folder, G_FILE_TEST_IS_DIR) && folder_lock(folder, 0, &lock) == 0) {
+    if (has_turn) {
+        flag_set(path);
+    } else if (g_file_test(folder, G_FILE_TEST_IS_DIR) && folder_lock(folder, 0, &lock) == 0) {
         flag_set(path);
         folder_unlock(&lock);
     } else {

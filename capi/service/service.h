@@ -175,7 +175,7 @@ const char *blame_text(const Blame *blame);
 
 /* ---- dconf's readers in place (flag.c) */
 
-/* Programs with dconf's library that have this database's file mapped look at it again. */
-void flag_readers(const Writer *writer);
+/* Programs with dconf's library that have this database's file mapped look at it again. `has_turn`: it is this program's between programs. */
+void flag_readers(const Writer *writer, bool has_turn);
 
 #endif

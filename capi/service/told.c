@@ -252,7 +252,7 @@ void tell_others(Writer *writer, const Newest *newest, const GPtrArray *left_out
         g_ptr_array_add(paths, g_ptr_array_index(left_out, at));
     while (tell_next_list(&telling) != DCONFDB_TELL_OVER) {
         if (telling.list == DCONFDB_TELL_CATCH_UP)
-            flag_readers(writer);
+            flag_readers(writer, false);
         else
             tell(writer, before, now, keys, paths, "");
     }

@@ -103,21 +103,33 @@ static GPtrArray *made_of(const Run *run, const Change *change, GPtrArray *left_
 }
 
 /* Dconf's readers are to see what is there before anybody is answered or told. */
-static void answer_all(Run *run)
+static void answer_all(const Run *run, bool has_turn)
+{
+    flag_readers(run->writer, has_turn);
+    for (const GList *at = run->first; at; at = at->next) {
+        Change *change = at->data;
+        g_autofree char *tag = tag_of(change);
+        answer(run, change, tag);
+    }
+}
+
+static void tell_all(Run *run)
 {
     Newest newest;
     g_autoptr(GPtrArray) left_out = g_ptr_array_new();
     newest_begin(&newest);
-    flag_readers(run->writer);
+    run->then = dconfdb_store_snapshot(run->writer->store);
+    run->last = tried_last(&run->batch);
     for (const GList *at = run->first; at; at = at->next) {
-        Change *change = at->data;
+        const Change *change = at->data;
         g_autofree char *tag = tag_of(change);
         g_autoptr(GPtrArray) made = made_of(run, change, left_out);
-        answer(run, change, tag);
         tell_change(run->writer, &newest, made, tag);
     }
     tell_others(run->writer, &newest, left_out);
     newest_end(&newest);
+    dconfdb_snapshot_unref(run->then);
+    g_tree_unref(run->last);
 }
 
 /* ---- a try */
@@ -206,16 +218,7 @@ static void write_in(Run *run, const Turn *turn)
     run->refusal = run->fault = none;
     run->batch = batch_of(run->first, run->count);
     run->is_done = batch_write(&run->batch, run->writer->store, turn, &run->refusal, &run->fault);
-    run->then = dconfdb_store_snapshot(run->writer->store);
-    run->last = tried_last(&run->batch);
     run->said = dconfdb_failing_met(&service->failing, !run->is_done, is_momentary(&run->fault), true, (uint64_t)g_get_monotonic_time());
-}
-
-static void end_write(Run *run)
-{
-    batch_end(&run->batch);
-    dconfdb_snapshot_unref(run->then);
-    g_tree_unref(run->last);
 }
 
 static void give(FolderLock *lock, const Turn *turn)
@@ -224,19 +227,21 @@ static void give(FolderLock *lock, const Turn *turn)
         folder_unlock(lock);
 }
 
-/* Whether they are answered: all are, or none. Others may have their turn before it is known who is told of what. */
+/* Whether they are answered: all are, or none. Each waits for its answer; others may have their turn before it is known who is told of what. */
 static bool write_run(Run *run, FolderLock *lock, const Turn *turn)
 {
     Writer *writer = run->writer;
     read_all(run);
     g_mutex_lock(&writer->turn);
     write_in(run, turn);
-    give(lock, turn);
     bool is_over = is_settled(writer->service, run);
     if (is_over)
-        answer_all(run);
+        answer_all(run, turn->fault == 0);
+    give(lock, turn);
+    if (is_over)
+        tell_all(run);
     g_mutex_unlock(&writer->turn);
-    end_write(run);
+    batch_end(&run->batch);
     writer_has_written(writer);
     return is_over;
 }

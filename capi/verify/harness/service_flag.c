@@ -111,14 +111,18 @@ int service_flag(void)
     static char folder[] = "/f";
     Service service = {.place = {.folder = folder}};
     const Writer writer = {.service = &service, .store = (DconfdbStore *)&a_store};
+    bool has_turn = is_locked = any_bool();
     has_flag = any_bool();
     at_call = at_each;
-    flag_readers(&writer);
-    CHECK(!is_locked, "order: the lock is given back");
+    flag_readers(&writer, has_turn);
+    CHECK(is_locked == has_turn, "order: the lock is given back, and none but its own");
+    CHECK(!has_turn || locks == 0, "step: in its turn it takes no lock");
     CHECK(only_open(-1, -1), "descriptor: the flag is closed");
     CHECK(looks == (has_flag ? 1 : 0), "step: whether it is there is asked, where there is one");
     CHECK(count_of[OPEN] == 1 || ((!has_flag || looked == ENOENT) && locks == 0), "answer: what may be there is set, and for what isn't no lock is taken");
-    if (is_set && is_gone)
+    if (is_set && is_gone && has_turn)
+        REACHED("in its turn it takes the name away");
+    if (is_set && is_gone && !has_turn)
         REACHED("who has the lock takes the name away");
     if (is_set && !is_gone)
         REACHED("while another has the lock it is set");

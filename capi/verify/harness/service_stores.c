@@ -13,6 +13,13 @@ static char alone, profiles, a_snapshot; /* stand for stores, and a snapshot */
 static bool is_alone_open, is_profile_open, has_snapshot, is_alone_opened;
 static Writer *kept;
 
+Profiles profiles_now(const char *names, int count)
+{
+    CHECK(names == service.files && count == service.profiles, "step: the files that may be the profile");
+    CHECK(!is_alone_opened, "order: they are looked at before one is read");
+    return (Profiles){.asked = 1};
+}
+
 static bool is_open_now(const DconfdbStore *store)
 {
     return (const char *)store == &alone ? is_alone_open : (const char *)store == &profiles && is_profile_open;
@@ -152,6 +159,7 @@ int service_writer(void)
     DconfdbError error = DCONFDB_ERROR_INIT;
     Writer *writer = writer_named(&service, "a", &error);
     CHECK(writer == kept && (!writer || (is_open_now(writer->store) && has_snapshot)), "answer: who writes is kept, with a store that is open");
+    CHECK(!writer || writer->seen.asked == 1, "answer: by which profiles it was opened is known");
     CHECK(writer || !(is_alone_open || is_profile_open), "memory: what isn't handed out is closed");
     if (!writer)
         return 0;

@@ -210,9 +210,9 @@ void g_hash_table_unref(GHashTable *table) { free(table); }
 
 /* ---- who is told */
 
-void flag_readers(const Writer *of)
+void flag_readers(const Writer *of, bool has_turn)
 {
-    CHECK(of == &writer && notified == 0, "order: dconf's readers see it before anybody is told");
+    CHECK(of == &writer && notified == 0 && !has_turn, "order: dconf's readers see it before anybody is told");
     flagged++;
 }
 

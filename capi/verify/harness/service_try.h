@@ -159,15 +159,15 @@ static void is_answered(const GDBusMessage *call, bool is_acknowledged)
         CHECK(has_come[i] && is_held(&changes[i]->writer->turn) && !is_held(&service.lock), "order: nobody looks at the files before it is answered");
         CHECK(is_tried && changes[i]->writer == written_for, "order: nothing is answered before it was tried");
         CHECK(!is_acknowledged || is_written || changes[i]->edits->len == 0, "answer: what is acknowledged is on the disk");
-        CHECK(!has_turn, "order: others may have their turn meanwhile");
         CHECK(is_flagged, "order: dconf's readers see it before anybody is answered");
         CHECK(i == 0 || !has_come[i - 1] || calls_of[i - 1]->answers == 1 || changes[i - 1]->writer != written_for, "order: who came first is answered first");
     }
 }
 
-void flag_readers(const Writer *of)
+void flag_readers(const Writer *of, bool is_in_turn)
 {
     CHECK(is_tried && of == written_for && is_held(&written_for->turn), "order: readers look again once it was tried");
+    CHECK(is_in_turn == has_turn, "answer: whether others may have their turn");
     is_flagged = true;
 }
 
@@ -180,6 +180,7 @@ void tell_change(Writer *writer, Newest *newest, const GPtrArray *made, const ch
     (void)newest;
     bool is = false;
     CHECK(writer == written_for && is_held(&writer->turn) && __CPROVER_r_ok(tag, 1), "order: who is told is told before others look");
+    CHECK(!has_turn, "order: others may have their turn meanwhile");
     for (guint i = 0; i < made->len; i++)
         CHECK(is_written && made->pdata[i] == &an_edit, "answer: what is told is made");
     for (int i = 0; !is && i < CHANGES; i++) {
