@@ -1499,6 +1499,7 @@ typedef struct {
     bool is_users;                  /* a database is the user's own */
     bool is_unmade;                 /* an edit isn't made, by dconfdb_is_unmade */
     bool is_service_db;             /* its database is one that a profile of dconf's names by `service-db` */
+    bool is_behind;                 /* one that came before it is on its way to the main thread */
 } DconfdbServed;
 
 /* What was done with it, or what happened. Of each its own fields count, and no others. */
@@ -1516,7 +1517,8 @@ enum {
     DCONFDB_SERVED_ORDERED,  /* .. and comes behind those before it, in the order of their bytes, and of one path as they were sent */
     DCONFDB_SERVED_SHOWS,    /* the service tells who listens of a database */
     DCONFDB_SERVED_MADE,     /* an edit was tried, and is told of */
-    DCONFDB_SERVED_BESIDE    /* an edit stands beside others of its change */
+    DCONFDB_SERVED_BESIDE,   /* an edit stands beside others of its change */
+    DCONFDB_SERVED_PASSES    /* it came in another thread than the main one */
 };
 
 /* What becomes of it then. */
@@ -1530,7 +1532,7 @@ enum {
     DCONFDB_SERVED_TOO_MUCH, /* too much waits */
     DCONFDB_SERVED_TOO_MANY_NAMES,
     DCONFDB_SERVED_LATE,     /* the service ends: that is its answer, and nothing of it is written; or the thread is left, whatever it is at */
-    DCONFDB_SERVED_LATER,    /* it is for a later write */
+    DCONFDB_SERVED_LATER,    /* it is for a later write; or the main thread is to take it */
     DCONFDB_SERVED_PROFILES, /* the profile's store has its database */
     DCONFDB_SERVED_ALONE,    /* the store of its database alone has it; or an edit is made, or not, by itself */
     DCONFDB_SERVED_ENDS,     /* the service ends, and takes what it was sent before */

@@ -135,7 +135,7 @@ static void finds_telling(void)
 enum { SERVED_SIZE = 0, SERVED_WAITING = 8, SERVED_WAITING_SIZE = 16, SERVED_NAMES = 24, SERVED_SAID = 32, SERVED_KIND = 36, SERVED_FLAGS = 40,
        SERVED_IS_USED = SERVED_FLAGS, SERVED_IS_NORMAL, SERVED_HAS_EDITS, SERVED_IS_WRITTEN, SERVED_IS_CLOSED, SERVED_ENDS, SERVED_IS_AMID,
        SERVED_IS_SAME, SERVED_IS_OPEN, SERVED_IS_PROFILE_OPEN, SERVED_HAS_SAME_FILE, SERVED_HAD_NAME, SERVED_IS_BUS_CLOSED, SERVED_IS_SHORT,
-       SERVED_IS_AGAIN, SERVED_IS_COVERED, SERVED_SETS, SERVED_IS_USERS, SERVED_IS_UNMADE, SERVED_IS_SERVICE_DB, SERVED = 64 };
+       SERVED_IS_AGAIN, SERVED_IS_COVERED, SERVED_SETS, SERVED_IS_USERS, SERVED_IS_UNMADE, SERVED_IS_SERVICE_DB, SERVED_IS_BEHIND, SERVED = 64 };
 
 static bool is_served(uint32_t done, const uint64_t numbers[4], uint32_t said, unsigned fields, uint32_t next)
 {
@@ -144,7 +144,7 @@ static bool is_served(uint32_t done, const uint64_t numbers[4], uint32_t said, u
     memcpy(known + SERVED_SAID, &said, NUMBER);
     if (done == 9) /* of a path what it is, in the place of what is said */
         memcpy(known + SERVED_KIND, &said, NUMBER);
-    for (int i = 0; i < SERVED_IS_SERVICE_DB + 1 - SERVED_FLAGS; i++)
+    for (int i = 0; i < SERVED_IS_BEHIND + 1 - SERVED_FLAGS; i++)
         known[SERVED_FLAGS + i] = fields >> i & 1;
     return dconfdb_served_after(done, known) == next;
 }
@@ -153,13 +153,15 @@ static bool is_served(uint32_t done, const uint64_t numbers[4], uint32_t said, u
 static void finds_sent(const uint64_t none[4])
 {
     enum { WRITTEN = 8, SHORT = 1 << 13, AGAIN = SHORT << 1, COVERED = SHORT << 2, SETS = SHORT << 3, USERS = SHORT << 4, UNMADE = SHORT << 5,
-           SERVICE_DB = SHORT << 6 };
+           SERVICE_DB = SHORT << 6, BEHIND = SHORT << 7, USED = 1, ENDS = 32 };
     is_so(is_served(9, none, 1, SHORT, 0) && is_served(9, none, 2, SHORT, 14) && is_served(9, none, 1, 0, 15), "DconfdbServed");
     is_so(is_served(10, none, 0, 0, 0) && is_served(10, none, 0, AGAIN, 16) && is_served(10, none, 0, COVERED, 14) && is_served(10, none, 0, COVERED | SETS, 0),
           "DconfdbServed");
     is_so(is_served(11, none, 0, 0, 14) && is_served(11, none, 0, USERS, 0), "DconfdbServed");
     is_so(is_served(12, none, 0, WRITTEN, 0) && is_served(12, none, 0, WRITTEN | UNMADE, 15) && is_served(12, none, 0, UNMADE, 14), "DconfdbServed");
     is_so(is_served(0, none, 0, SERVICE_DB, 17) && is_served(13, none, 0, 0, 11), "DconfdbServed");
+    is_so(is_served(14, none, 0, USED, 0) && is_served(14, none, 0, 0, 9) && is_served(14, none, 0, USED | BEHIND, 9) && is_served(14, none, 0, USED | ENDS, 9),
+          "DconfdbServed");
     lies("DconfdbServed", "kind", SERVED_KIND, NUMBER);
     lies("DconfdbServed", "is_short", SERVED_IS_SHORT, FLAG);
     lies("DconfdbServed", "is_again", SERVED_IS_AGAIN, FLAG);
@@ -168,6 +170,7 @@ static void finds_sent(const uint64_t none[4])
     lies("DconfdbServed", "is_users", SERVED_IS_USERS, FLAG);
     lies("DconfdbServed", "is_unmade", SERVED_IS_UNMADE, FLAG);
     lies("DconfdbServed", "is_service_db", SERVED_IS_SERVICE_DB, FLAG);
+    lies("DconfdbServed", "is_behind", SERVED_IS_BEHIND, FLAG);
 }
 
 /* Of what happens at the end, and before it is written, one field counts, or a few. */

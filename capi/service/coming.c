@@ -25,7 +25,7 @@ static DconfdbServed known_beside(const Service *service, size_t size)
     return (DconfdbServed){.size = size,
                            .waiting = service->added - service->settled,
                            .waiting_size = service->waiting_size,
-                           .names = g_hash_table_size(service->writers)};
+                           .names = service->names};
 }
 
 DconfdbServed service_knows(Service *service, size_t size)
@@ -36,21 +36,22 @@ DconfdbServed service_knows(Service *service, size_t size)
     return known;
 }
 
-/* Whether a change of that database may wait already. `lock` is held. */
-static bool may_wait(const Service *service, GDBusMessage *call)
+/* Whether a change of that database, or of one that isn't in use (NULL), may wait already. `lock` is held. */
+static bool may_wait(const Service *service, const Writer *writer, GDBusMessage *call)
 {
     g_autoptr(GVariant) bytes = g_variant_get_child_value(g_dbus_message_get_body(call), 0);
     DconfdbServed known = known_beside(service, g_variant_get_size(bytes));
-    known.is_used = true;
-    return dconfdb_served_after(DCONFDB_SERVED_CAME, &known) == DCONFDB_SERVED_GOES_ON;
+    known.is_used = writer != NULL;
+    known.is_behind = service->passing > 0;
+    known.ends = service->ends;
+    return dconfdb_served_after(DCONFDB_SERVED_PASSES, &known) == DCONFDB_SERVED_GOES_ON;
 }
 
-/* The order in which they came is kept: none is taken here while one that came before it is on its way to the main thread. */
 bool service_takes(Service *service, const char *name, GDBusMessage *call)
 {
     g_mutex_lock(&service->lock);
-    Writer *writer = service->passing > 0 || service->ends ? NULL : g_hash_table_lookup(service->writers, name);
-    bool takes = writer && may_wait(service, call);
+    Writer *writer = service->ends ? NULL : g_hash_table_lookup(service->writers, name); /* at the end there soon is none */
+    bool takes = may_wait(service, writer, call);
     if (takes)
         add(service, change_new(writer, call));
     else

@@ -42,6 +42,7 @@ typedef struct {
     GQueue taken; /* those that are written together, of one database; also until they are tried again */
     guint64 added, settled; /* how many changes ever came, and how many were answered */
     guint64 waiting_size; /* how many bytes those have that aren't */
+    guint64 names; /* how many databases are in use */
     guint64 passing; /* how many changes are on their way to the main thread */
     gint64 again; /* when a write that failed is tried again; 0: none is */
     bool is_writing; /* the thread is amid a try: it alone answers what is taken */

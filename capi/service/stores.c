@@ -95,6 +95,7 @@ Writer *writer_named(Service *service, const char *name, DconfdbError *error)
     writer = writer_new(service, name, store, &seen);
     g_mutex_lock(&service->lock);
     g_hash_table_insert(service->writers, writer->name, writer);
+    service->names++;
     g_mutex_unlock(&service->lock);
     writer_watch(writer);
     return writer;

@@ -163,7 +163,7 @@ int service_writer(void)
     CHECK(writer || !(is_alone_open || is_profile_open), "memory: what isn't handed out is closed");
     if (!writer)
         return 0;
-    CHECK(writer_named(&service, "a", &error) == writer, "step: a name is one's");
+    CHECK(writer_named(&service, "a", &error) == writer && service.names == 1, "step: a name is one's, and counts once");
     writer_free(writer);
     CHECK(!is_alone_open && !is_profile_open && !has_snapshot, "memory: all is given back");
     REACHED("it goes");

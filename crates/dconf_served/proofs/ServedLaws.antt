@@ -2,8 +2,8 @@
 use Rattle.std.proofs.Common.{◌≡◌, ◌≢◌, ◌⊎◌, inl, inr, arith, Bool, true, false, not, refl, sym, ◌∙◌}
 use Rattle.std.specs.Prelude.{ℕ, ◌&&◌, ◌||◌, ◌==◌, if◌then◌else◌, nat_lt, nat_le}
 use Rattle.dconf_served.specs.declared.served.Served.{Served}
-use Rattle.dconf_served.specs.declared.served.Served.TheVariants.{GoesOn, Acknowledged, Failed, Closed, Odd, TooLarge, TooMuch, TooManyNames, Late, Profiles, Alone, PassedOver, LeftOut, Replaces, Unsupported}
-use Rattle.dconf_served.specs.Served.{has_room, is_odd, is_path, lasts, NothingIsAnsweredUnwritten, WhatIsMadeIsTold, WhatIsSentCounts, WhatWaitsIsBounded, WhoWaitsIsToldAtTheEnd, LocksCountWhereTheyAreKnown}
+use Rattle.dconf_served.specs.declared.served.Served.TheVariants.{GoesOn, Acknowledged, Failed, Closed, Odd, TooLarge, TooMuch, TooManyNames, Late, Later, Profiles, Alone, PassedOver, LeftOut, Replaces, Unsupported}
+use Rattle.dconf_served.specs.Served.{has_room, came, is_odd, is_path, lasts, NothingIsAnsweredUnwritten, WhatCameFirstIsFirst, WhatIsMadeIsTold, WhatIsSentCounts, WhatWaitsIsBounded, WhoWaitsIsToldAtTheEnd, LocksCountWhereTheyAreKnown}
 
 -- ---- what was tried, by whether it is written, lasts, is at its end, is odd, has edits, and is closed
 
@@ -229,4 +229,38 @@ what_is_made_is_told k = record {
   left_out = told_left k.is_written k.is_unmade;
   unwritten = untold k.is_written k.is_unmade;
   alone = refl;
+}
+
+-- ---- beside the main thread, by whether its database is in use, it is behind another, and the service ends
+
+abbrev passed_by : Bool → Bool → Bool → Served → Served
+passed_by used behind ends came = if not used || (behind || ends) then Later else came
+
+waits_behind : (used behind ends : Bool) (came : Served) → behind ≡ true → passed_by used behind ends came ≡ Later
+waits_behind false behind ends came b = refl
+waits_behind true true ends came b = refl
+waits_behind true false ends came b = absurd (let bad : false ≡ true = b in cc)
+
+waits_at_the_end : (used behind ends : Bool) (came : Served) → ends ≡ true → passed_by used behind ends came ≡ Later
+waits_at_the_end false behind ends came e = refl
+waits_at_the_end true true ends came e = refl
+waits_at_the_end true false true came e = refl
+waits_at_the_end true false false came e = absurd (let bad : false ≡ true = e in cc)
+
+waits_to_be_open : (used behind ends : Bool) (came : Served) → used ≡ false → passed_by used behind ends came ≡ Later
+waits_to_be_open false behind ends came u = refl
+waits_to_be_open true behind ends came u = absurd (let bad : true ≡ false = u in cc)
+
+fits_by : (used behind ends : Bool) (came : Served) → passed_by used behind ends came ≡ GoesOn → came ≡ GoesOn
+fits_by false behind ends came g = absurd (let bad : Later ≡ GoesOn = g in cc)
+fits_by true true ends came g = absurd (let bad : Later ≡ GoesOn = g in cc)
+fits_by true false true came g = absurd (let bad : Later ≡ GoesOn = g in cc)
+fits_by true false false came g = g
+
+pub what_came_first_is_first : WhatCameFirstIsFirst
+what_came_first_is_first k = record {
+  behind = waits_behind k.is_used k.is_behind k.ends (came k);
+  ends = waits_at_the_end k.is_used k.is_behind k.ends (came k);
+  used = waits_to_be_open k.is_used k.is_behind k.ends (came k);
+  fits = fits_by k.is_used k.is_behind k.ends (came k);
 }

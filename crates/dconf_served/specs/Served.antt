@@ -16,6 +16,10 @@ came k =
     if k.is_service_db then Unsupported else if nat_lt 67108864 k.size then TooLarge else
     if not k.is_used && nat_le 64 k.names then TooManyNames else if has_room k then GoesOn else TooMuch
 
+-- beside the main thread, which alone opens a database, and ends the service: behind all that came before
+abbrev pub passed : ServedKnown → Served
+passed k = if not k.is_used || (k.is_behind || k.ends) then Later else came k
+
 -- ---- when it is read
 
 -- too many bytes to be brought into normal form
@@ -97,7 +101,7 @@ abbrev pub served_after : ℕ → ServedKnown → Served
 served_after done k = if done == 0 then came k else if done == 1 then read k else if done == 3 then told k else
     if done == 4 then ended k else if done == 5 then joined k else if done == 6 then placed k else if done == 7 then left k else
     if done == 8 then named k else if done == 9 then entered k else if done == 10 then ordered k else if done == 11 then shown k else
-    if done == 12 then made k else if done == 13 then beside k else tried k
+    if done == 12 then made k else if done == 13 then beside k else if done == 14 then passed k else tried k
 
 abbrev pub served_number : Served → ℕ
 served_number GoesOn = 0
@@ -192,3 +196,13 @@ pub record IsToldAsMade (k : ServedKnown) : Type 0 where
 
 abbrev pub WhatIsMadeIsTold : Type 0
 WhatIsMadeIsTold = (k : ServedKnown) → IsToldAsMade k
+
+-- whoever takes it, it is made behind what came before it, and is refused for the same
+pub record KeepsItsPlace (k : ServedKnown) : Type 0 where
+  pub behind : k.is_behind ≡ true → served_after 14 k ≡ Later
+  pub ends : k.ends ≡ true → served_after 14 k ≡ Later
+  pub used : k.is_used ≡ false → served_after 14 k ≡ Later
+  pub fits : served_after 14 k ≡ GoesOn → came k ≡ GoesOn
+
+abbrev pub WhatCameFirstIsFirst : Type 0
+WhatCameFirstIsFirst = (k : ServedKnown) → KeepsItsPlace k

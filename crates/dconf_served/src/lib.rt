@@ -5,7 +5,7 @@
 #![tactic(auto)]
 
 ghost use Rattle.dconf_served.specs.Begins.{OthersAreToldOfFromTheStart};
-ghost use Rattle.dconf_served.specs.Served.{LocksCountWhereTheyAreKnown, NothingIsAnsweredUnwritten, WhatIsMadeIsTold, WhatIsSentCounts, WhatWaitsIsBounded, WhoWaitsIsToldAtTheEnd};
+ghost use Rattle.dconf_served.specs.Served.{LocksCountWhereTheyAreKnown, NothingIsAnsweredUnwritten, WhatCameFirstIsFirst, WhatIsMadeIsTold, WhatIsSentCounts, WhatWaitsIsBounded, WhoWaitsIsToldAtTheEnd};
 
 mod begins;
 mod served;
@@ -45,6 +45,11 @@ pub fn what_is_sent_counts()
 /// Of each edit of a change that is written it is told that it is made, or that it isn't; and of no other. What can't be made is left out by itself.
 pub fn what_is_made_is_told()
     ensures { WhatIsMadeIsTold }
+{}
+
+/// Whichever thread takes a change, it is made behind all that came before it, and is refused for the same.
+pub fn what_came_first_is_first()
+    ensures { WhatCameFirstIsFirst }
 {}
 
 /// Before it serves anybody the database `user` is open, and dconf's folders are there, where the store is of dconf's kind.

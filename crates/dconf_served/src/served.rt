@@ -1,6 +1,6 @@
 //! What becomes of a call that changes settings, and of the service that takes it.
 ghost use Rattle.std.specs.Prelude.{◌≡◌};
-ghost use Rattle.dconf_served.specs.Served.{came, ended, entered, has_room, is_odd, is_path, is_settled, joined, lasts, left, made, named, ordered, placed, read, served_after, served_number, shown, told, tried};
+ghost use Rattle.dconf_served.specs.Served.{came, ended, entered, has_room, is_odd, is_path, is_settled, joined, lasts, left, made, named, ordered, passed, placed, read, served_after, served_number, shown, told, tried};
 
 /// A change has so many bytes at most.
 const LARGEST: u64 = 67_108_864;
@@ -40,7 +40,7 @@ pub enum Served {
     TooManyNames,
     /// The service ends: nothing of it is written any more, and that is its answer; or the thread that may still be at it is left.
     Late,
-    /// It is for a later write: it is of another database.
+    /// It is for a later write: it is of another database; or the main thread is to take it.
     Later,
     /// Its database is the profile's, with its locks.
     Profiles,
@@ -110,9 +110,11 @@ pub struct ServedKnown {
     pub is_unmade: bool,
     /// Its database is one that a profile of dconf's names by `service-db`.
     pub is_service_db: bool,
+    /// One that came before it is on its way to the main thread.
+    pub is_behind: bool,
 }
 
-/// What becomes of a change: 0 it came, 1 it is read, 3 what is seen otherwise by it is told, 4 the service ends before it is answered, 5 it
+/// What becomes of a change: 0 it came, 14 it came in another thread than the main one, 1 it is read, 3 what is seen otherwise by it is told, 4 the service ends before it is answered, 5 it
 /// waits behind those that are taken, 6 the stores were opened that may have its database, and else it was tried to write it. Of what it says: 9 a
 /// path is read, 10 it comes behind those before it in the order of their bytes, 12 an edit was tried, and is told of, 13 it stands beside others
 /// of its change. And of the service: 7 each caller is answered who can be at its end, 8 it hasn't its name, 11 it tells of a database.
@@ -133,12 +135,13 @@ pub fn served_after(done: u32, known: &ServedKnown) -> Served
         11 => shown(known),
         12 => made(known),
         13 => Served::Alone, // a locked key keeps no other one from being set
+        14 => passed(known),
         _ => tried(known),
     }
 }
 
 /// The same as a number: 0 it goes on, 1 it is acknowledged, 2 failed, 3 closed, 4 odd, 5 too large, 6 too much waits, 7 too many databases, 8
-/// the service ends, 9 it is for a later write, 10 the profile's store has it, 11 a store of its own has it, 12 the service ends in peace, 13
+/// the service ends, 9 it is for a later write, or for the main thread, 10 the profile's store has it, 11 a store of its own has it, 12 the service ends in peace, 13
 /// another one has the name, 14 it is passed over, 15 left out, 16 it takes the place of the one before it, 17 no such database is served.
 pub fn served_number(done: u32, known: &ServedKnown) -> u32
     ensures { result ≡ served_number (served_after done known.now) }
@@ -257,6 +260,16 @@ fn shown(known: &ServedKnown) -> Served
         return Served::GoesOn;
     }
     Served::PassedOver
+}
+
+/// The main thread alone opens a database, and takes what comes at the end; and what came before it stays before it.
+fn passed(known: &ServedKnown) -> Served
+    ensures { result ≡ passed known.now }
+{
+    if !known.is_used || (known.is_behind || known.ends) {
+        return Served::Later;
+    }
+    came(known)
 }
 
 /// All that are written together wait together, so that they are answered in the order in which they came.

@@ -30,6 +30,7 @@ const PLAIN: ServedKnown = ServedKnown {
     is_users: true,
     is_unmade: false,
     is_service_db: false,
+    is_behind: false,
 };
 
 const ODD: ServedKnown = ServedKnown {
@@ -243,6 +244,27 @@ fn no_service_db_is_served() -> bool {
     served_number(0, &other) == 17
 }
 
+fn what_came_first_is_first() -> bool {
+    let behind = ServedKnown {
+        is_behind: true,
+        ..PLAIN
+    };
+    let last = ServedKnown { ends: true, ..PLAIN };
+    let unopened = ServedKnown {
+        is_used: false,
+        ..PLAIN
+    };
+    let large = ServedKnown {
+        size: 67_108_865,
+        ..PLAIN
+    };
+    served_number(14, &PLAIN) == 0
+        && served_number(14, &behind) == 9
+        && served_number(14, &last) == 9
+        && served_number(14, &unopened) == 9
+        && served_number(14, &large) == 5
+}
+
 fn it_serves_at_last() -> bool {
     begins_number(0, true) == 1
         && begins_number(0, false) == 2
@@ -257,6 +279,7 @@ fn calls_are_answered_once_they_are_written(rt: HostRuntime) -> Result<(), Fail>
     assert!(rt; odd_bytes_are_refused() && what_is_written_is_acknowledged());
     assert!(rt; who_waits_is_told_at_the_end() && a_name_has_a_store());
     assert!(rt; one_database_is_written_at_once() && who_has_no_name_ends());
+    assert!(rt; what_came_first_is_first());
     assert!(rt; each_path_counts() && the_last_of_a_path_counts() && sites_are_not_told());
     assert!(rt; each_edit_is_told_of() && no_service_db_is_served() && it_serves_at_last());
     Ok(())
