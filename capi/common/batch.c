@@ -70,7 +70,7 @@ static uint32_t ask(const Batch *batch, DconfdbStore *store, size_t number)
     DconfdbSnapshot *now = dconfdb_store_snapshot(store);
     bool may = dconfdb_snapshot_is_writable(now, edit->path);
     dconfdb_snapshot_unref(now);
-    const DconfdbWriting writing = {.has_user = dconfdb_store_user_file(store) != NULL, .is_closed = batch->queue.is_closed};
+    const DconfdbWriting writing = {.has_user = dconfdb_store_user_file(store) != NULL, .is_closed = batch->queue.is_closed, .writes = true};
     bool is = dconfdb_may_be_made((const uint8_t *)edit->path, strlen(edit->path), edit->type != NULL, dconfdb_is_open(&writing), may);
     return is ? DCONFDB_QUEUE_YES : DCONFDB_QUEUE_LOCKED;
 }

@@ -1155,6 +1155,9 @@ enum {
 /* Whether it minds much that happens: then a folder is waited for in /etc, too. */
 bool dconfdb_minds_much(uint32_t who);
 
+/* Whether the profile of a store that is open counts as it was read: nobody looks at it again. */
+bool dconfdb_keeps_profile(uint32_t who);
+
 /* Of a name in a folder; the root's path is empty. `minds`: much that happens is minded. `is_last`: it is the file's own name. `mode` and
  * `links` are st_mode and st_nlink of what stands there, 0 where nothing does. `is_unseen`: that can't be seen, or not where a link leads. `followed`: so
  * many links were followed on the way. `is_profile`: if the file changes, other files may be the store's. */
@@ -1429,13 +1432,14 @@ bool dconfdb_is_at_work(bool has_ended, uint32_t begun_in, uint32_t process);
 
 /* What is known of who writes in the user's database. */
 typedef struct {
-    uint32_t begun_in, process; /* in which process it was begun, and in which one it is asked */
-    bool has_ended;
+    uint32_t begun_in, process; /* of who sets something: in which process it was begun, and in which one it is asked; */
+    bool has_ended;             /* and that it has ended */
     bool has_user;              /* there is a user's database */
-    bool is_closed;             /* nobody who has this program's rights may write there */
+    bool is_closed;             /* of who writes: the write found that nobody who has this program's rights may write there */
+    bool writes;                /* what waits is written, or settled, by who asks; else something is set */
 } DconfdbWriting;
 
-/* Whether somebody may write there. */
+/* Whether somebody may write there: who sets something, or who writes what was set. */
 bool dconfdb_is_open(const DconfdbWriting *known);
 
 /* What is known of what is told. */
@@ -2062,7 +2066,31 @@ enum {
  * there yet. */
 uint32_t dconfdb_is_nearer(DconfdbNearing *nearing, bool is_end, const uint8_t *name, size_t name_len, const uint8_t *other, size_t other_len);
 
-/* ---- the words of `watch` and of `lint` */
+/* ---- which program a command line is for, and the words of `watch` and of `lint` */
+
+/* What is known of a command line beside its first words. */
+typedef struct {
+    uint64_t count; /* how many words there are, with the program's name */
+    bool is_path;   /* the last of three is a path */
+    bool has_blame; /* the program `blame` may be run */
+    bool is_noted;  /* it is asked for that changes are noted */
+} DconfdbCommandLine;
+
+/* Which program it is for. */
+enum {
+    DCONFDB_PROGRAM_PROVED, /* the proved one, with all words as they are */
+    DCONFDB_PROGRAM_WATCH,  /* with the words behind that one */
+    DCONFDB_PROGRAM_LINT,
+    DCONFDB_PROGRAM_WATCH_HELP, /* the same with `--help` alone */
+    DCONFDB_PROGRAM_LINT_HELP,
+    DCONFDB_PROGRAM_DCONF_WATCH, /* run as `dconf`: the same `watch`, and `blame` */
+    DCONFDB_PROGRAM_DCONF_BLAME,
+    DCONFDB_PROGRAM_NOTED /* the proved one, by `blame`, which has it noted that this process changes settings */
+};
+
+/* By the program's name and the two words after it, each empty where there is none. */
+uint32_t dconfdb_program_of(const uint8_t *name, size_t name_len, const uint8_t *first, size_t first_len, const uint8_t *second, size_t second_len,
+                            const DconfdbCommandLine *line);
 
 /* What the words before say; {0} at first, but for the program. Nobody else writes it. */
 typedef struct {

@@ -239,7 +239,7 @@ void store_peek(DconfdbBackend *self);
 /* The same for who is about to tell of a change by itself: it waits for who looks, a fifth of a second at most, and for no write. */
 void store_catch_up(DconfdbBackend *self);
 
-/* When a look that failed is made again by who reads, and a wait that failed by who works. */
+/* When a wait that failed is made again by who works. */
 gint64 after_a_fault(gint64 now);
 
 /* Until what waits is written, and the files are looked at: ten seconds at most, and as long again after each turn of other
@@ -288,17 +288,17 @@ static inline bool is_at_work(const DconfdbBackend *self)
     return dconfdb_is_at_work(self->has_ended, (uint32_t)self->process, (uint32_t)getpid());
 }
 
-/* Whether somebody may write in the user's database. That its file is closed to this program is found out by each write, since rights may come back. */
+/* Whether somebody who sets something may write in the user's database. */
 static inline bool is_open(const DconfdbBackend *self)
 {
-    const DconfdbWriting known = {(uint32_t)self->process, (uint32_t)getpid(), self->has_ended, self->has_user, false};
+    const DconfdbWriting known = {.begun_in = (uint32_t)self->process, .process = (uint32_t)getpid(), .has_ended = self->has_ended, .has_user = self->has_user};
     return dconfdb_is_open(&known);
 }
 
-/* Whether what waits can be written, by who is at work. */
+/* The same of who settles what waits; no write is under way. */
 static inline bool may_be_settled(const DconfdbBackend *self)
 {
-    const DconfdbWriting known = {.has_user = self->has_user};
+    const DconfdbWriting known = {.has_user = self->has_user, .writes = true};
     return dconfdb_is_open(&known);
 }
 
@@ -353,7 +353,7 @@ typedef struct {
     DconfdbSnapshot *before, *after;
     bool is_first; /* the store was opened: nobody has seen another one */
     bool waits_again; /* what was taken could not be written */
-    bool is_to_settle; /* what waits is settled if it is there already by the files that are read */
+    bool is_to_settle; /* of something that waits nobody knows whether it changes anything: it is settled if it is there by the files that are read */
     GQueue taken;     /* changes of ours that are being written */
     GQueue gone;      /* and those that no longer wait */
     EditedKeys *edited;      /* keys that an edit of ours was for; NULL: none */

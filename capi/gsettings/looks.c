@@ -193,6 +193,7 @@ bool look(DconfdbBackend *self, Notice *notice)
     uint32_t task = DCONFDB_GLANCE_BEGINS;
     profiles_compare(&self->seen, &it.profiles, &it.known);
     it.known.is_open = self->store != NULL;
+    it.known.keeps_profile = dconfdb_keeps_profile(DCONFDB_WATCHER_MODULE);
     it.known.is_to_settle = notice->is_to_settle;
     while ((task = dconfdb_glance_after(task, &it.known)) < DCONFDB_GLANCE_SEEN)
         carry_out(self, task, &it);

@@ -159,7 +159,7 @@ static void say_as(uint32_t list, const char *text)
 
 void say(DconfdbBackend *self, const char *text)
 {
-    DconfdbTelling telling = {.is_first = true, .ends = has_ended(self), .has_faults = true};
+    DconfdbTelling telling = {.ends = has_ended(self), .has_faults = true};
     say_as(tell_next_list(&telling), text);
 }
 

@@ -87,9 +87,17 @@ static bool is_to_peek(DconfdbBackend *self, gint64 now)
     return next != 0;
 }
 
+/* It has opened the store, or tried to, and hears nothing. */
 gint64 after_a_fault(gint64 now)
 {
     return (gint64)dconfdb_next_look(DCONFDB_LOOKER_FAILED, 0, (uint64_t)now, true, true, false);
+}
+
+static void look_again_later(DconfdbBackend *self)
+{
+    g_mutex_lock(&self->lock);
+    atomic_store(&self->looks, next_look(self, DCONFDB_LOOKER_FAILED, coarse_time()));
+    g_mutex_unlock(&self->lock);
 }
 
 /* `turn` is held, and given back. A handler would run amid what the caller does, if this thread told. */
@@ -98,7 +106,7 @@ static void look_quietly(DconfdbBackend *self)
     Notice notice = {.faults = NULL};
     /* A file that can't be read is read again and again. */
     if (!look(self, &notice))
-        atomic_store(&self->looks, after_a_fault(coarse_time()));
+        look_again_later(self);
     g_mutex_unlock(&self->turn);
     notice_tell_elsewhere(self, &notice);
 }

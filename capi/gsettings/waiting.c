@@ -310,10 +310,23 @@ static bool is_there_already(const Waiting *waiting, Change *change, const Dconf
 
 /* ---- what becomes of them, as the proved call has it */
 
-/* What is known of a change once it was tried to write those that were taken. */
-static DconfdbWaiter known_after_try(const Waiting *waiting, const Change *change)
+/* The newest edit of a key, asked for once where changes of one key stand side by side. */
+typedef struct {
+    size_t key;
+    const Edit *edit;
+} Newest;
+
+static const Edit *newest_again(const Waiting *waiting, size_t key, Newest *last)
 {
-    const Edit *edit = &change->edits[0], *newest = newest_of(waiting, edit->key);
+    if (last->key != key)
+        *last = (Newest){key, newest_of(waiting, key)};
+    return last->edit;
+}
+
+/* What is known of a change once it was tried to write those that were taken. */
+static DconfdbWaiter known_after_try(const Waiting *waiting, const Change *change, Newest *last)
+{
+    const Edit *edit = &change->edits[0], *newest = newest_again(waiting, edit->key, last);
     return (DconfdbWaiter){.change = (uintptr_t)change,
                            .set = change->set,
                            .edit = {edit->number, is_alone(edit)},
@@ -366,10 +379,11 @@ static void let_go_of_taken(Waiting *waiting, GQueue *taken)
 EditedKeys *waiting_end_try(Waiting *waiting, GQueue *taken, bool is_written, GQueue *gone)
 {
     EditedKeys *keys = edited_of(waiting);
+    Newest last = {NO_KEY, NULL};
     waiting->shown++;
     if (taken->length > 0) {
         for (guint at = 0; at < waiting->line->len; at++)
-            line_of(waiting)[at] = known_after_try(waiting, change_at(waiting, at));
+            line_of(waiting)[at] = known_after_try(waiting, change_at(waiting, at), &last);
         let_go_of_taken(waiting, taken);
         *gone = settle_line(waiting, is_written);
         put_again(waiting);

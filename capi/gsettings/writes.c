@@ -57,9 +57,18 @@ static gint64 write_in(DconfdbBackend *self, const Turn *turn, Notice *notice, b
     return again;
 }
 
+/* What begins to wait later is settled by its write, or a later look. */
+static bool has_asking(DconfdbBackend *self)
+{
+    g_mutex_lock(&self->lock);
+    bool has = waiting_asks(&self->waiting);
+    g_mutex_unlock(&self->lock);
+    return has;
+}
+
 void store_settle(DconfdbBackend *self)
 {
-    Notice notice = {.is_to_settle = true};
+    Notice notice = {.is_to_settle = has_asking(self)};
     g_mutex_lock(&self->turn);
     look(self, &notice);
     g_mutex_unlock(&self->turn);

@@ -14,63 +14,55 @@
 #include <string.h>
 #include <unistd.h>
 
+static const char proved[] = LIBEXEC "/dconfdb", homeless[] = LIBEXEC "/dconfdb-home", blamer[] = LIBEXEC "/dconfdb-blame";
+
+/* A program by which a command line is for another one than the proved one. */
 typedef struct {
-    const char *word, *file;
+    const char *file;
     char name[16]; /* by which it calls itself */
 } Program;
 
-static Program proved = {"", LIBEXEC "/dconfdb", ""}, homeless = {"", LIBEXEC "/dconfdb-home", ""};
-static Program others[] = {{"watch", LIBEXEC "/dconfdb-watch", "dconfdb watch"}, {"lint", LIBEXEC "/dconfdb-lint", "dconfdb lint"}};
+static Program others[] = {
+    [DCONFDB_PROGRAM_WATCH] = {LIBEXEC "/dconfdb-watch", "dconfdb watch"},
+    [DCONFDB_PROGRAM_LINT] = {LIBEXEC "/dconfdb-lint", "dconfdb lint"},
+    [DCONFDB_PROGRAM_WATCH_HELP] = {LIBEXEC "/dconfdb-watch", "dconfdb watch"},
+    [DCONFDB_PROGRAM_LINT_HELP] = {LIBEXEC "/dconfdb-lint", "dconfdb lint"},
+    [DCONFDB_PROGRAM_DCONF_WATCH] = {LIBEXEC "/dconfdb-watch", "dconf watch"},
+    [DCONFDB_PROGRAM_DCONF_BLAME] = {blamer, "dconf blame"},
+};
 
-static Program watched = {"watch", LIBEXEC "/dconfdb-watch", "dconf watch"}, blamed = {"blame", LIBEXEC "/dconfdb-blame", "dconf blame"};
-
-static bool is_dconf(const char *name)
-{
-    const char *slash = strrchr(name, '/');
-    return strcmp(slash ? slash + 1 : name, "dconf") == 0;
-}
-
-/* Of a text that is no path the proved program says why. */
 static bool is_path(const char *text)
 {
     bool is_short = false;
     uint32_t kind = dconfdb_path_kind((const uint8_t *)text, strlen(text), DCONFDB_PATH_WANTED, false, &is_short);
-    return kind != DCONFDB_PATH_NOT_ABSOLUTE && kind != DCONFDB_PATH_DOUBLE_SLASH;
+    return kind == DCONFDB_PATH_KEY || kind == DCONFDB_PATH_DIRECTORY;
 }
 
-/* `dconf watch PATH`, `dconf blame`, and the proved program for any other words. */
-static Program *dconfs_program(int count, char **words)
+static const char *word_at(int count, char **words, int at)
 {
-    if (count == 3 && strcmp(words[1], "watch") == 0 && is_path(words[2]))
-        return &watched;
-    return count == 2 && strcmp(words[1], "blame") == 0 && access(blamed.file, X_OK) == 0 ? &blamed : &proved;
+    return at < count ? words[at] : "";
 }
 
-static bool is_changing(const char *word)
+/* Which program the words are for, as the proved call has it. */
+static uint32_t program_of(int count, char **words)
 {
-    return strcmp(word, "write") == 0 || strcmp(word, "reset") == 0 || strcmp(word, "load") == 0;
+    const char *name = word_at(count, words, 0), *first = word_at(count, words, 1), *second = word_at(count, words, 2);
+    const DconfdbCommandLine line = {
+        .count = (uint64_t)count, .is_path = is_path(second), .has_blame = access(blamer, X_OK) == 0, .is_noted = secure_getenv("DCONF_BLAME") != NULL};
+    return dconfdb_program_of((const uint8_t *)name, strlen(name), (const uint8_t *)first, strlen(first), (const uint8_t *)second, strlen(second), &line);
 }
 
 /* Becomes the program by dconfdb-blame, or returns. */
-static void run_noted(const Program *program, int count, char **words)
+static void run_noted(const char *file, int count, char **words)
 {
     char **noted = calloc((size_t)count + 3, sizeof *noted);
     if (!noted)
         return;
-    noted[0] = blamed.name;
-    noted[1] = (char *)(uintptr_t)program->file;
+    noted[0] = others[DCONFDB_PROGRAM_DCONF_BLAME].name;
+    noted[1] = (char *)(uintptr_t)file;
     memcpy(noted + 2, words, (size_t)count * sizeof *words);
-    execv(blamed.file, noted);
+    execv(blamer, noted);
     free(noted);
-}
-
-static Program *program_of(const char *word)
-{
-    for (size_t i = 0; i < sizeof others / sizeof *others; i++) {
-        if (strcmp(word, others[i].word) == 0)
-            return &others[i];
-    }
-    return &proved;
 }
 
 /* As for the library: what the environment says doesn't count for a program that has more rights than whoever started it. */
@@ -81,7 +73,7 @@ static void forget_environment(void)
 }
 
 /* The proved program, by what has to be asked to know where a store is that nobody names. */
-static Program *proved_program(void)
+static const char *proved_program(void)
 {
     const DconfdbEnvironment environment = environment_now();
     const DconfdbBytes nothing = DCONFDB_NOTHING;
@@ -89,25 +81,38 @@ static Program *proved_program(void)
     if (!environment.counts)
         forget_environment();
     uint32_t what = dconfdb_place(&environment, DCONFDB_GIVEN_BY_NOBODY, nothing.at, nothing.len, DCONFDB_WANT_FOLDER, false, nothing.at, nothing.len, &path);
-    return what == DCONFDB_ASK_HOME ? &homeless : &proved;
+    return what == DCONFDB_ASK_HOME ? homeless : proved;
+}
+
+/* Returns if it can't be run. */
+static int run(const char *file, char **words)
+{
+    execv(file, words);
+    fprintf(stderr, "error: %s %s\n", file_fault(DCONFDB_TO_LOOK, errno) == 0 ? "NoFile" : "Device", file);
+    return 1;
+}
+
+/* Another one, with these words, the first of which is its name. */
+static int run_other(uint32_t program, char **words)
+{
+    words[0] = others[program].name;
+    return run(others[program].file, words);
 }
 
 int main(int count, char **words)
 {
     char help[] = "--help", *helped[] = {NULL, help, NULL};
-    bool is_dconfs = count > 1 && is_dconf(words[0]);
-    bool asks_help = !is_dconfs && count == 3 && strcmp(words[1], "help") == 0;
-    Program *program = is_dconfs ? dconfs_program(count, words) : count < 2 ? &proved : program_of(words[asks_help ? 2 : 1]);
-    if (program != &proved) {
-        words = asks_help ? helped : words + 1;
-        words[0] = program->name;
+    uint32_t program = program_of(count, words);
+    switch (program) {
+    case DCONFDB_PROGRAM_PROVED:
+        return run(proved_program(), words);
+    case DCONFDB_PROGRAM_NOTED:
+        run_noted(proved_program(), count, words); /* what can't be noted is run all the same */
+        return run(proved_program(), words);
+    case DCONFDB_PROGRAM_WATCH_HELP:
+    case DCONFDB_PROGRAM_LINT_HELP:
+        return run_other(program, helped);
+    default:
+        return run_other(program, words + 1);
     }
-    if (program == &proved) {
-        program = proved_program();
-        if (is_dconfs && is_changing(words[1]) && secure_getenv("DCONF_BLAME"))
-            run_noted(program, count, words);
-    }
-    execv(program->file, words);
-    fprintf(stderr, "error: %s %s\n", file_fault(DCONFDB_TO_LOOK, errno) == 0 ? "NoFile" : "Device", program->file);
-    return 1;
 }

@@ -9,6 +9,8 @@ uint32_t dconfdb_is_nearer(void *nearing, bool is_end, const char *name, size_t 
 uint32_t dconfdb_read_as(const void *entry, const void *folders, size_t count, const char *name, size_t name_len, uint64_t size, const char *text, size_t len,
                          size_t *sources, size_t *stem, bool *is_source);
 uint32_t dconfdb_option(void *read, bool is_end, const char *word, size_t len, size_t *from);
+uint32_t dconfdb_program_of(const char *name, size_t name_len, const char *first, size_t first_len, const char *second, size_t second_len,
+                            const void *line);
 uint32_t dconfdb_finding(const void *known, const char *directory, size_t directory_len, const void *others, size_t count);
 
 /* Of two lines, the first names the group of the second's key. */
@@ -142,6 +144,29 @@ static void finds_words(void)
     printf("TAKES(DconfdbWords, %d);\n", WORDS);
 }
 
+/* The program of three words, the last of them a path or not. */
+static uint32_t program_of(const char *name, const char *first, const char *second, uint64_t count, bool is_path, bool has_blame, bool is_noted)
+{
+    const struct {
+        uint64_t count;
+        bool flags[3];
+    } line = {count, {is_path, has_blame, is_noted}};
+    return dconfdb_program_of(name, strlen(name), first, strlen(first), second, strlen(second), &line);
+}
+
+static void finds_line(void)
+{
+    is_so(program_of("d", "watch", "/", 3, false, false, false) == 1 && program_of("d", "watch", "", 1, false, false, false) == 0, "DconfdbCommandLine");
+    is_so(program_of("dconf", "watch", "/", 3, true, false, false) == 5 && program_of("dconf", "watch", "/", 3, false, true, true) == 0, "DconfdbCommandLine");
+    is_so(program_of("dconf", "blame", "", 2, false, true, false) == 6 && program_of("dconf", "blame", "", 2, true, false, true) == 0, "DconfdbCommandLine");
+    is_so(program_of("dconf", "load", "", 2, false, false, true) == 7 && program_of("dconf", "load", "", 2, true, true, false) == 0, "DconfdbCommandLine");
+    lies("DconfdbCommandLine", "count", 0, WORD);
+    lies("DconfdbCommandLine", "is_path", 8, FLAG);
+    lies("DconfdbCommandLine", "has_blame", 9, FLAG);
+    lies("DconfdbCommandLine", "is_noted", 10, FLAG);
+    printf("TAKES(DconfdbCommandLine, %d);\n", 16);
+}
+
 void finds_lines(void)
 {
     static const char text[] = "[g]\nk=vv\nrest";
@@ -168,4 +193,5 @@ void finds_lines(void)
     finds_nearing();
     finds_entry();
     finds_words();
+    finds_line();
 }

@@ -198,24 +198,26 @@ static void finds_glance(void)
 }
 
 /* What is known of who writes. */
-static bool is_open(uint32_t begun_in, uint32_t process, bool has_ended, bool has_user, bool is_closed)
+static bool is_open(uint32_t begun_in, uint32_t process, bool has_ended, bool has_user, bool is_closed, bool writes)
 {
     const struct {
         uint32_t begun_in, process;
-        bool flags[3];
-    } known = {begun_in, process, {has_ended, has_user, is_closed}};
+        bool flags[4];
+    } known = {begun_in, process, {has_ended, has_user, is_closed, writes}};
     return dconfdb_is_open(&known);
 }
 
 static void finds_writing(void)
 {
-    is_so(is_open(7, 7, false, true, false) && !is_open(7, 8, false, true, false) && !is_open(0, 7, false, true, false), "DconfdbWriting");
-    is_so(!is_open(7, 7, true, true, false) && !is_open(7, 7, false, false, false) && !is_open(7, 7, false, true, true), "DconfdbWriting");
+    is_so(is_open(7, 7, false, true, true, false) && !is_open(7, 8, false, true, false, false) && !is_open(0, 7, false, true, false, false), "DconfdbWriting");
+    is_so(!is_open(7, 7, true, true, false, false) && !is_open(7, 7, false, false, false, false) && is_open(7, 8, true, true, false, true), "DconfdbWriting");
+    is_so(!is_open(7, 7, false, true, true, true) && !is_open(7, 7, false, false, false, true), "DconfdbWriting");
     lies("DconfdbWriting", "begun_in", 0, NUMBER);
     lies("DconfdbWriting", "process", NUMBER, NUMBER);
     lies("DconfdbWriting", "has_ended", 8, FLAG);
     lies("DconfdbWriting", "has_user", 9, FLAG);
     lies("DconfdbWriting", "is_closed", 10, FLAG);
+    lies("DconfdbWriting", "writes", 11, FLAG);
     printf("TAKES(DconfdbWriting, %d);\n", 12);
 }
 

@@ -104,7 +104,7 @@ gboolean dconf_client_is_writable(DConfClient *client, const gchar *key)
     g_return_val_if_fail (key != NULL, FALSE);
     DconfdbSnapshot *now = engine_current(client->engine);
     /* What is no path is locked by nobody, as dconf has it. */
-    gboolean is = seen_is_writable(now, is_open(engine_has_user(client->engine)), key);
+    gboolean is = seen_is_writable(now, is_open(engine_begin_here(client->engine), engine_has_user(client->engine)), key);
     dconfdb_snapshot_unref(now);
     return is;
 }

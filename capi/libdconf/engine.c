@@ -122,7 +122,7 @@ static void look(Engine *self, Looking *it)
 {
     uint32_t task = DCONFDB_GLANCE_BEGINS;
     it->before = it->store ? dconfdb_store_snapshot(it->store) : NULL;
-    it->known.keeps_profile = true; /* as dconf's client reads it once */
+    it->known.keeps_profile = dconfdb_keeps_profile(DCONFDB_WATCHER_CLIENT);
     it->known.is_open = it->store != NULL;
     while ((task = dconfdb_glance_after(task, &it->known)) < DCONFDB_GLANCE_SEEN)
         carry_out(self, task, it);
@@ -166,9 +166,10 @@ static uint32_t begin_look(Engine *self, uint32_t looker, DconfdbStore **store)
     return due;
 }
 
-static void end_look(Engine *self)
+static void end_look(Engine *self, bool is_done)
 {
     g_mutex_lock(&self->lock);
+    self->seen += is_done;
     if (--self->looks == 0)
         g_cond_broadcast(&self->looked);
     g_mutex_unlock(&self->lock);
@@ -179,7 +180,7 @@ static bool look_now(Engine *self, DconfdbStore *store, DconfdbError *error)
 {
     Looking it = {.store = store, .error = DCONFDB_ERROR_INIT};
     look(self, &it);
-    end_look(self);
+    end_look(self, it.known.is_done);
     warn_of_faults(self, it.known.is_done ? NULL : &it.error);
     if (!it.known.is_done)
         *error = it.error;
@@ -279,14 +280,20 @@ static void leave_to_parent(Engine *self)
     self->looks = 0;
 }
 
-void engine_begin_here(Engine *self)
+uint32_t engine_begins_in(Engine *self)
 {
     uint32_t process = (uint32_t)getpid();
-    g_mutex_lock(&self->lock);
     if (!dconfdb_is_at_work(false, self->process, process))
         leave_to_parent(self);
-    self->process = process;
+    return self->process = process;
+}
+
+uint32_t engine_begin_here(Engine *self)
+{
+    g_mutex_lock(&self->lock);
+    uint32_t process = engine_begins_in(self);
     g_mutex_unlock(&self->lock);
+    return process;
 }
 
 Engine *engine_new(DConfClient *client)

@@ -156,7 +156,7 @@ static uint32_t entry_of(Engine *self, bool has_user, const DconfdbSnapshot *now
         const DconfdbEdit *edit = edit_at(edits, at);
         g_autoptr(GVariant) value = NULL;
         dconf_changeset_get(changes, edit->path, &value);
-        known[at] = known_by_rights(edit, is_open(has_user), now);
+        known[at] = known_by_rights(edit, is_open(self->process, has_user), now);
         known[at].is_same = is_redundant(self, or_nothing(now), edit, value);
     }
     bool is_there;
@@ -208,21 +208,33 @@ gboolean engine_change_fast(Engine *self, DConfChangeset *changes, GError **erro
     return is_done;
 }
 
-/* A try that looks at the files by itself, and brings to the disk what was there already; a thread's own is over then. */
+/* Tries to write what waits, with what was there already brought to the disk; a thread's own try is over then. `seen`: how many looks there had been. */
+static void try_to_sync(Engine *self, uint64_t seen, DconfdbWriter *known, DconfdbError *fault)
+{
+    uint64_t again;
+    known->settled = flush(self, FALSE, fault, &again);
+    g_mutex_lock(&self->lock);
+    known->sync.has_looked = self->seen != seen;
+    g_mutex_unlock(&self->lock);
+}
+
+/* All that waits is one, and nobody else has the turn to look. */
 void engine_sync(Engine *self)
 {
     DconfdbError fault = DCONFDB_ERROR_INIT;
     uint32_t task = DCONFDB_WRITER_BEGINS;
-    uint64_t again;
-    engine_begin_here(self);
     g_mutex_lock(&self->lock);
+    engine_begins_in(self);
     DconfdbWriter known = known_now(self);
+    uint64_t seen = self->seen;
+    known.sync.has_store = self->place.folder != NULL;
     g_mutex_unlock(&self->lock);
     known.added = 1;
-    known.sync.has_looked = true;
     while ((task = dconfdb_writer_after(DCONFDB_WRITER_SYNC, task, true, &known)) < DCONFDB_SYNC_YES) {
         if (task == DCONFDB_SYNC_WRITE)
-            known.settled = flush(self, FALSE, &fault, &again);
+            try_to_sync(self, seen, &known, &fault);
+        else if (task == DCONFDB_SYNC_LOOK)
+            engine_refresh(self);
     }
     if (task == DCONFDB_SYNC_NO)
         g_warning("what was changed is not on the disk yet, and goes on waiting: %s", fault.text);

@@ -8,6 +8,7 @@
 #include "warned.h"
 
 #include <dconf.h>
+#include <unistd.h>
 
 /* ---- a client's store (engine.c, reads.c) */
 
@@ -42,6 +43,7 @@ typedef struct {
     gboolean is_busy;        /* its file is being replaced: nobody looks at the files, which would wait for the disk */
     gboolean is_to_look;     /* somebody wanted to, meanwhile */
     guint looks;             /* how many threads look at the files */
+    uint64_t seen;           /* how many looks succeeded */
     GCond looked;            /* none does */
     gboolean has_thread;     /* one writes what waits */
     GHashTable *watched;     /* paths, and how often each is watched */
@@ -79,15 +81,26 @@ void engine_end_write(Engine *self);
 /* Whether the profile has a user's database: without one nothing can be written. */
 gboolean engine_has_user(Engine *self);
 
-/* Whether somebody may write there: a client begins anew in a child of fork(), so it is at work wherever it is asked. */
-static inline bool is_open(bool has_user)
+/* Whether somebody who sets something may write there. `process`: in which process the client began last. */
+static inline bool is_open(uint32_t process, bool has_user)
 {
-    const DconfdbWriting known = {.has_user = has_user};
+    const DconfdbWriting known = {.begun_in = process, .process = (uint32_t)getpid(), .has_user = has_user};
     return dconfdb_is_open(&known);
 }
 
-/* Before anything waits or is written: in a child of fork() nothing does yet, as what waits is the parent's, and so is who writes it. */
-void engine_begin_here(Engine *self);
+/* The same of who writes what was set. */
+static inline bool may_be_written(bool has_user)
+{
+    const DconfdbWriting known = {.has_user = has_user, .writes = true};
+    return dconfdb_is_open(&known);
+}
+
+/* Before anything is read, waits or is written: in a child of fork() nothing waits yet, as what does is the parent's, and so is who writes it. Gives
+ * the process in which the client begins. */
+uint32_t engine_begin_here(Engine *self);
+
+/* The same; `lock` is held. */
+uint32_t engine_begins_in(Engine *self);
 
 /* `lock` is held. The set of that number, as dconfdb_asked_after has it; NULL: it is empty. */
 DConfChangeset *engine_set(Engine *self, size_t number, const GQueue *read_through);

@@ -23,6 +23,7 @@ static gboolean find_edit(Engine *self, const gchar *key, const GQueue *read_thr
     size_t sets = DCONFDB_ASKED_WAITING + (read_through ? read_through->length : 0), number, asked = 0;
     gboolean is = FALSE;
     g_mutex_lock(&self->lock);
+    engine_begins_in(self);
     while (!is && (number = dconfdb_asked_after(sets, asked++)) != DCONFDB_ASKED_STORE) {
         DConfChangeset *set = engine_set(self, number, read_through);
         is = set && dconf_changeset_get(set, key, value);

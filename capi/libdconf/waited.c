@@ -267,7 +267,7 @@ static bool make(Try *try)
     DconfdbSnapshot *now = engine_look(try->engine);
     Edits edits = edits_of(try->changes);
     DconfdbChanging changing = {.has_store = try->store, .has_user = engine_has_user(try->engine)};
-    g_autofree DconfdbNewEdit *known = known_of(&edits, is_open(changing.has_user), now);
+    g_autofree DconfdbNewEdit *known = known_of(&edits, may_be_written(changing.has_user), now);
     changing.is_there = edits_are_there(known, edits.edits->len);
     leave_out(&edits, known);
     changing.is_left = edits.edits->len > 0;

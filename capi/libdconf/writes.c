@@ -75,6 +75,7 @@ static gchar *new_tag(void)
 /* A change whose caller waits for it. */
 typedef struct {
     Engine *engine;
+    uint32_t process; /* in which it was asked for */
     DConfChangeset *changes, *told; /* `told`: what they change */
     Edits edits;
     DconfdbSnapshot *now; /* what was there when their turn came; NULL: no store can be opened */
@@ -85,10 +86,11 @@ typedef struct {
 } Change;
 
 /* Whether something is set that may not be. A reset that may not does nothing, as dconf has it. */
-static bool is_refused(Engine *engine, const Edits *edits)
+static bool is_refused(const Change *self)
 {
-    DconfdbSnapshot *now = engine_look(engine);
-    g_autofree DconfdbNewEdit *known = known_of(edits, is_open(engine_has_user(engine)), now);
+    const Edits *edits = &self->edits;
+    DconfdbSnapshot *now = engine_look(self->engine);
+    g_autofree DconfdbNewEdit *known = known_of(edits, is_open(self->process, engine_has_user(self->engine)), now);
     dconfdb_snapshot_unref(now);
     bool is_there;
     return dconfdb_entry(known, edits->edits->len, &is_there) == DCONFDB_ENTRY_REFUSED;
@@ -100,7 +102,7 @@ static void learn(Change *self)
     self->now = engine_look(self->engine);
     self->known.has_store = engine_store(self->engine, &self->fault);
     self->known.has_user = engine_has_user(self->engine);
-    g_autofree DconfdbNewEdit *known = known_of(&self->edits, is_open(self->known.has_user), self->now);
+    g_autofree DconfdbNewEdit *known = known_of(&self->edits, is_open(self->process, self->known.has_user), self->now);
     self->known.is_there = edits_are_there(known, self->edits.edits->len);
     self->told = effective(&self->edits, known, self->changes);
     leave_out(&self->edits, known);
@@ -197,10 +199,9 @@ static gboolean answer(uint32_t outcome, const DconfdbError *fault, GError **err
 
 gboolean engine_change_sync(Engine *engine, DConfChangeset *changes, gchar **tag, GError **error)
 {
-    engine_begin_here(engine);
-    Change self = {.engine = engine, .changes = changes, .edits = edits_of(changes), .fault = DCONFDB_ERROR_INIT};
+    Change self = {.engine = engine, .process = engine_begin_here(engine), .changes = changes, .edits = edits_of(changes), .fault = DCONFDB_ERROR_INIT};
     self.known.is_empty = dconf_changeset_is_empty(changes);
-    self.known.is_refused = !self.known.is_empty && is_refused(engine, &self.edits);
+    self.known.is_refused = !self.known.is_empty && is_refused(&self);
     self.known.has_store = engine_store(engine, &self.fault);
     gboolean is_done = answer(make(&self), &self.fault, error);
     if (is_done && tag)

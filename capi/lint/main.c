@@ -10,8 +10,6 @@
 #include <string.h>
 #include <sys/stat.h>
 
-static const size_t largest_file = UINT32_MAX, largest_text = 16777216;
-
 /* Of share/help/commands, by capi/command. */
 static const char help[] =
 #include "help_lint.h"
@@ -33,9 +31,9 @@ void find_no_file(const char *file, int fault)
 /* What a file holds. A text past its largest size is not read, of which there are a few bytes then. */
 static int read_file(const char *file, FileBytes *bytes, FileState *state)
 {
-    int fault = file_read(AT_FDCWD, file, false, NULL, largest_text, bytes, state);
+    int fault = file_read(AT_FDCWD, file, false, NULL, dconfdb_largest(DCONFDB_SIZE_PROFILE), bytes, state);
     if (fault == EOVERFLOW)
-        fault = file_read(AT_FDCWD, file, false, dconfdb_is_database_head, largest_file, bytes, state);
+        fault = file_read(AT_FDCWD, file, false, dconfdb_is_database_head, dconfdb_largest(DCONFDB_SIZE_DATABASE), bytes, state);
     return fault;
 }
 

@@ -81,12 +81,10 @@ void values_end(void)
     settings_of(NULL, NULL, 0);
 }
 
-/* Whether GSettings takes a value that is no name of the range's. Only texts may have other names. */
+/* Whether GSettings takes a value that is no name of the range's. */
 static bool is_other_name(GSettingsSchema *schema, const char *path, GVariant *value)
 {
     const char *name = strrchr(path, '/') + 1;
-    if (!strchr(g_variant_get_type_string(value), 's'))
-        return false;
     GSettings *settings = settings_of(schema, path, (size_t)(name - path));
     GSettingsBackend *backend = NULL;
     g_object_get(settings, "backend", &backend, NULL);

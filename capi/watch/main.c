@@ -147,6 +147,7 @@ static bool look(Watching *watch)
     Looking it = {.profiles = profiles_now(watch->names_read, watch->profiles), .known = {.is_open = true}, .error = DCONFDB_ERROR_INIT};
     uint32_t task = DCONFDB_GLANCE_BEGINS;
     profiles_compare(&watch->seen, &it.profiles, &it.known);
+    it.known.keeps_profile = dconfdb_keeps_profile(DCONFDB_WATCHER_COMMAND);
     while ((task = dconfdb_glance_after(task, &it.known)) < DCONFDB_GLANCE_SEEN)
         carry_out(watch, task, &it);
     bool is_done = task == DCONFDB_GLANCE_SEEN && it.is_told;

@@ -125,7 +125,7 @@ const char *dconfdb_store_user_file(const DconfdbStore *at)
 bool dconfdb_is_open(const DconfdbWriting *known)
 {
     CHECK(known->has_user == has_users && known->is_closed == batch.queue.is_closed, "answer: whether there is a user's database, and whether it is closed");
-    CHECK(known->begun_in == known->process && !known->has_ended, "answer: who writes is at work");
+    CHECK(known->writes, "answer: what waits is written");
     return may_write_there = any_bool();
 }
 

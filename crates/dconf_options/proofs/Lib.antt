@@ -1,1 +1,2 @@
 pub mod OptionProofs
+pub mod ProgramProofs

@@ -1,3 +1,4 @@
 pub mod Words
 pub mod Options
 pub mod OptionLaws
+pub mod Programs

@@ -1,16 +1,26 @@
-//! The words of `dconfdb watch` and `dconfdb lint`: which are options, whose arguments follow, and which are refused.
+//! Which program a command line is for; and the words of `dconfdb watch` and `dconfdb lint`: which are options, whose arguments follow, and which are
+//! refused.
 //!
 //! Words are read one after another: each call is told what those before said, and takes no memory.
 #![tactic(auto)]
 
 ghost use Rattle.dconf_options.specs.OptionLaws.{NoWordIsLost};
+ghost use Rattle.dconf_options.specs.Programs.{OneProgramRuns};
 
 mod options;
+mod programs;
 mod words;
 
 pub use options::{OptionsRead, Said, Taken, option_after, options_end, said_number};
+pub use programs::{Line, Program, program_number, program_of};
 
 /// `--store FOLDER` is `--store=FOLDER`, a word behind `--` is a name, and one that begins as an option never is; and `watch` has one name.
 pub fn no_word_is_lost()
     ensures { NoWordIsLost }
+{}
+
+/// Nobody is noted who didn't ask for it. What is for neither `watch` nor `lint`, nor, of dconf, for `blame`, and asks for no help is the proved
+/// program's.
+pub fn one_program_runs()
+    ensures { OneProgramRuns }
 {}

@@ -9,9 +9,10 @@ use Rattle.dconf_rounds.specs.declared.rounds.Task.TheVariants.{Tell, Watch, Loo
 abbrev pub is_at_work : Bool → ℕ → ℕ → Bool
 is_at_work has_ended begun_in process = not has_ended && (begun_in == process)
 
--- Somebody may write in the user's database: there is one, it isn't known to be closed to this program, and who asks is at work.
+-- Somebody may write in the user's database: there is one. Who writes goes on until the end, and may unless he finds it closed to this program. Who
+-- sets something has to be at work; whether it is closed, only the write finds out, each time, since rights may come back.
 abbrev pub is_open : WritingKnown → Bool
-is_open k = is_at_work k.has_ended k.begun_in k.process && (k.has_user && not k.is_closed)
+is_open k = k.has_user && (if k.writes then not k.is_closed else is_at_work k.has_ended k.begun_in k.process)
 
 -- it writes, waits for its turn, or is to try again
 abbrev pub has_work : Known → Bool

@@ -71,22 +71,30 @@ pub fn is_at_work(has_ended: bool, begun_in: u32, process: u32) -> bool
 #[repr(C)]
 #[derive(Clone, Copy)]
 pub struct WritingKnown {
-    /// In which process it was begun, and in which one it is asked.
+    /// Of who sets: in which process it was begun, and in which one it is asked;
     pub begun_in: u32,
     pub process: u32,
-    /// It has ended.
+    /// and that it has ended.
     pub has_ended: bool,
     /// There is a user's database.
     pub has_user: bool,
-    /// Nobody who has this program's rights may write there.
+    /// Of who writes: the write found that nobody who has this program's rights may write there.
     pub is_closed: bool,
+    /// What waits is written, or settled, by who asks; else something is set.
+    pub writes: bool,
 }
 
-/// Whether somebody may write in the user's database.
+/// Whether somebody may write in the user's database: who sets something, or who writes what was set.
 pub fn is_open(known: &WritingKnown) -> bool
     ensures { result ≡ is_open known.now }
 {
-    is_at_work(known.has_ended, known.begun_in, known.process) && known.has_user && !known.is_closed
+    if !known.has_user {
+        return false;
+    }
+    if known.writes {
+        return !known.is_closed;
+    }
+    is_at_work(known.has_ended, known.begun_in, known.process)
 }
 
 /// Whether the thread writes, or is to try again, or waits for its turn: as long as it does, the program's end waits for it.

@@ -11,6 +11,10 @@ use Rattle.dconf_watches.specs.declared.event.Heard.{Heard}
 abbrev pub minds_much : ℕ → Bool
 minds_much who = (who == 3) || (who == 4)
 
+-- dconf's client reads its profile once, and all others go by what it is now
+abbrev pub keeps_profile : ℕ → Bool
+keeps_profile who = who == 2
+
 -- much happens in /etc: only who minds that waits there
 abbrev pub is_busy : Bool → List ℕ → Bool
 is_busy minds folder = not minds && bytes_eq folder (codes "/etc")

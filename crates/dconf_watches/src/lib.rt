@@ -17,8 +17,8 @@ mod rounds;
 pub use event::{Event, Heard, Of, louder, meaning};
 pub use inotify::{asked_of, event_in, found_by, seen_by};
 pub use name::{
-    Found, NameWatch, Way, heard_as, is_busy, is_busy_in, is_missed, is_needed, minds_much,
-    watch_at, watch_of, way_at, way_of,
+    Found, NameWatch, Way, heard_as, is_busy, is_busy_in, is_missed, is_needed, keeps_profile,
+    minds_much, watch_at, watch_of, way_at, way_of,
 };
 pub use numbers::{WatchedName, heard_number, watched_name};
 pub use rounds::{AfterRound, Sight, WatchRounds};

@@ -1,6 +1,6 @@
 //! What is watched of a name on the way to a file.
 ghost use Rattle.std.specs.Prelude.{◌≡◌};
-ghost use Rattle.dconf_watches.specs.Names.{heard_as, is_busy, is_busy_in, is_dot, is_dots, is_missed, is_needed, minds_much, unless, watch_at, watch_of, way_at, way_of};
+ghost use Rattle.dconf_watches.specs.Names.{heard_as, is_busy, is_busy_in, is_dot, is_dots, is_missed, is_needed, keeps_profile, minds_much, unless, watch_at, watch_of, way_at, way_of};
 
 use crate::event::Heard;
 
@@ -121,6 +121,13 @@ pub fn minds_much(who: u32) -> bool
     ensures { result ≡ minds_much who }
 {
     who == 3 || who == 4
+}
+
+/// Whether the profile of a store that is open counts as it was read, for who watches: of the same numbers, for a client alone, as dconf's has it.
+pub fn keeps_profile(who: u32) -> bool
+    ensures { result ≡ keeps_profile who }
+{
+    who == 2
 }
 
 /// Whether much happens in a folder, which is not minded.

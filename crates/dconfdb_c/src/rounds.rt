@@ -19,7 +19,7 @@ pub extern "C" fn dconfdb_is_at_work(has_ended: bool, begun_in: u32, process: u3
     is_at_work(has_ended, begun_in, process)
 }
 
-/// Whether somebody may write in the user's database: there is one, it isn't closed to this program, and who asks is at work.
+/// Whether somebody may write in the user's database: there is one; and who sets something is at work, or who writes doesn't find it closed to this program.
 #[unsafe(no_mangle)]
 pub extern "C" fn dconfdb_is_open(known: &WritingKnown) -> bool
     ensures { result ≡ is_open known.now }

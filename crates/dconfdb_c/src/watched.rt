@@ -2,11 +2,13 @@
 ghost use Rattle.std.specs.Prelude.{◌≡◌, ◌≢◌};
 ghost use Rattle.dconf_watches.specs.Events.{louder, meaning};
 ghost use Rattle.dconf_watches.specs.Inotify.{event_in, seen_by};
-ghost use Rattle.dconf_watches.specs.Names.{minds_much};
+ghost use Rattle.dconf_watches.specs.Names.{keeps_profile, minds_much};
 ghost use Rattle.dconf_watches.specs.Numbers.{IsWatchedName, heard_number, heard_of, name_watch_of, of_what};
 ghost use Rattle.dconf_watches.specs.Rounds.{after_number, after_round, begun, gone_through, rounds_of, sight_of};
 
-use dconf_watches::{Sight, WatchRounds, WatchedName, heard_number, minds_much, watched_name};
+use dconf_watches::{
+    Sight, WatchRounds, WatchedName, heard_number, keeps_profile, minds_much, watched_name,
+};
 
 /// Whether who watches minds much that happens: 0 the library's caller, 1 the module, 2 libdconf, 3 the command, 4 the service.
 #[unsafe(no_mangle)]
@@ -14,6 +16,14 @@ pub extern "C" fn dconfdb_minds_much(who: u32) -> bool
     ensures { result ≡ minds_much who }
 {
     minds_much(who)
+}
+
+/// Whether the profile of a store that is open counts as it was read, for the same.
+#[unsafe(no_mangle)]
+pub extern "C" fn dconfdb_keeps_profile(who: u32) -> bool
+    ensures { result ≡ keeps_profile who }
+{
+    keeps_profile(who)
 }
 
 /// What is watched of a name in that folder, which is no link; the root's path is empty. `is_last`: it is the path's last name. `mode` and

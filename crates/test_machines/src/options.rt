@@ -1,5 +1,7 @@
-//! The words of `watch` and of `lint`.
-use dconf_options::{OptionsRead, option_after, options_end, said_number};
+//! Which program a command line is for; and the words of `watch` and of `lint`.
+use dconf_options::{
+    Line, OptionsRead, option_after, options_end, program_number, program_of, said_number,
+};
 use std::test::Fail;
 
 const WATCH: OptionsRead = OptionsRead {
@@ -73,6 +75,64 @@ fn lint_takes_its_words() -> bool {
         && said(LINT, &["--user"]) == 5
         && begins(LINT, "--schemas=x") == 10
         && begins(LINT, "--schema=x") == 9
+}
+
+const LINE: Line = Line {
+    count: 3,
+    is_path: true,
+    has_blame: true,
+    is_noted: false,
+};
+
+fn program(name: &str, first: &str, second: &str, line: Line) -> u32 {
+    program_number(program_of(name.as_bytes(), first.as_bytes(), second.as_bytes(), &line))
+}
+
+fn our_name_runs_its_programs() -> bool {
+    let two = Line { count: 2, ..LINE };
+    program("/bin/dconfdb", "watch", "/", LINE) == 1
+        && program("dconfdb", "lint", "", two) == 2
+        && program("dconfdb", "help", "watch", LINE) == 3
+        && program("dconfdb", "help", "lint", LINE) == 4
+        && program("dconfdb", "help", "read", LINE) == 0
+        && program("dconfdb", "help", "", two) == 0
+        && program("dconfdb", "blame", "", two) == 0
+        && program("dconfdb", "", "", Line { count: 1, ..LINE }) == 0
+        && program("mydconf", "blame", "", two) == 0
+}
+
+fn dconfs_name_runs_its_programs() -> bool {
+    let two = Line { count: 2, ..LINE };
+    let odd = Line {
+        is_path: false,
+        ..LINE
+    };
+    let bare = Line {
+        has_blame: false,
+        ..two
+    };
+    let noted = Line {
+        is_noted: true,
+        ..LINE
+    };
+    program("/usr/bin/dconf", "watch", "/", LINE) == 5
+        && program("dconf", "watch", "no path", odd) == 0
+        && program("dconf", "watch", "", two) == 0
+        && program("dconf", "blame", "", two) == 6
+        && program("dconf", "blame", "", bare) == 0
+        && program("dconf", "help", "watch", LINE) == 0
+        && program("dconf", "write", "/a", noted) == 7
+        && program("dconf", "reset", "/a", noted) == 7
+        && program("dconf", "load", "/", noted) == 7
+        && program("dconf", "read", "/a", noted) == 0
+        && program("dconf", "write", "/a", LINE) == 0
+        && program("dconfdb", "write", "/a", noted) == 0
+}
+
+#[test]
+fn programs_are_found(rt: HostRuntime) -> Result<(), Fail> {
+    assert!(rt; our_name_runs_its_programs() && dconfs_name_runs_its_programs());
+    Ok(())
 }
 
 #[test]

@@ -604,17 +604,38 @@ fn who_may_write_is_known() -> bool {
         has_ended: false,
         has_user: true,
         is_closed: false,
-    };
-    let closed = WritingKnown {
-        is_closed: true,
-        ..open
+        writes: false,
     };
     let userless = WritingKnown {
         has_user: false,
         ..open
     };
     let child = WritingKnown { process: 8, ..open };
-    is_open(&open) && !is_open(&closed) && !is_open(&userless) && !is_open(&child)
+    let ended = WritingKnown {
+        has_ended: true,
+        ..open
+    };
+    is_open(&open) && !is_open(&userless) && !is_open(&child) && !is_open(&ended)
+}
+
+fn who_writes_knows_what_is_closed() -> bool {
+    let writes = WritingKnown {
+        begun_in: 0,
+        process: 0,
+        has_ended: true,
+        has_user: true,
+        is_closed: false,
+        writes: true,
+    };
+    let closed = WritingKnown {
+        is_closed: true,
+        ..writes
+    };
+    let userless = WritingKnown {
+        has_user: false,
+        ..writes
+    };
+    is_open(&writes) && !is_open(&closed) && !is_open(&userless)
 }
 
 #[test]
@@ -623,6 +644,7 @@ fn tasks_come_in_their_order(rt: HostRuntime) -> Result<(), Fail> {
     assert!(rt;
         notices_are_told() && odd_keys_are_known() && work_is_known() && who_may_write_is_known()
     );
+    assert!(rt; who_writes_knows_what_is_closed());
     Ok(())
 }
 

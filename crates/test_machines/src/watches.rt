@@ -1,7 +1,8 @@
 //! What is watched of the names on the way to a file, and what is heard of what inotify tells.
 use dconf_watches::{
     Event, Found, NameWatch, Sight, WatchRounds, Way, asked_of, event_in, found_by, heard_number,
-    is_busy, is_busy_in, is_missed, is_needed, minds_much, seen_by, watch_at, way_at,
+    is_busy, is_busy_in, is_missed, is_needed, keeps_profile, minds_much, seen_by, watch_at,
+    way_at,
 };
 use std::test::Fail;
 
@@ -125,6 +126,13 @@ fn names_are_watched_and_heard(rt: HostRuntime) -> Result<(), Fail> {
     assert!(rt; names_are_gone_through());
     assert!(rt;
         minds_much(3) && minds_much(4) && !minds_much(0) && !minds_much(1) && !minds_much(2)
+    );
+    assert!(rt;
+        keeps_profile(2)
+            && !keeps_profile(0)
+            && !keeps_profile(1)
+            && !keeps_profile(3)
+            && !keeps_profile(4)
     );
     assert!(rt; rounds_are_counted(WatchRounds::none()));
     Ok(())
