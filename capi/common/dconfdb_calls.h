@@ -567,6 +567,9 @@ enum {
  * `is_held`: the file has been open or mapped since then, so that no other one has its number; then it is the same whoever's it is. */
 uint32_t dconfdb_same_file(const DconfdbFileStamp *old, const DconfdbFileStamp *now, uint64_t opened, bool is_held);
 
+/* The same of several files at once, by what is known of those before, SAME at first, and of one more: SAME only if each is, and OTHER if any is. */
+uint32_t dconfdb_same_among(uint32_t before, uint32_t is);
+
 /* What is known of a file of which something was made, and of what was read of it now. */
 typedef struct {
     uint64_t opened;                 /* as dconfdb_same_file has it, of what was read then */
@@ -602,11 +605,12 @@ bool dconfdb_known_after(const DconfdbFileStamp *old, const DconfdbFileStamp *no
 enum {
     DCONFDB_SIZE_MACHINE, /* it says in one word which kind of store the machine has */
     DCONFDB_SIZE_PROFILE,
-    DCONFDB_SIZE_DATABASE
+    DCONFDB_SIZE_DATABASE, /* of a site */
+    DCONFDB_SIZE_USERS     /* the user's, which is replaced here */
 };
 
-/* A file of more bytes isn't read. */
-uint64_t dconfdb_largest(uint32_t kind);
+/* A file of more bytes isn't read. `may_map`: a large one is mapped. */
+uint64_t dconfdb_largest(uint32_t kind, bool *may_map);
 
 /* What stands under a name. `is_read`: it is the very file that was read. */
 typedef struct {
@@ -1191,6 +1195,21 @@ uint32_t dconfdb_watch_round(DconfdbWatchRounds *rounds, uint32_t what, bool is_
 uint32_t dconfdb_heard(uint32_t before, uint32_t watch, uint32_t comes, uint32_t mask, bool has_name, bool is_same, bool is_unseen, uint32_t mode,
                        uint64_t links);
 
+/* What is done about the flag of dconf's readers, once the database is replaced, in this order. Each has the first byte of a file mapped, and opens the
+ * database again when that is set. */
+enum {
+    DCONFDB_FLAG_BEGINS,
+    DCONFDB_FLAG_OPEN,     /* open the file, where there is one; */
+    DCONFDB_FLAG_LENGTHEN, /* put a second byte there, since a reader may have made it a moment ago, and mapped nothing yet; */
+    DCONFDB_FLAG_SET,      /* set its first byte; */
+    DCONFDB_FLAG_REMOVE,   /* and take its name away: who has it mapped sees it, and who comes later makes another */
+    DCONFDB_FLAG_OVER
+};
+
+/* The task that is due after that one, as it could be done or not; of the first any will do. `is_in_turn`: this program has the lock of the database's
+ * folder. Else the name stays: another file may have it by now. */
+uint32_t dconfdb_flag_after(uint32_t task, bool could_be, bool is_in_turn);
+
 /* ---- when what waits is written. All moments are of one clock, in microseconds; 0 is none. */
 
 /* What the thread knows that writes what waits, tells, and watches the files. */
@@ -1415,6 +1434,9 @@ uint32_t dconfdb_failing_met(DconfdbFailing *failing, bool is_there, bool is_mom
 /* The same of a look at the files, that is repeated of itself or not. What mostly passes in a moment is awaited then; and all else is said at once, since
  * what is shown may not be what the files hold. */
 uint32_t dconfdb_failing_look(DconfdbFailing *failing, bool is_there, bool is_momentary, bool is_repeated, uint64_t now);
+
+/* Whether a fault is the one that was said by that text: then it is that which is there still. */
+bool dconfdb_is_same_fault(const uint8_t *said, size_t said_len, const uint8_t *text, size_t text_len);
 
 /* Who looks at files that nobody watches. */
 enum {

@@ -12,7 +12,7 @@ void flag_set(const char *path);
 /* Whether nobody has made the file since the flag was set last, who would have it mapped: who makes it from now on opens the database after that. */
 bool flag_is_missing(const char *path);
 
-/* The same as flag_set for anybody: the name stays, and readers look again each time, until the next flag_set. False: nobody reads. */
-bool flag_mark(const char *path);
+/* The same as flag_set for anybody: the name stays, and readers look again each time, until the next flag_set. */
+void flag_mark(const char *path);
 
 #endif

@@ -13,6 +13,7 @@
 #include <errno.h>
 #include <fcntl.h>
 #include <pthread.h>
+#include <stdatomic.h>
 #include <stdio.h>
 #include <sys/file.h>
 #include <sys/stat.h>
@@ -28,8 +29,8 @@ enum { HOW = O_RDWR | O_CLOEXEC | O_NOFOLLOW | O_NONBLOCK | O_NOCTTY };
 
 static pthread_mutex_t listing = PTHREAD_MUTEX_INITIALIZER;
 static FolderLock *first;
-static unsigned long forks; /* how many there were */
-static int unheeded; /* why none is heeded, an errno, or 0 */
+static atomic_ulong forks; /* one more as each begins, and as it is over: who opens a file amid one sees another number then */
+static atomic_int unheeded; /* why none is heeded, an errno; or 0, and then for good */
 
 static void before_fork(void)
 {
@@ -39,6 +40,7 @@ static void before_fork(void)
 
 static void after_fork(void)
 {
+    forks++;
     pthread_mutex_unlock(&listing);
 }
 
@@ -83,6 +85,8 @@ static int heed_all_forks(void)
 {
     static pthread_once_t once = PTHREAD_ONCE_INIT;
     pthread_once(&once, heed_forks);
+    if (unheeded == 0)
+        return 0;
     pthread_mutex_lock(&listing);
     if (unheeded != 0)
         unheeded = ask_to_heed();
@@ -91,15 +95,7 @@ static int heed_all_forks(void)
     return fault;
 }
 
-static unsigned long forks_up_to_now(void)
-{
-    pthread_mutex_lock(&listing);
-    unsigned long now = forks;
-    pthread_mutex_unlock(&listing);
-    return now;
-}
-
-/* Lists what was opened since there were so many forks. False: a child that was made meanwhile may have it, unlisted. It is harmless
+/* Lists what was opened since that was the number of the forks. False: a child that was made meanwhile may have it, unlisted. It is harmless
  * there as long as it isn't locked here. */
 static bool list(FolderLock *lock, unsigned long before)
 {
@@ -214,7 +210,7 @@ typedef struct {
     const char *folder;
     bool has_end, is_listed;
     FolderLock *lock;
-    unsigned long forks; /* how many there were when the folder was opened */
+    unsigned long forks; /* their number when the folder was opened */
     DconfdbTaking taking;
 } Awaited;
 
@@ -229,7 +225,7 @@ static void close_awaited(Awaited *awaited)
 static DconfdbStood open_folder(Awaited *awaited)
 {
     close_awaited(awaited);
-    awaited->forks = forks_up_to_now();
+    awaited->forks = forks;
     int fault = folder_open(awaited->folder, &awaited->lock->folder);
     if (fault != 0)
         awaited->lock->folder = NO_FOLDER;

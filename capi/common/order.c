@@ -134,29 +134,29 @@ DconfdbBytes order_path(char **at, const char *name, const DconfdbBytes *path)
 
 /* ---- what is noted */
 
-/* Once, as what is left of a file. A signal interrupts no such call for long. */
-static ssize_t read_once(int lock, char *room, size_t size)
+/* Of a file, from there on. A signal interrupts no such call for long. */
+static ssize_t read_once(int lock, char *room, size_t size, size_t at)
 {
     ssize_t got;
     do
-        got = pread(lock, room, size, 0);
+        got = pread(lock, room, size, (off_t)at);
     while (got < 0 && errno == EINTR);
     return got;
 }
 
-/* Of a file that can't be read nothing, and of one that is too long more than there may be. False: no memory is left. */
+/* As much as can be read, and of what is too long more than there may be: whether it is whole, and counts, the proved call says. False: no memory is
+ * left. */
 static bool read_text(Order *order, int lock)
 {
     ssize_t got = 0;
-    size_t wanted = 0;
+    order->size = 0;
     do {
-        if (!has_bytes_for(&order->text, &order->room, wanted))
+        if (!has_bytes_for(&order->text, &order->room, order->size + 1))
             return false;
-        got = read_once(lock, order->text, order->room);
-        wanted = order->room + 1;
-    } while (got == (ssize_t)order->room && wanted <= DCONFDB_MOST_NOTED + 1);
-    order->size = got < 0 ? 0 : (size_t)got;
-    order->stood = got >= 0 && got < (ssize_t)order->room ? (size_t)got : SIZE_MAX;
+        got = read_once(lock, order->text + order->size, order->room - order->size, order->size);
+        order->size += got > 0 ? (size_t)got : 0;
+    } while (order->size == order->room && order->size <= DCONFDB_MOST_NOTED);
+    order->stood = got >= 0 && order->size < order->room ? order->size : SIZE_MAX;
     return true;
 }
 

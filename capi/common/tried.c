@@ -29,16 +29,17 @@ static bool is_said_again(GTree *last, const char *path, size_t number)
     return is;
 }
 
-/* Whether an edit behind that one is of a directory above it. */
+/* Whether an edit behind that one is of its path, or of a directory above it, as the proved call names them. */
 static bool is_said_above(GTree *last, const char *path, size_t number)
 {
+    const uint8_t *bytes = (const uint8_t *)path;
+    size_t len = strlen(path), most = len;
     char *above = g_strdup(path);
     gpointer at;
     bool is = false;
-    for (char *slash = strrchr(above, '/'); !is && slash; slash = strrchr(above, '/')) {
-        slash[1] = 0;
+    while (!is && (most = dconfdb_shared_within(bytes, len, most, bytes, len)) > 0) {
+        above[most--] = 0;
         is = g_tree_lookup_extended(last, above, NULL, &at) && GPOINTER_TO_SIZE(at) > number;
-        slash[0] = 0;
     }
     g_free(above);
     return is;

@@ -29,12 +29,13 @@ static int go_on(uint32_t what, uint32_t milliseconds, uint64_t began, uint32_t 
     dconfdb_wait_begin(&wait, what, milliseconds, at, &next);
     for (;;) {
         dconfdb_wait_answered(&wait, tried, (uint32_t)fault, at, &next);
-        at = moment();
         switch (next.kind) {
         case DCONFDB_WAIT_TRY:
+            at = moment();
             tried = tries(it, &fault);
             break;
         case DCONFDB_WAIT_PAUSE:
+            at = moment();
             take_pause(next.number);
             break;
         case DCONFDB_WAIT_HAD:

@@ -11,35 +11,32 @@ typedef struct SaidFault {
     struct SaidFault *next;
     DconfdbFailing failing;
     bool is_there, is_of_look;
-    bool is_momentary, is_repeated; /* of a look */
+    bool is_momentary, is_repeated; /* a look that fails is made again of itself; one that has read a bad file isn't */
     char text[];
 } SaidFault;
 
-/* Gives it, or NULL without memory. */
-static SaidFault *put(Warned *warned, const char *text, bool is_of_look)
+static bool is_said_by(const SaidFault *fault, const char *text, size_t len)
+{
+    return dconfdb_is_same_fault((const uint8_t *)fault->text, strlen(fault->text), (const uint8_t *)text, len);
+}
+
+/* Without memory nothing is put. */
+static void put(Warned *warned, const DconfdbError *error, bool is_of_look, bool is_repeated)
 {
     SaidFault **at = &warned->first;
-    while (*at && strcmp((*at)->text, text) != 0)
+    size_t len = strlen(error->text);
+    while (*at && !is_said_by(*at, error->text, len))
         at = &(*at)->next;
     if (!*at) {
-        size_t size = strlen(text) + 1;
-        *at = calloc(1, sizeof **at + size);
+        *at = calloc(1, sizeof **at + len + 1);
         if (!*at)
-            return NULL;
-        memcpy((*at)->text, text, size);
+            return;
+        memcpy((*at)->text, error->text, len + 1);
     }
     (*at)->is_there = true;
     (*at)->is_of_look = is_of_look;
-    return *at;
-}
-
-static void put_look(Warned *warned, const DconfdbError *error, bool is_repeated)
-{
-    SaidFault *fault = put(warned, error->text, true);
-    if (!fault)
-        return;
-    fault->is_momentary = is_momentary(error);
-    fault->is_repeated = is_repeated;
+    (*at)->is_momentary = is_momentary(error);
+    (*at)->is_repeated = is_repeated;
 }
 
 static void put_all(Warned *warned, const DconfdbStore *store)
@@ -48,10 +45,10 @@ static void put_all(Warned *warned, const DconfdbStore *store)
     error.size = sizeof error;
     DconfdbSnapshot *now = dconfdb_store_snapshot((DconfdbStore *)store);
     if (dconfdb_store_profile_fault(store, &error))
-        put(warned, error.text, false);
+        put(warned, &error, false, false);
     for (size_t i = 0; i < dconfdb_snapshot_databases(now); i++) {
         if (dconfdb_snapshot_fault(now, i, &error))
-            put(warned, error.text, false);
+            put(warned, &error, false, false);
     }
     dconfdb_snapshot_unref(now);
 }
@@ -64,18 +61,11 @@ static uint64_t time_now(void)
     return (uint64_t)now.tv_sec * 1000000 + (uint64_t)now.tv_nsec / 1000;
 }
 
-/* Of a file nobody says that it mends itself. */
-static uint32_t word_of(SaidFault *fault, uint64_t now)
-{
-    return fault->is_of_look ? dconfdb_failing_look(&fault->failing, fault->is_there, fault->is_momentary, fault->is_repeated, now)
-                             : dconfdb_failing_met(&fault->failing, fault->is_there, false, false, now);
-}
-
 static void say_each(Warned *warned, Warns *warns, void *it)
 {
     uint64_t now = time_now();
     for (SaidFault **at = &warned->first, *fault; (fault = *at);) {
-        switch (word_of(fault, now)) {
+        switch (dconfdb_failing_look(&fault->failing, fault->is_there, fault->is_momentary, fault->is_repeated, now)) {
         case DCONFDB_FAULT_SAY:
             warns(it, fault->text);
             break;
@@ -97,7 +87,7 @@ void warned_renew(Warned *warned, const DconfdbStore *store, const DconfdbError 
     if (store)
         put_all(warned, store);
     if (error)
-        put_look(warned, error, is_repeated);
+        put(warned, error, true, is_repeated);
     say_each(warned, warns, it);
 }
 

@@ -24,7 +24,7 @@ typedef struct Edited {
 /* The part of the new file. What was wrong with the old one is kept, as it is set aside. */
 static Part *part_of_new(const DconfdbStore *store, FileBytes file, DconfdbError *error)
 {
-    Asked asked = {store->user_file, 0, false, false, NO_FOLDER};
+    Asked asked = {store->user_file, 0, DCONFDB_SIZE_USERS, false, NO_FOLDER};
     const Part *old = store->now->parts[0];
     const DconfdbError *bad = part_fault(old);
     Part *part = part_open(&asked, (FileState){.is_there = true}, file, old, error);

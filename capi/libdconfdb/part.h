@@ -34,7 +34,8 @@ typedef struct {
 typedef struct {
     const char *name;
     size_t index;
-    bool maps, is_lenient;
+    uint32_t size; /* DCONFDB_SIZE_DATABASE, or _USERS */
+    bool is_lenient;
     int turn; /* in a turn the folder in which it is read, which may be moved meanwhile; else NO_FOLDER */
 } Asked;
 

@@ -29,7 +29,9 @@ static const char machine_file[] = "/etc/dconfdb/store";
 static void read_machine_file(Asked *asked)
 {
     FileState state;
-    asked->fault = file_read(NO_FOLDER, machine_file, false, NULL, dconfdb_largest(DCONFDB_SIZE_MACHINE), &asked->machine, &state);
+    bool may_map = false;
+    uint64_t most = dconfdb_largest(DCONFDB_SIZE_MACHINE, &may_map);
+    asked->fault = file_read(NO_FOLDER, machine_file, may_map, NULL, most, &asked->machine, &state);
     asked->environment.machine = (DconfdbBytes){bytes_of(asked->machine.at), asked->machine.len};
     asked->environment.is_unreadable = asked->fault != 0;
 }
@@ -241,11 +243,6 @@ bool place_copy(const StorePlace *place, StorePlace *copy)
     else
         place_release(copy);
     return is_copied;
-}
-
-const char *place_profile_name(const StorePlace *place)
-{
-    return place->profile ? place->profile : place->name;
 }
 
 bool place_find(const char *folder, StorePlace *place, DconfdbError *error)

@@ -36,9 +36,6 @@ void place_release(StorePlace *place);
 DconfdbStore *place_open(const StorePlace *place, DconfdbError *error);
 char *place_files(const StorePlace *place, int *profiles, bool *are_all, DconfdbError *error);
 
-/* What names the profile, by a path or a name; or NULL. */
-const char *place_profile_name(const StorePlace *place);
-
 /* Where an open store is. It isn't to be released. */
 const StorePlace *place_of(const DconfdbStore *store);
 

@@ -149,8 +149,9 @@ static bool look_at_next(DconfdbStore *store, Look *look, DconfdbError *error)
     look_release(look);
     if (!find_path(look))
         return refuse_memory(error);
-    uint64_t most = dconfdb_largest(DCONFDB_SIZE_PROFILE);
-    int fault = look->path ? file_read(NO_FOLDER, look->path, false, NULL, most, &look->text, &state) : 0;
+    bool may_map = false;
+    uint64_t most = dconfdb_largest(DCONFDB_SIZE_PROFILE, &may_map);
+    int fault = look->path ? file_read(NO_FOLDER, look->path, may_map, NULL, most, &look->text, &state) : 0;
     const DconfdbProfileLook known = {.which = look->next.step,
                                       .dir = look->next.dir,
                                       .errnum = (uint32_t)fault,

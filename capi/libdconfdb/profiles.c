@@ -24,11 +24,8 @@ void profiles_compare(const Profiles *read, const Profiles *now, DconfdbGlance *
 {
     known->first = same_at(read, now, 0);
     known->second = DCONFDB_FILE_SAME;
-    for (int at = 1; at < read->count || at < now->count; at++) {
-        uint32_t is = same_at(read, now, at);
-        if (is != DCONFDB_FILE_SAME)
-            known->second = is;
-    }
+    for (int at = 1; at < read->count || at < now->count; at++)
+        known->second = dconfdb_same_among(known->second, same_at(read, now, at));
     known->was_unseen = read->is_unseen;
     known->is_unseen = now->is_unseen;
 }

@@ -25,7 +25,8 @@ static Asked asked_of(const Look *look, size_t at)
 {
     const DconfdbStore *store = look->store;
     bool is_users = store->files[at] == store->user_file;
-    return (Asked){store->files[at], at, !is_users, store->options.is_lenient, is_users ? look->turn : NO_FOLDER};
+    uint32_t size = is_users ? DCONFDB_SIZE_USERS : DCONFDB_SIZE_DATABASE;
+    return (Asked){store->files[at], at, size, store->options.is_lenient, is_users ? look->turn : NO_FOLDER};
 }
 
 /* A mapped file may change owners, permissions and names. */
@@ -66,11 +67,12 @@ static bool is_as_said(const Look *look, Part *old, size_t at)
  * a store has held it back. */
 static int read_at(Look *look, const Asked *asked)
 {
-    bool is_in_turn = asked->turn != NO_FOLDER, is_held = !look->store->now;
+    bool is_in_turn = asked->turn != NO_FOLDER, is_held = !look->store->now, may_map = false;
+    uint64_t most = dconfdb_largest(asked->size, &may_map);
     int cancels = is_held ? 0 : hold_cancellation();
     look->opened = file_clock();
-    int fault = file_read(asked->turn, is_in_turn ? look->store->own_name : asked->name, asked->maps, dconfdb_is_database_head,
-                          dconfdb_largest(DCONFDB_SIZE_DATABASE), &look->bytes, &look->state);
+    int fault = file_read(asked->turn, is_in_turn ? look->store->own_name : asked->name, may_map, dconfdb_is_database_head, most, &look->bytes,
+                          &look->state);
     if (!is_held)
         cancel_as_before(cancels);
     return fault;

@@ -190,8 +190,8 @@ ssize_t pread(int file, void *room, size_t len, off_t at)
 {
     CHECK(is_open(file), "descriptor: pread() of what is open");
     CHECK(__CPROVER_w_ok(room, len), "memory: pread() into room that is there");
-    (void)at;
-    return counted(PREAD, (Call){.file = file, .len = len});
+    CHECK(at >= 0, "step: pread() from a place");
+    return counted(PREAD, (Call){.file = file, .len = len, .at = at});
 }
 
 ssize_t write(int file, const void *bytes, size_t len)

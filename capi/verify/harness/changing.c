@@ -63,7 +63,7 @@ bool edits_make_file(const DconfdbStore *at, const DconfdbChange *of, const size
 Part *part_open(const Asked *asked, FileState state, FileBytes bytes, const Part *old, DconfdbError *error)
 {
     (void)error;
-    CHECK(asked->name == store.user_file && !asked->maps && !asked->is_lenient && state.is_there && old == &old_parts[0], "step: the new file's part, beside the old one");
+    CHECK(asked->name == store.user_file && asked->size == DCONFDB_SIZE_USERS && !asked->is_lenient && state.is_there && old == &old_parts[0], "step: the new file's part, beside the old one");
     Part *part = some_part(&bytes);
     refused += !part;
     return part;

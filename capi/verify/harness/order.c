@@ -69,15 +69,25 @@ int order_write_(void)
     return 0;
 }
 
+static size_t got; /* so far */
+
+static void is_got(Kind kind)
+{
+    const Call *call = &last[kind];
+    CHECK(kind == PREAD && (size_t)call->at == got, "step: it is read on from where the last one ended");
+    got += call->fault == 0 ? (size_t)call->count : 0;
+}
+
 /* harness order_text: unwind 6, quick */
 int order_text(void)
 {
     int lock = some_file();
+    at_call = is_got;
     bool is = read_text(&order, lock);
     CHECK(is_open(lock) && only_open(lock, -1), "descriptor: the lock's file stays open");
     CHECK(calls == count_of[PREAD], "step: it is read, and nothing else");
     CHECK(!is || (order.size <= order.room && __CPROVER_r_ok(order.text, order.size)), "memory: the bytes that were read");
-    CHECK(!is || order.size == (was_done(PREAD) ? (size_t)last[PREAD].count : 0), "answer: what was read last, and of what can't be read nothing");
+    CHECK(!is || order.size == got, "answer: all that was read");
     CHECK(!is || order.stood == (was_done(PREAD) && order.size < order.room ? order.size : SIZE_MAX), "answer: how many bytes there are, where that is known");
     if (is && count_of[PREAD] == 2 && order.room > FEW_BYTES)
         REACHED("a room that was too small");

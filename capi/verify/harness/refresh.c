@@ -16,9 +16,10 @@ int file_look(const char *name, FileState *state)
     return any_fault();
 }
 
-uint64_t dconfdb_largest(uint32_t kind)
+uint64_t dconfdb_largest(uint32_t kind, bool *may_map)
 {
-    CHECK(kind == DCONFDB_SIZE_DATABASE, "step: the size of a database");
+    CHECK(kind == DCONFDB_SIZE_DATABASE || kind == DCONFDB_SIZE_USERS, "step: the size of a database");
+    *may_map = kind == DCONFDB_SIZE_DATABASE;
     return UINT32_MAX;
 }
 

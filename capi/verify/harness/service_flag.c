@@ -3,11 +3,18 @@
 #include "common/flag.c"
 #include "service/flag.c"
 #include "glib_world.h"
+#include "machines.h"
+#include "machines/given.h"
 #include "world.h"
 
 static bool is_locked, is_folder, is_longer, is_set, is_gone;
 static int looked; /* what the system said of its name */
 static unsigned looks, locks;
+
+uint32_t dconfdb_flag_after(uint32_t task, bool could_be, bool is_in_turn)
+{
+    return flag_given(task, could_be, is_in_turn);
+}
 
 /* ---- the flag's file: its name, and what is written into it */
 
@@ -24,7 +31,7 @@ int unlink(const char *name)
 {
     CHECK(name == last[OPEN].name && was_done(OPEN), "step: the name goes of what was there");
     CHECK(is_locked, "order: the name goes only by who has the lock");
-    CHECK(only_open(-1, -1) && count_of[PWRITE] == (is_longer ? 2 : 1), "order: the name goes once it is set, or can't be");
+    CHECK(is_set, "order: the name goes only once it is set");
     is_gone = true;
     return any_bool() ? 0 : -1;
 }
@@ -83,7 +90,7 @@ const char *place_flag(const DconfdbStore *store)
     return has_flag ? a_flag : NULL;
 }
 
-/* harness flag: unwind 4, with glib.c, quick */
+/* harness flag: unwind 6, with glib.c, with machines.c, quick */
 int flag(void)
 {
     static char name[] = "f";
@@ -93,7 +100,7 @@ int flag(void)
     if (any_bool())
         flag_set(has_name ? name : NULL);
     else
-        CHECK(flag_mark(has_name ? name : NULL) == was_done(OPEN), "answer: whether anybody reads");
+        flag_mark(has_name ? name : NULL);
     CHECK(only_open(-1, -1), "descriptor: it is closed");
     CHECK(has_name || calls == 0, "step: where there is none nothing is done");
     CHECK(!has_name || (count_of[OPEN] == 1 && last[OPEN].name == name), "step: it is opened once");
@@ -102,10 +109,12 @@ int flag(void)
         REACHED("it is set, and its name goes");
     if (is_set && !is_gone)
         REACHED("it is set, and its name stays");
+    if (was_done(OPEN) && !is_set)
+        REACHED("it can't be set");
     return 0;
 }
 
-/* harness service_flag: unwind 4, with glib.c, quick */
+/* harness service_flag: unwind 6, with glib.c, with machines.c, quick */
 int service_flag(void)
 {
     static char folder[] = "/f";

@@ -109,6 +109,17 @@ bool paths_meet(const char *one, const char *other)
     return is_above(one, other) || is_above(other, one);
 }
 
+/* Of one path twice: it, or the longest directory above it that has no more bytes than that. */
+size_t dconfdb_shared_within(const uint8_t *path, size_t path_len, size_t most, const uint8_t *other, size_t other_len)
+{
+    CHECK(path == other && path_len == other_len && most <= path_len, "step: the directories above one path");
+    if (most == path_len)
+        return most;
+    while (most > 0 && path[most - 1] != '/')
+        most--;
+    return most;
+}
+
 /* harness tried: unwind 6 */
 int tried(void)
 {

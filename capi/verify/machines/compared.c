@@ -154,6 +154,14 @@ static void compare_settling(void)
     }
 }
 
+static void compare_flags(void)
+{
+    for (uint32_t i = 0; i < 4 * (DCONFDB_FLAG_OVER + 1); i++) {
+        if (dconfdb_flag_after(i / 4, i & 1, i & 2) != flag_given(i / 4, i & 1, i & 2))
+            fail("flag_after", "another task than is given");
+    }
+}
+
 static void compare_served_of(DconfdbServed known)
 {
     for (uint32_t done = DCONFDB_SERVED_CAME; done <= DCONFDB_SERVED_PASSES; done++) {
@@ -207,6 +215,7 @@ void compare_answers(void)
     compare_taking();
     compare_standings();
     compare_settling();
+    compare_flags();
     compare_served();
     compare_rounds();
     compare_looks();

@@ -347,6 +347,16 @@ static inline uint32_t settling_given(uint32_t task, bool yes, const DconfdbSett
     }
 }
 
+/* What is done about the flag of dconf's readers. */
+static inline uint32_t flag_given(uint32_t task, bool could_be, bool is_in_turn)
+{
+    if (task != DCONFDB_FLAG_BEGINS && !could_be)
+        return DCONFDB_FLAG_OVER;
+    if (task < DCONFDB_FLAG_SET)
+        return task + 1;
+    return task == DCONFDB_FLAG_SET && is_in_turn ? DCONFDB_FLAG_REMOVE : DCONFDB_FLAG_OVER;
+}
+
 /* What a call leaves that gives a file another name, by what its errno is to it. */
 static inline DconfdbRenamed renamed_given(uint32_t call, uint32_t fault, uint32_t answer)
 {

@@ -1,5 +1,5 @@
 //! What is said of a fault while it lasts, and when what failed by it is tried again. All moments are of one clock, in microseconds.
-ghost use Rattle.std.specs.Prelude.{◌≡◌};
+ghost use Rattle.std.specs.Prelude.{◌≡◌, ◌↔◌, IsTrue};
 ghost use Rattle.dconf_waiting.specs.Faults.{due_after, failed_after, failing_after, is_awaited, is_said_after, lasts, longest, no_fault, since_of, word_number, word_of};
 
 use crate::due::pause_after;
@@ -155,6 +155,13 @@ impl Failing {
     {
         if self.is_there { self.since } else { now }
     }
+}
+
+/// Whether a fault is the one that was said by that text: whatever it is of, the same text says the same, and is said once.
+pub fn is_same_fault(said: &[u8], text: &[u8]) -> bool
+    ensures { IsTrue result ↔ (said.now ≡ text.now) }
+{
+    said == text
 }
 
 /// After so many tries.

@@ -1,3 +1,4 @@
 pub mod BitProofs
 pub mod WatchProofs
+pub mod FlagProofs
 pub mod RoundProofs

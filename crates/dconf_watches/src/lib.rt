@@ -3,18 +3,23 @@
 //! A path is gone through name by name. What stands at each says what is watched there, by [`NameWatch`], and where the path goes on,
 //! by [`Way`]. What happens to a watched name then is [`Heard`] as a change of the file, or as a sign that other files may be the
 //! store's, or not at all. Nothing is watched here: whoever watches says what it found, and does as it is told.
+//!
+//! Programs that are dconf's watch a flag in place of the file: what is done about it is [`flag_after`].
 #![tactic(auto)]
 
+ghost use Rattle.dconf_watches.specs.Flags.{NoReaderIsLost};
 ghost use Rattle.dconf_watches.specs.Rounds.{RoundsEnd};
 ghost use Rattle.dconf_watches.specs.WatchLaws.{AllThatCountsIsAskedFor, AllThatCountsIsHeard, AllThatIsHeardIsAskedFor, EachBitIsRead, NobodyElseIsHeard, TheEndIsWatched};
 
 mod event;
+mod flag;
 mod inotify;
 mod name;
 mod numbers;
 mod rounds;
 
 pub use event::{Event, Heard, Of, louder, meaning};
+pub use flag::{Flagging, flag_after, flag_number};
 pub use inotify::{asked_of, event_in, found_by, seen_by};
 pub use name::{
     Found, NameWatch, Way, heard_as, is_busy, is_busy_in, is_missed, is_needed, keeps_profile,
@@ -58,4 +63,9 @@ pub fn all_that_counts_is_asked_for()
 /// All is watched only if the last round found nothing more and missed nothing that is needed; and after 64 rounds there is no other one.
 pub fn rounds_end()
     ensures { RoundsEnd }
+{}
+
+/// The name of the flag goes only once it is set, and by who has the turn: so each reader of dconf's is told, or keeps the file that is set next.
+pub fn no_reader_is_lost()
+    ensures { NoReaderIsLost }
 {}

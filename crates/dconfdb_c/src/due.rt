@@ -1,10 +1,10 @@
 //! When who rests is to wake, when who reads is to look at the files, and what is said of a fault.
-ghost use Rattle.std.specs.Prelude.{ℕ, ◌≡◌, ◌≤◌, ◌<◌, ◌+◌, ◌*◌, ◌⊎◌, IsTrue, false};
+ghost use Rattle.std.specs.Prelude.{ℕ, ◌≡◌, ◌↔◌, ◌≤◌, ◌<◌, ◌+◌, ◌*◌, ◌⊎◌, IsTrue, false};
 ghost use Rattle.dconf_waiting.specs.Dues.{IsFirstOf};
 ghost use Rattle.dconf_waiting.specs.Faults.{failing_after, is_awaited, word_number, word_of};
 ghost use Rattle.dconf_waiting.specs.Fresh.{may_look, next_look, numbered};
 
-use dconf_waiting::{Failing, next_look, sleep_until};
+use dconf_waiting::{Failing, is_same_fault, next_look, sleep_until};
 
 /// How many milliseconds there are until the first of two moments, rounded up. False, and `wait` as
 /// it was, where neither is one.
@@ -68,4 +68,12 @@ pub extern "C" fn dconfdb_next_look(
     ensures { result ≡ next_look (numbered looker) is_watched due now (may_look has_opened is_at_work) }
 {
     next_look(looker, due, now, has_opened, is_at_work, is_watched)
+}
+
+/// Whether a fault is the one that was said by that text.
+#[unsafe(no_mangle)]
+pub extern "C" fn dconfdb_is_same_fault(said: &[u8], text: &[u8]) -> bool
+    ensures { IsTrue result ↔ (said.now ≡ text.now) }
+{
+    is_same_fault(said, text)
 }

@@ -3,10 +3,11 @@ ghost use Rattle.std.specs.Prelude.{◌≡◌};
 ghost use Rattle.dconf_files.specs.Handings.{handed_after, handing_number, handing_value, what_of};
 ghost use Rattle.dconf_files.specs.Stamps.{sameness_number, sameness_of};
 ghost use Rattle.dconf_parts.specs.Parts.{beside, beside_number, known_after, purpose_of};
-ghost use Rattle.dconf_parts.specs.Sizes.{kind_of, largest};
+ghost use Rattle.dconf_parts.specs.Several.{among, sameness_from};
+ghost use Rattle.dconf_parts.specs.Sizes.{is_mapped, kind_of, largest};
 
 use dconf_files::{FileStamp, MadeFile, handing_numbers, sameness_number};
-use dconf_parts::{DconfdbPartSeen, beside_number, known_after, largest_number};
+use dconf_parts::{DconfdbPartSeen, among_number, beside_number, known_after, largest_number};
 
 /// Whether a file is the one that was read from that moment on: 0 it is, 1 it is another one or has
 /// changed, 2 it may have. `is_held`: it has been open or mapped since.
@@ -20,6 +21,15 @@ pub extern "C" fn dconfdb_same_file(
     ensures { result ≡ sameness_number (sameness_of old.now now.now opened is_held) }
 {
     sameness_number(old, now, opened, is_held)
+}
+
+/// What is known of several files, by what is known of those before and of one more: 0 each is the one that was read, 1 one is another one, 2 one may
+/// be. Before the first it is 0.
+#[unsafe(no_mangle)]
+pub extern "C" fn dconfdb_same_among(before: u32, is: u32) -> u32
+    ensures { result ≡ sameness_number (among (sameness_from before) (sameness_from is)) }
+{
+    among_number(before, is)
 }
 
 /// What a file is, of which something was made, by what the host said of it then and says now. The numbers are those of
@@ -51,12 +61,16 @@ pub extern "C" fn dconfdb_known_after(
     may_be_read
 }
 
-/// How many bytes a file may have that is read: 0 the one that says which kind of store the machine has, 1 a profile, else a database.
+/// How many bytes a file may have that is read: 0 the one that says which kind of store the machine has, 1 a profile, 2 a site's database, else the
+/// user's; and whether it is mapped, if it is large.
 #[unsafe(no_mangle)]
-pub extern "C" fn dconfdb_largest(kind: u32) -> u64
-    ensures { result ≡ largest (kind_of kind) }
+pub extern "C" fn dconfdb_largest(kind: u32, may_map: &mut bool) -> u64
+    ensures largest { result ≡ largest (kind_of kind) }
+    ensures mapped { may_map.new ≡ is_mapped (kind_of kind) }
 {
-    largest_number(kind)
+    let (most, is_mapped) = largest_number(kind);
+    *may_map = is_mapped;
+    most
 }
 
 /// What comes next with what was just made: what 0 a lock, 1 a file, else a folder, once that was done: 0 nothing, 1 it was made, 2 it got its user,

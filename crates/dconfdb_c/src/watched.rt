@@ -1,13 +1,15 @@
 //! What is watched of the names on the way to a file, and what is heard of them.
 ghost use Rattle.std.specs.Prelude.{◌≡◌, ◌≢◌};
 ghost use Rattle.dconf_watches.specs.Events.{louder, meaning};
+ghost use Rattle.dconf_watches.specs.Flags.{flag_after, flag_number};
 ghost use Rattle.dconf_watches.specs.Inotify.{event_in, seen_by};
 ghost use Rattle.dconf_watches.specs.Names.{keeps_profile, minds_much};
 ghost use Rattle.dconf_watches.specs.Numbers.{IsWatchedName, heard_number, heard_of, name_watch_of, of_what};
 ghost use Rattle.dconf_watches.specs.Rounds.{after_number, after_round, begun, gone_through, rounds_of, sight_of};
 
 use dconf_watches::{
-    Sight, WatchRounds, WatchedName, heard_number, keeps_profile, minds_much, watched_name,
+    Sight, WatchRounds, WatchedName, flag_number, heard_number, keeps_profile, minds_much,
+    watched_name,
 };
 
 /// Whether who watches minds much that happens: 0 the library's caller, 1 the module, 2 libdconf, 3 the command, 4 the service.
@@ -92,4 +94,13 @@ pub extern "C" fn dconfdb_heard(
     heard_number(
         before, watch, comes, mask, has_name, is_same, is_unseen, mode, links,
     )
+}
+
+/// What is done next about the flag of dconf's readers: 1 its file is opened, 2 made longer, 3 set, 4 its name goes, 5 it is over. It begins with 0, and
+/// `could_be` says whether the last one could be done.
+#[unsafe(no_mangle)]
+pub extern "C" fn dconfdb_flag_after(done: u32, could_be: bool, is_in_turn: bool) -> u32
+    ensures { result ≡ flag_number (flag_after done could_be is_in_turn) }
+{
+    flag_number(done, could_be, is_in_turn)
 }

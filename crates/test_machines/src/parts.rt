@@ -1,6 +1,6 @@
 //! What a file is, beside what was made of it.
 use dconf_files::{FileStamp, FileTime};
-use dconf_parts::{DconfdbPartSeen, beside_number, known_after, largest_number};
+use dconf_parts::{DconfdbPartSeen, among_number, beside_number, known_after, largest_number};
 use std::test::Fail;
 
 const KEEP: u32 = 0;
@@ -116,15 +116,31 @@ fn are_known() -> bool {
         && beside_number(KEEP, &unread, &file(1, 2), &held) == 2
 }
 
+fn is_size(kind: u32, most: u64, may_map: bool) -> bool {
+    let (largest, is_mapped) = largest_number(kind);
+    largest == most && is_mapped == may_map
+}
+
 fn sizes_are_known() -> bool {
-    largest_number(0) == 4096
-        && largest_number(1) == 16_777_216
-        && largest_number(2) == 4_294_967_295
+    is_size(0, 4096, false)
+        && is_size(1, 16_777_216, false)
+        && is_size(2, 4_294_967_295, true)
+        && is_size(3, 4_294_967_295, false)
+}
+
+/// One that is another one is seen, wherever it stands among those of which nobody is sure.
+fn several_are_seen() -> bool {
+    among_number(0, 0) == 0
+        && among_number(0, 2) == 2
+        && among_number(2, 0) == 2
+        && among_number(2, 1) == 1
+        && among_number(1, 2) == 1
+        && among_number(1, 0) == 1
 }
 
 #[test]
 fn what_was_made_of_a_file_is_kept_or_not(rt: HostRuntime) -> Result<(), Fail> {
     assert!(rt; are_kept() && are_taken());
-    assert!(rt; are_known() && sizes_are_known());
+    assert!(rt; are_known() && sizes_are_known() && several_are_seen());
     Ok(())
 }

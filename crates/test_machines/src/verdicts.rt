@@ -5,7 +5,8 @@ use dconf_verdicts::{
     standing_numbers, told_code, verdict_number,
 };
 use dconf_waiting::{
-    Failing, Patience, Progress, Tally, Waiter, WaitingEdit, fate_number, found, put, settle,
+    Failing, Patience, Progress, Tally, Waiter, WaitingEdit, fate_number, found, is_same_fault,
+    put, settle,
 };
 use std::test::Fail;
 
@@ -382,6 +383,9 @@ fn faults_are_said() -> bool {
         && failing.met_looking(true, false, true, 13) == 1
         && failing.met_looking(false, false, true, 14) == 3
         && failing.met_looking(true, true, false, 15) == 1
+        && is_same_fault("user: closed".as_bytes(), "user: closed".as_bytes())
+        && !is_same_fault("user: closed".as_bytes(), "user: cloned".as_bytes())
+        && !is_same_fault("user".as_bytes(), "user: closed".as_bytes())
 }
 
 /// The calls, by their numbers.

@@ -1,8 +1,8 @@
 //! What is watched of the names on the way to a file, and what is heard of what inotify tells.
 use dconf_watches::{
-    Event, Found, NameWatch, Sight, WatchRounds, Way, asked_of, event_in, found_by, heard_number,
-    is_busy, is_busy_in, is_missed, is_needed, keeps_profile, minds_much, seen_by, watch_at,
-    way_at,
+    Event, Found, NameWatch, Sight, WatchRounds, Way, asked_of, event_in, flag_number, found_by,
+    heard_number, is_busy, is_busy_in, is_missed, is_needed, keeps_profile, minds_much, seen_by,
+    watch_at, way_at,
 };
 use std::test::Fail;
 
@@ -115,6 +115,18 @@ fn rounds_are_counted(none: WatchRounds) -> bool {
         && after_rounds(none, 1, Sight::Missed) == 0
 }
 
+/// The name goes last, of what is set, and by who has the turn.
+fn readers_are_told() -> bool {
+    flag_number(0, true, true) == 1
+        && flag_number(1, true, true) == 2
+        && flag_number(2, true, false) == 3
+        && flag_number(3, true, true) == 4
+        && flag_number(3, true, false) == 5
+        && flag_number(3, false, true) == 5
+        && flag_number(1, false, true) == 5
+        && flag_number(4, true, true) == 5
+}
+
 #[test]
 fn names_are_watched_and_heard(rt: HostRuntime) -> Result<(), Fail> {
     assert!(rt;
@@ -134,6 +146,6 @@ fn names_are_watched_and_heard(rt: HostRuntime) -> Result<(), Fail> {
             && !keeps_profile(3)
             && !keeps_profile(4)
     );
-    assert!(rt; rounds_are_counted(WatchRounds::none()));
+    assert!(rt; rounds_are_counted(WatchRounds::none()) && readers_are_told());
     Ok(())
 }
