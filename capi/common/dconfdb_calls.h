@@ -1385,7 +1385,8 @@ bool dconfdb_sleep_until(uint64_t again, uint64_t look, uint64_t now, uint64_t *
 enum {
     DCONFDB_PATIENCE_ASKED, /* who sets or syncs: for the turn, or until all is written */
     DCONFDB_PATIENCE_END,   /* the program's end, or that of who holds what writes: the same */
-    DCONFDB_PATIENCE_REST   /* the program's end: for a lock that is held for moments */
+    DCONFDB_PATIENCE_REST,  /* the program's end: for a lock that is held for moments */
+    DCONFDB_PATIENCE_TURNS  /* whoever waits: until it is asked again whether others had turns */
 };
 
 /* For so many microseconds, unless others have turns meanwhile. */

@@ -67,7 +67,8 @@ static bool carry_out(DconfdbBackend *self, Wait *wait, gint64 end)
 
 static void meet_others(DconfdbBackend *self, Wait *wait)
 {
-    if (dconfdb_failing_met(&wait->failing, true, true, true, (uint64_t)g_get_monotonic_time()) != DCONFDB_FAULT_SAY)
+    bool is_momentary = dconfdb_verdict(DCONFDB_ERROR_FILE, EWOULDBLOCK) == DCONFDB_QUEUE_SOON;
+    if (dconfdb_failing_met(&wait->failing, true, is_momentary, true, (uint64_t)g_get_monotonic_time()) != DCONFDB_FAULT_SAY)
         return;
     g_autofree char *text =
         g_strdup_printf("%s: others have been writing there for ten seconds; what was set goes on waiting", store_folder(self));

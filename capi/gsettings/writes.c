@@ -5,9 +5,6 @@
 
 #include <errno.h>
 
-/* In microseconds: how often who waits looks for turns of others. */
-enum { BETWEEN_TURNS = 500000 };
-
 static void warn_of_waiting(Notice *notice, const DconfdbError *fault)
 {
     char *text = g_strdup_printf("%s; what was set is not on the disk yet", fault->text);
@@ -169,7 +166,7 @@ static void ask_for_a_try(DconfdbBackend *self)
 /* `lock` is held, and let go of meanwhile. For so long, or until changes are settled, or a write has failed. */
 static void await_news(DconfdbBackend *self, DconfdbPatience *patience)
 {
-    gint64 end = MIN((gint64)patience->end, g_get_monotonic_time() + BETWEEN_TURNS);
+    gint64 end = MIN((gint64)patience->end, g_get_monotonic_time() + (gint64)dconfdb_patience_for(DCONFDB_PATIENCE_TURNS));
     if (g_cond_wait_until(&self->settles, &self->lock, end))
         return;
     g_mutex_unlock(&self->lock);

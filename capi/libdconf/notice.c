@@ -153,11 +153,12 @@ static bool finds_changed(const void *it, Told *told)
 
 /* ---- who is told of it */
 
-static void send_writable_of(Engine *self, const char *path)
+/* All that is at the path, or below it; `is_of_rights`: also that it may be otherwise whether it may be written. */
+static void send_all_at(Engine *self, const char *path, gboolean is_of_rights)
 {
     static const gchar *const itself[] = {"", NULL};
     Notice *notice = notice_new(self, path, itself, "");
-    notice->is_of_rights = TRUE;
+    notice->is_of_rights = is_of_rights;
     send_later(notice);
 }
 
@@ -176,7 +177,7 @@ static void send_changed(const void *it, DconfdbTelling *telling, const char *pa
     if (next == DCONFDB_TELL_WHAT_IS_TAKEN)
         notice_changed(self, changed, "", FALSE);
     else if (next == DCONFDB_TELL_ALL)
-        send_writable_of(self, "/");
+        send_all_at(self, "/", FALSE);
     dconf_changeset_unref(changed);
 }
 
@@ -190,9 +191,9 @@ static void send_writable(const void *it, DconfdbTelling *telling, const char *p
         telling->is_listened = telling->has_path && engine_is_watched(self, at);
         uint32_t next = dconfdb_tell_next(telling);
         if (next == DCONFDB_TELL_TAKE)
-            send_writable_of(self, at);
+            send_all_at(self, at, TRUE);
         else if (next == DCONFDB_TELL_ALL)
-            send_writable_of(self, "/");
+            send_all_at(self, "/", TRUE);
     }
 }
 

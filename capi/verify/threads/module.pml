@@ -96,7 +96,8 @@ inline look() {
     fi
 }
 inline store_look() { TAKE(TURN); look(); GIVE(TURN); notice_tell() }
-inline look_quietly() { look(); GIVE(TURN); if :: worker_tells() :: notice_tell() fi }
+inline look_again_later() { TAKE(LOCK); GIVE(LOCK) }
+inline look_quietly() { look(); if :: look_again_later() :: skip fi; GIVE(TURN); if :: worker_tells() :: notice_tell() fi }
 /* Where the worker writes, what it has seen in its turn is handed out. */
 inline go_on_barred() {
     TAKE(LOCK); if :: is_shown(); hand_newest() :: skip fi; GIVE(LOCK);
@@ -123,7 +124,8 @@ inline waiting_settle() {
     }
 }
 inline settle_what_is_there() { TAKE(LOCK); waiting_settle(); GIVE(LOCK) }
-inline store_settle() { TAKE(TURN); look(); settle_what_is_there(); GIVE(TURN); notice_tell() }
+inline has_asking() { TAKE(LOCK); GIVE(LOCK) }
+inline store_settle() { has_asking(); TAKE(TURN); look(); if :: settle_what_is_there() :: skip fi; GIVE(TURN); notice_tell() }
 
 /* The turn is had at once, or waited for in line by a thread of its own, or, if none can be had, asked for again. */
 inline folder_lock() { TAKE(FOLDER); TAKE(LISTING); GIVE(LISTING) }

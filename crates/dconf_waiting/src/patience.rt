@@ -5,6 +5,9 @@ ghost use Rattle.dconf_waiting.specs.Patiences.{patience_for, renewed_by};
 
 use dconf_files::FileTime;
 
+/// How often whoever waits asks whether another program had a turn.
+const BETWEEN_TURNS: u64 = 500_000;
+
 /// How long is waited at most while other programs have their turns.
 const LONGEST_CROWD: u64 = 60_000_000;
 
@@ -17,13 +20,14 @@ const LONGEST_ASKED: u64 = 10_000_000;
 const LONGEST_END: u64 = 5_000_000;
 
 /// How long it is waited for what waits, or for the turn, unless others have turns meanwhile: by who sets or syncs (0), at the end (1), and (else)
-/// for a lock that is wanted for moments, at the end.
+/// for a lock that is wanted for moments, at the end; and (3) until it is asked again whether others had one.
 pub fn patience_for(who: u32) -> u64
     ensures { result ≡ patience_for who }
 {
     match who {
         0 => LONGEST_ASKED,
         1 => LONGEST_END,
+        3 => BETWEEN_TURNS,
         _ => LONGEST_REST,
     }
 }

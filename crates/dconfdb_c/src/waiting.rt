@@ -44,7 +44,7 @@ pub extern "C" fn dconfdb_waiting_line(
 }
 
 /// How many microseconds it is waited, unless others have turns meanwhile: by who sets or syncs (0), at the program's end (1), and (else) for a lock
-/// that is wanted there for moments.
+/// that is wanted there for moments; and (3) until it is asked again whether others had turns.
 #[unsafe(no_mangle)]
 pub extern "C" fn dconfdb_patience_for(who: u32) -> u64
     ensures { result ≡ patience_for who }

@@ -6,7 +6,7 @@ use dconf_verdicts::{
 };
 use dconf_waiting::{
     Failing, Patience, Progress, Tally, Waiter, WaitingEdit, fate_number, found, is_same_fault,
-    put, settle,
+    patience_for, put, settle,
 };
 use std::test::Fail;
 
@@ -328,7 +328,11 @@ fn waits_end() -> bool {
         nanoseconds: 1,
         ..folder
     };
-    let begun = patience.goes_on(&progress, folder, 5) && patience.end == 10_000_005;
+    let spans = patience_for(0) == 10_000_000
+        && patience_for(1) == 5_000_000
+        && patience_for(2) == 2_000_000
+        && patience_for(3) == 500_000;
+    let begun = spans && patience.goes_on(&progress, folder, 5) && patience.end == 10_000_005;
     let same = patience.goes_on(&progress, folder, 6) && patience.end == 10_000_005;
     let renewed = patience.goes_on(&progress, changed, 58_000_000);
     begun
