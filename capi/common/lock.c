@@ -30,7 +30,7 @@ enum { HOW = O_RDWR | O_CLOEXEC | O_NOFOLLOW | O_NONBLOCK | O_NOCTTY };
 static pthread_mutex_t listing = PTHREAD_MUTEX_INITIALIZER;
 static FolderLock *first;
 static atomic_ulong forks; /* one more as each begins, and as it is over: who opens a file amid one sees another number then */
-static atomic_int unheeded; /* why none is heeded, an errno; or 0, and then for good */
+static atomic_int unheeded = -1; /* why none is heeded, an errno, or that nobody has asked yet; or 0, and then for good */
 
 static void before_fork(void)
 {
@@ -84,9 +84,9 @@ static void heed_forks(void)
 static int heed_all_forks(void)
 {
     static pthread_once_t once = PTHREAD_ONCE_INIT;
-    pthread_once(&once, heed_forks);
     if (unheeded == 0)
         return 0;
+    pthread_once(&once, heed_forks);
     pthread_mutex_lock(&listing);
     if (unheeded != 0)
         unheeded = ask_to_heed();

@@ -64,10 +64,10 @@ static bool is_as_said(const Look *look, Part *old, size_t at)
 }
 
 /* Gives the fault of the system. Cancellation is held back here, since a look that reads nothing is no cancellation point; and who opens
- * a store has held it back. */
+ * a store, or has a turn to change it, has held it back. */
 static int read_at(Look *look, const Asked *asked)
 {
-    bool is_in_turn = asked->turn != NO_FOLDER, is_held = !look->store->now, may_map = false;
+    bool is_in_turn = asked->turn != NO_FOLDER, is_held = is_in_turn || !look->store->now, may_map = false;
     uint64_t most = dconfdb_largest(asked->size, &may_map);
     int cancels = is_held ? 0 : hold_cancellation();
     look->opened = file_clock();

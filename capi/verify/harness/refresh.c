@@ -169,11 +169,11 @@ int look_read(void)
     set_up_store();
     GIVEN(store.count > 0);
     int turn = store.user_file && store.now && any_bool() ? TURN : NO_FOLDER;
-    bool is_held = !store.now;
     Look look = look_of(turn);
     size_t at = any_size();
     GIVEN(at < store.count);
     Asked asked = asked_of(&look, at);
+    bool is_held = !store.now || asked.turn != NO_FOLDER; /* by who opens it, or changes it */
     CHECK(asked.name == store.files[at] && asked.index == at && (asked.turn == NO_FOLDER || asked.turn == turn), "step: that file");
     int before = is_held ? hold_cancellation() : PTHREAD_CANCEL_ENABLE;
     int fault = real_read_at(&look, &asked);
