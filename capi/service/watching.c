@@ -75,6 +75,7 @@ static bool look(Writer *writer)
     Looking it = {.profiles = service_profiles(writer->service), .known = {.is_open = true}, .error = DCONFDB_ERROR_INIT};
     uint32_t task = DCONFDB_GLANCE_BEGINS;
     profiles_compare(&writer->seen, &it.profiles, &it.known);
+    it.known.keeps_profile = dconfdb_keeps_profile(DCONFDB_WATCHER_SERVICE);
     while ((task = dconfdb_glance_after(task, &it.known)) < DCONFDB_GLANCE_SEEN)
         carry_out(writer, task, &it);
     dconfdb_snapshot_unref(it.before);

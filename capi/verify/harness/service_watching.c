@@ -47,6 +47,12 @@ bool have_same_files(const DconfdbStore *one, const DconfdbStore *other)
     return !has_new_files;
 }
 
+bool dconfdb_keeps_profile(uint32_t who)
+{
+    CHECK(who == DCONFDB_WATCHER_SERVICE, "step: of the service");
+    return any_bool();
+}
+
 /* ---- stores and snapshots */
 
 DconfdbStore *store_named(const Service *of, const char *name, DconfdbError *error)

@@ -249,7 +249,10 @@ fn what_came_first_is_first() -> bool {
         is_behind: true,
         ..PLAIN
     };
-    let last = ServedKnown { ends: true, ..PLAIN };
+    let last = ServedKnown {
+        ends: true,
+        ..PLAIN
+    };
     let unopened = ServedKnown {
         is_used: false,
         ..PLAIN
