@@ -273,8 +273,6 @@ static int settle_at(int folder, const char *name)
 
 int replacing_settle(const Replacing *it, bool is_readable)
 {
-    if (it->is_unsynced)
-        return 0;
     int fault = is_readable ? settle_at(it->folder, it->name) : 0;
     return fault != 0 ? fault : replacing_sync_folder(it);
 }

@@ -43,7 +43,7 @@ int replacing_rename(const Replacing *it, FileState *state);
 int replacing_sync_folder(const Replacing *it);
 int replacing_remove(const Replacing *it);
 
-/* What the name is gets to the disk, if there is such a file and it can be read, and the folder's names. */
+/* What the name is gets to the disk, if there is such a file and it can be read, and the folder's names. It isn't asked for where nothing is brought there. */
 int replacing_settle(const Replacing *it, bool is_readable);
 
 /* The same of a file of a folder, or of no file (NULL). A missing one is not an error. */

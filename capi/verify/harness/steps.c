@@ -177,6 +177,7 @@ int replacing_remove(const Replacing *at)
 int replacing_settle(const Replacing *at, bool is_readable)
 {
     CHECK(at == &it.replacing && is_readable == part_is_readable(old_part) && !is_there, "step: the old file");
+    CHECK(!at->is_unsynced, "step: nothing is brought to the disk that isn't to be");
     return carries(DCONFDB_TURN_SETTLE);
 }
 

@@ -13,18 +13,19 @@ pub(crate) fn set_flag<R: Files>(rt: &R, flag: &str) {
     let mut options = OpenOptions::new();
     options.read(true).write(true);
     if let Ok(mut file) = options.open(rt, flag) {
-        let _ = fill(&mut file);
-        // Who has it mapped sees it; who comes later makes another.
-        let _ = fs::remove_file(rt, flag);
+        // Who has it mapped sees it; who comes later makes another. What can't be set keeps its name, and is set by the next change.
+        if let Ok(true) = fill(&mut file) {
+            let _ = fs::remove_file(rt, flag);
+        }
     }
 }
 
-/// The file is made longer first, since a reader may have made it a moment ago, and mapped nothing yet.
-fn fill<F: Write + Seek>(file: &mut F) -> io::Result<()> {
+/// Whether it is set. The file is made longer first, since a reader may have made it a moment ago, and mapped nothing yet.
+fn fill<F: Write + Seek>(file: &mut F) -> io::Result<bool> {
     file.seek(SeekFrom::Start(1))?;
-    if file.write(&[0])? == 1 {
-        file.seek(SeekFrom::Start(0))?;
-        file.write(&[1])?;
+    if file.write(&[0])? != 1 {
+        return Ok(false);
     }
-    Ok(())
+    file.seek(SeekFrom::Start(0))?;
+    Ok(file.write(&[1])? == 1)
 }
