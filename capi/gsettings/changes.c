@@ -98,8 +98,11 @@ void change_free(Change *change)
 
 void changes_free(GQueue *changes)
 {
-    for (GList *at; (at = g_queue_pop_head_link(changes));)
+    for (GList *at = changes->head, *next; at; at = next) {
+        next = at->next; /* which goes with the change */
         change_free(at->data);
+    }
+    g_queue_init(changes);
 }
 
 /* ---- how they are written */

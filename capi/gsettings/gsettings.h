@@ -86,6 +86,15 @@ uint32_t change_entry(Change *change, const Waiting *waiting, const DconfdbSnaps
 GTree *change_tree(const Change *change);
 void changes_free(GQueue *changes);
 
+/* Puts it behind those of a queue; it is in no other one. */
+static inline void change_push(GQueue *changes, Change *change)
+{
+    change->link = (GList){.data = change, .prev = changes->tail};
+    *(changes->tail ? &changes->tail->next : &changes->head) = &change->link;
+    changes->tail = &change->link;
+    changes->length++;
+}
+
 void waiting_begin(Waiting *waiting);
 void waiting_end(Waiting *waiting);
 

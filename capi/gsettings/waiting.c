@@ -238,8 +238,7 @@ GQueue waiting_take(Waiting *waiting)
         Change *change = change_at(waiting, at);
         change->is_taken = true;
         change->is_refused = false;
-        change->link = (GList){.data = change};
-        g_queue_push_tail_link(&taken, &change->link);
+        change_push(&taken, change);
     }
     return taken;
 }
@@ -341,11 +340,8 @@ static GQueue settle_line(Waiting *waiting, bool is_written)
     GQueue gone = G_QUEUE_INIT;
     guint count = waiting->line->len;
     guint waits = (guint)dconfdb_waiting_line(line_of(waiting), count, is_written, &waiting->tally);
-    for (guint at = waits; at < count; at++) {
-        Change *change = change_at(waiting, at);
-        change->link = (GList){.data = change};
-        g_queue_push_tail_link(&gone, &change->link);
-    }
+    for (guint at = waits; at < count; at++)
+        change_push(&gone, change_at(waiting, at));
     g_array_set_size(waiting->line, waits);
     return gone;
 }
