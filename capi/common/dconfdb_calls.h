@@ -1122,7 +1122,8 @@ uint64_t dconfdb_notice_answered(DconfdbNotice *notice, bool yes, uint64_t now);
 
 typedef struct {
     uint32_t watch;
-    uint32_t asked; /* of inotify */
+    uint32_t asked;         /* of inotify, of the folder, */
+    uint32_t asked_of_file; /* and of what stands at the name itself; 0: nothing */
     uint32_t way;
     uint32_t comes; /* what is heard if something comes there */
     bool is_needed; /* without it something would be missed */
@@ -1190,10 +1191,18 @@ enum {
 /* Of a name: it is watched so already, or could be watched, or can't be; and something is missed without it. */
 uint32_t dconfdb_watch_round(DconfdbWatchRounds *rounds, uint32_t what, bool is_known, bool is_had, bool is_needed);
 
-/* What is heard of inotify's event at a name; or what was heard before, if that means more. `has_name`: it isn't the folder's own.
- * `is_same`: it is of the name that is watched, at which that stands by now, unless it can't be seen (`is_unseen`). */
-uint32_t dconfdb_heard(uint32_t before, uint32_t watch, uint32_t comes, uint32_t mask, bool has_name, bool is_same, bool is_unseen, uint32_t mode,
-                       uint64_t links);
+/* What inotify is asked for of the file itself that has the name by now, after its event; 0: nothing. `of_file`: it is of the file's own watch, and not of its
+ * folder's. `has_name`: it isn't the folder's own. `is_same`: it is of the name that is watched, at which that stands by now, unless it can't be seen
+ * (`is_unseen`). */
+uint32_t dconfdb_asked_anew(uint32_t watch, uint32_t mask, bool of_file, bool has_name, bool is_same, bool is_unseen, uint32_t mode, uint64_t links);
+
+/* Whether something is missed if the file itself can't be watched, by errno; 0 is none. */
+bool dconfdb_is_file_missed(uint32_t fault);
+
+/* What is heard of such an event; or what was heard before, if that means more. The file could be watched that has the name by now (`fault` 0), or needn't be,
+ * or not. */
+uint32_t dconfdb_heard(uint32_t before, uint32_t watch, uint32_t comes, uint32_t mask, bool of_file, bool has_name, bool is_same, uint32_t fault,
+                       bool is_unseen, uint32_t mode, uint64_t links);
 
 /* What is done about the flag of dconf's readers, once the database is replaced, in this order. Each has the first byte of a file mapped, and opens the
  * database again when that is set. */

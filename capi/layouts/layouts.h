@@ -65,7 +65,7 @@ size_t ends(const Written *room);
 enum { PART_OF_PATH = 4 };
 
 /* What a name takes that is watched. */
-enum { WATCHED_NAME = 20 };
+enum { WATCHED_NAME = 24 };
 
 extern uint8_t file[]; /* a database */
 const void *empty_layer(void);

@@ -237,17 +237,19 @@ static void finds_notice(void)
     ends(&notice);
 }
 
-/* A name on the way to a file, at which nothing stands: it is waited for, and nothing is behind it. */
+/* A profile's own name, at which a regular file stands, by its mode: it has a watch of its own, and nothing is behind it. */
 static void finds_watched_name(void)
 {
+    enum { A_FILE = 0100644 };
     Written name = room_of("DconfdbWatchedName"), other = name, unseen = name;
-    dconfdb_watched_name(true, (const uint8_t *)"/a", 2, (const uint8_t *)"b", 1, false, false, 0, 0, 0, false, name.bytes);
-    dconfdb_watched_name(true, (const uint8_t *)"/a", 2, (const uint8_t *)".", 1, false, false, 0, 0, 0, false, other.bytes);
-    dconfdb_watched_name(true, (const uint8_t *)"/a", 2, (const uint8_t *)"b", 1, false, true, 0, 0, 0, false, unseen.bytes);
+    dconfdb_watched_name(true, (const uint8_t *)"/a", 2, (const uint8_t *)"b", 1, true, false, A_FILE, 1, 0, true, name.bytes);
+    dconfdb_watched_name(true, (const uint8_t *)"/a", 2, (const uint8_t *)".", 1, true, false, A_FILE, 1, 0, true, other.bytes);
+    dconfdb_watched_name(true, (const uint8_t *)"/a", 2, (const uint8_t *)"b", 1, true, true, 0, 0, 0, true, unseen.bytes);
     takes(&name, "is_needed", flag_of(&name, &other), FLAG);
     takes(&name, "is_missed", flag_of(&unseen, &name), FLAG);
-    finds_number(&name, "watch", 2);
-    finds_number(&name, "asked", 0x3c0);
+    finds_number(&name, "watch", 3);
+    finds_number(&name, "asked", 0x2c4);
+    finds_number(&name, "asked_of_file", 0x8);
     finds_number(&name, "way", 0);
     finds_number(&name, "comes", 1);
     is_so(ends(&name) == WATCHED_NAME, "DconfdbWatchedName");

@@ -40,26 +40,30 @@ bool watch_is_whole(const Watch *watch)
 
 /* ---- what happened */
 
-/* What is heard at one that is watched, after that. */
-static uint32_t hear_one(const Watched *one, const struct inotify_event *event, uint32_t before)
+/* What is heard at one that is watched, after that. Another file is watched before anybody looks at it: who writes it is seen, or heard later. */
+static uint32_t hear_one(Watch *watch, Watched *one, const struct inotify_event *event, uint32_t before)
 {
-    bool has_name = event->len > 0, is_same = has_name && one->path && strcmp(strrchr(one->path, '/') + 1, event->name) == 0;
+    bool of_file = one->file == event->wd, has_name = event->len > 0;
+    bool is_same = has_name && one->path && strcmp(strrchr(one->path, '/') + 1, event->name) == 0;
     Stands stands = is_same ? stands_at(one->path) : (Stands){.is_unseen = false};
-    return dconfdb_heard(before, one->name.watch, one->name.comes, event->mask, has_name, is_same, stands.is_unseen, stands.mode, stands.links);
+    uint32_t asked = dconfdb_asked_anew(one->name.watch, event->mask, of_file, has_name, is_same, stands.is_unseen, stands.mode, stands.links);
+    int fault = asked != 0 ? follow_file(watch, one, asked) : 0;
+    return dconfdb_heard(before, one->name.watch, one->name.comes, event->mask, of_file, has_name, is_same, (uint32_t)fault, stands.is_unseen,
+                         stands.mode, stands.links);
 }
 
-/* What is heard of an event, after that: of one that isn't of a folder, by none that is watched. */
-static uint32_t hear_event(const Watch *watch, const struct inotify_event *event, uint32_t before)
+/* What is heard of an event, after that: of one that isn't of a folder or a file, by none that is watched. */
+static uint32_t hear_event(Watch *watch, const struct inotify_event *event, uint32_t before)
 {
-    uint32_t heard = dconfdb_heard(before, DCONFDB_WATCH_NOTHING, DCONFDB_NOTICE_NOTHING, event->mask, true, false, false, 0, 0);
+    uint32_t heard = dconfdb_heard(before, DCONFDB_WATCH_NOTHING, DCONFDB_NOTICE_NOTHING, event->mask, false, true, false, 0, false, 0, 0);
     for (size_t i = 0; i < watch->count; i++)
-        if (watch->all[i].number == event->wd)
-            heard = hear_one(&watch->all[i], event, heard);
+        if (watch->all[i].number == event->wd || watch->all[i].file == event->wd)
+            heard = hear_one(watch, &watch->all[i], event, heard);
     return heard;
 }
 
 /* What is heard of these events, which stand one behind another. */
-static uint32_t hear_all(const Watch *watch, const char *room, size_t len, uint32_t before)
+static uint32_t hear_all(Watch *watch, const char *room, size_t len, uint32_t before)
 {
     uint32_t heard = before;
     for (size_t at = 0; at < len;) {
@@ -71,7 +75,7 @@ static uint32_t hear_all(const Watch *watch, const char *room, size_t len, uint3
 }
 
 /* What happened since the last time. No thread is cancelled amid it. */
-static uint32_t read_events(const Watch *watch)
+static uint32_t read_events(Watch *watch)
 {
     _Alignas(struct inotify_event) char room[16384];
     uint32_t heard = DCONFDB_NOTICE_NOTHING;
@@ -136,7 +140,7 @@ int64_t watch_due(const Watch *watch, bool listens)
     return moment_of(due);
 }
 
-static uint32_t heard(const Watch *watch)
+static uint32_t heard(Watch *watch)
 {
     return has_events(watch) ? read_events(watch) : DCONFDB_NOTICE_NOTHING;
 }

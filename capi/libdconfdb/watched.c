@@ -17,6 +17,8 @@ void forget_watched(Watch *watch)
 {
     for (size_t i = 0; i < watch->count; i++) {
         inotify_rm_watch(watch->inotify, watch->all[i].number);
+        if (watch->all[i].file >= 0)
+            inotify_rm_watch(watch->inotify, watch->all[i].file);
         free(watch->all[i].path);
     }
     watch->count = 0;
@@ -36,37 +38,61 @@ static bool grow(Watch *watch)
     return true;
 }
 
-/* Whether the name is watched so already: all are gone through more than once. */
-static bool is_watched(const Watch *watch, const Watched *wanted)
+/* The name, if it is watched so already, or NULL: all are gone through more than once. */
+static Watched *find_watched(const Watch *watch, int number, const char *path, const DconfdbWatchedName *name)
 {
     for (size_t i = 0; i < watch->count; i++) {
-        const Watched *one = &watch->all[i];
-        bool is_same = one->path && wanted->path ? strcmp(one->path, wanted->path) == 0 : one->path == wanted->path;
-        if (is_same && one->number == wanted->number && one->name.watch == wanted->name.watch && one->name.comes == wanted->name.comes)
-            return true;
+        Watched *one = &watch->all[i];
+        bool is_same = one->path && path ? strcmp(one->path, path) == 0 : one->path == path;
+        if (is_same && one->number == number && one->name.watch == name->watch && one->name.comes == name->comes)
+            return one;
     }
+    return NULL;
+}
+
+/* Keeps one that inotify watches. NULL: no memory is left. */
+static Watched *keep(Watch *watch, int number, const char *path, const DconfdbWatchedName *name)
+{
+    char *kept = path ? strdup(path) : NULL;
+    if ((!kept && path) || !grow(watch)) {
+        free(kept);
+        return NULL;
+    }
+    watch->all[watch->count] = (Watched){number, *name, kept, -1};
+    return &watch->all[watch->count++];
+}
+
+/* Whether a name is watched by that number: a file may have several. */
+static bool has_number(const Watch *watch, int number)
+{
+    for (size_t i = 0; i < watch->count; i++)
+        if (watch->all[i].number == number || watch->all[i].file == number)
+            return true;
     return false;
 }
 
-/* Keeps one that inotify watches. False: no memory is left. */
-static bool keep(Watch *watch, int number, const char *path, const DconfdbWatchedName *name)
+/* The file before is let go at once: else inotify would tell when that is gone. */
+int follow_file(Watch *watch, Watched *one, uint32_t asked)
 {
-    char *kept = path ? strdup(path) : NULL;
-    bool is_kept = (kept || !path) && grow(watch);
-    if (is_kept)
-        watch->all[watch->count++] = (Watched){number, *name, kept};
-    else
-        free(kept);
-    return is_kept;
+    int before = one->file;
+    one->file = inotify_add_watch(watch->inotify, one->path, asked | IN_MASK_ADD | IN_DONT_FOLLOW);
+    int fault = one->file < 0 ? errno : 0;
+    if (before >= 0 && !has_number(watch, before))
+        inotify_rm_watch(watch->inotify, before);
+    return fault;
 }
 
-/* A folder that is watched itself has no path. */
+/* A folder that is watched itself has no path. The file itself comes behind its folder: that tells if another one comes amid. */
 static void watch_one(Watch *watch, DconfdbWatchRounds *rounds, const char *folder, char *path, const DconfdbWatchedName *name)
 {
     int number = inotify_add_watch(watch->inotify, folder, name->asked | IN_MASK_ADD | IN_ONLYDIR);
-    bool is_known = is_watched(watch, &(Watched){number, *name, path});
-    bool is_had = is_known || (number >= 0 && keep(watch, number, path, name));
-    dconfdb_watch_round(rounds, DCONFDB_WATCHING_NAME, is_known, is_had, name->is_needed);
+    Watched *known = find_watched(watch, number, path, name);
+    Watched *one = known || number < 0 ? known : keep(watch, number, path, name);
+    dconfdb_watch_round(rounds, DCONFDB_WATCHING_NAME, known != NULL, one != NULL, name->is_needed);
+    if (!one || name->asked_of_file == 0)
+        return;
+    int fault = follow_file(watch, one, name->asked_of_file);
+    dconfdb_watch_round(rounds, DCONFDB_WATCHING_NAME, false, false, dconfdb_is_file_missed((uint32_t)fault));
 }
 
 /* Where nothing is, or nothing can be seen. */

@@ -13,6 +13,7 @@ typedef struct {
     int number; /* inotify's, of a folder */
     DconfdbWatchedName name;
     char *path; /* a name in the folder; NULL: the folder itself */
+    int file;   /* inotify's number of the file that has the name; -1: that isn't watched itself */
 } Watched;
 
 struct Watch {
@@ -25,6 +26,9 @@ struct Watch {
 
 /* Watches nothing any longer. */
 void forget_watched(Watch *watch);
+
+/* Asks that of the file that has the name by now, in place of the one before. Gives 0, or errno. */
+int follow_file(Watch *watch, Watched *one, uint32_t asked);
 
 /* What stands at a path, as stat says it; both are 0 where nothing does, or where it can't be seen. */
 typedef struct {

@@ -1,5 +1,5 @@
 -- What inotify tells and is asked for, <linux/inotify.h>, and what stands at a name, <sys/stat.h>: the system's numbers.
-use Rattle.std.specs.Prelude.{ℕ, Bool, not, ◌+◌, ◌==◌, if◌then◌else◌, bit_and}
+use Rattle.std.specs.Prelude.{ℕ, Bool, not, ◌+◌, ◌||◌, ◌==◌, if◌then◌else◌, bit_and}
 use Rattle.dconf_watches.specs.declared.name.Found.{Found}
 use Rattle.dconf_watches.specs.declared.name.NameWatch.{NameWatch}
 use Rattle.dconf_watches.specs.declared.event.Event.{Event}
@@ -60,13 +60,33 @@ event_in mask =
     else if has mask (number in_delete_self + number in_move_self) then Gone
     else Other
 
--- What is asked for. What is written beside a file, as NAME.new, wakes nobody before it is whole.
+-- What is asked for of a folder, of a name in it or of the folder itself. Of a file that is there who writes it is asked for at the file itself: what others
+-- write and close in its folder, as NAME.new, wakes nobody.
 abbrev pub asked_of : NameWatch → ℕ
 asked_of NameWatch.Nothing = 0
 asked_of NameWatch.Itself = number in_delete_self + number in_move_self
 asked_of NameWatch.Passage = number in_moved_from + number in_moved_to + number in_create + number in_delete
-asked_of NameWatch.Own = number in_attrib + number in_close_write + number in_moved_from + number in_moved_to + number in_delete
+asked_of NameWatch.Own = number in_attrib + number in_moved_from + number in_moved_to + number in_delete
 asked_of NameWatch.Awaited = number in_attrib + number in_close_write + number in_moved_from + number in_moved_to + number in_create + number in_delete
+
+-- what is asked for of what stands there itself: of a folder nothing, since inotify would tell of what is in it
+abbrev pub asked_of_file : NameWatch → Found → ℕ
+asked_of_file NameWatch.Own Found.File = number in_close_write
+asked_of_file NameWatch.Own Found.Other = number in_close_write
+asked_of_file watch found = 0
+
+-- ---- where it can't be watched, <errno.h>
+
+abbrev pub enoent : ℕ
+enoent = 2
+
+abbrev pub eacces : ℕ
+eacces = 13
+
+-- Whether something is missed then; 0 is no fault. What went is told of by its folder. What we may not read no look could read, and its folder tells when
+-- who may read it changes.
+abbrev pub is_file_missed : ℕ → Bool
+is_file_missed fault = not ((fault == 0) || (fault == enoent) || (fault == eacces))
 
 -- ---- what stands at a name, by st_mode and st_nlink
 

@@ -59,8 +59,10 @@ way_of Link last = Way.Follows
 way_of Folder false = Way.Enters
 way_of found last = Way.Ends
 
--- what it means if something comes to the file's own name; a link has the path go on elsewhere
+-- What it means if something comes to the file's own name. Where nothing is all names are watched anew then, so that the file gets a watch of its own; a
+-- link has the path go on elsewhere.
 abbrev pub heard_as_last : Found → Heard → Heard
+heard_as_last Missing role = Heard.Path
 heard_as_last Link role = Heard.Path
 heard_as_last Unseen role = Heard.Path
 heard_as_last found role = role

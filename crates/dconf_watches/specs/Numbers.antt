@@ -7,12 +7,12 @@ use Rattle.dconf_watches.specs.declared.name.Way.TheVariants.{Ends, Follows, Ent
 use Rattle.dconf_watches.specs.declared.event.Of.{Of}
 use Rattle.dconf_watches.specs.declared.event.Heard.{Heard}
 use Rattle.dconf_watches.specs.declared.numbers.WatchedName.{WatchedName}
-use Rattle.dconf_watches.specs.Inotify.{asked_of, seen_by}
+use Rattle.dconf_watches.specs.Inotify.{asked_of, asked_of_file, seen_by}
 use Rattle.dconf_watches.specs.Names.{heard_as, is_busy, is_busy_in, is_missed, is_needed, watch_at, watch_of, way_at, way_of}
 
--- to what of a name: an event has a name, if it isn't the folder's own
-abbrev pub of_what : Bool → Bool → Of
-of_what has_name is_same = if not has_name then Of.Folder else if is_same then Of.Name else Of.AnotherName
+-- to what of a name: an event is of the file's own watch, or of the folder's; then it has a name, if it isn't the folder's own
+abbrev pub of_what : Bool → Bool → Bool → Of
+of_what of_file has_name is_same = if of_file then Of.File else if not has_name then Of.Folder else if is_same then Of.Name else Of.AnotherName
 
 abbrev pub heard_of : ℕ → Heard
 heard_of n = if n == 0 then Heard.File else if n == 1 then Heard.Path else Heard.Nothing
@@ -58,6 +58,8 @@ watched_so minds folder name last found = watch_at name (watch_of found last (is
 pub record IsWatchedName (it : WatchedName) (minds : Bool) (folder name : List ℕ) (last is_unseen : Bool) (mode links followed : ℕ) (is_profile : Bool) : Type 0 where
   pub watched : it.watch ≡ name_watch_number (watched_so minds folder name last (seen_by is_unseen mode links))
   pub asked : it.asked ≡ asked_of (watched_so minds folder name last (seen_by is_unseen mode links))
+  -- of what stands there itself
+  pub asked_of_file : it.asked_of_file ≡ asked_of_file (watched_so minds folder name last (seen_by is_unseen mode links)) (seen_by is_unseen mode links)
   pub goes : it.way ≡ way_number (within followed (way_at name (way_of (seen_by is_unseen mode links) last)))
   pub needed : it.is_needed ≡ is_needed (watched_so minds folder name last (seen_by is_unseen mode links))
   pub heard : it.comes ≡ heard_number (heard_as (seen_by is_unseen mode links) last (role_of is_profile))

@@ -1,7 +1,8 @@
 //! What is heard of what happens in a folder.
 ghost use Rattle.std.specs.Prelude.{◌≡◌};
-ghost use Rattle.dconf_watches.specs.Events.{came, heard_of_folder, heard_of_name, louder, made, meaning};
+ghost use Rattle.dconf_watches.specs.Events.{asked_anew, came, heard_if, heard_of_file, heard_of_folder, heard_of_name, louder, made, may_be_another, meaning};
 
+use crate::inotify::asked_of_file;
 use crate::name::{Found, NameWatch};
 
 /// What happens.
@@ -31,6 +32,8 @@ pub enum Of {
     Name,
     /// The folder that the name is in, or that is watched itself.
     Folder,
+    /// The file itself, which has a watch of its own.
+    File,
     AnotherName,
 }
 
@@ -54,6 +57,7 @@ pub fn meaning(watch: NameWatch, comes: Heard, event: Event, of: Of, found: Foun
         (Event::Other, _) => Heard::Nothing,
         (_, Of::AnotherName) => Heard::Nothing,
         (_, Of::Folder) => heard_of_folder(watch, event),
+        (_, Of::File) => heard_of_file(watch, comes, event),
         (_, Of::Name) => heard_of_name(watch, comes, event, found),
     }
 }
@@ -70,6 +74,15 @@ fn heard_of_folder(watch: NameWatch, event: Event) -> Heard
     }
 }
 
+fn heard_of_file(watch: NameWatch, comes: Heard, event: Event) -> Heard
+    ensures { result ≡ heard_of_file watch comes event }
+{
+    match (watch, event) {
+        (NameWatch::Own, Event::Written) => comes,
+        _ => Heard::Nothing,
+    }
+}
+
 fn heard_of_name(watch: NameWatch, comes: Heard, event: Event, found: Found) -> Heard
     ensures { result ≡ heard_of_name watch comes event found }
 {
@@ -82,6 +95,7 @@ fn heard_of_name(watch: NameWatch, comes: Heard, event: Event, found: Found) -> 
         (NameWatch::Passage, Event::Made) => made(comes, found),
         (NameWatch::Awaited, Event::Made) => made(comes, found),
         (NameWatch::Own, Event::Made) => Heard::Nothing,
+        (NameWatch::Own, Event::Written) => Heard::Nothing,
         (NameWatch::Passage, _) => Heard::Nothing,
         _ => comes,
     }
@@ -106,6 +120,34 @@ fn came(comes: Heard, found: Found) -> Heard
         Found::Link => Heard::Path,
         Found::Unseen => Heard::Path,
         _ => comes,
+    }
+}
+
+/// The same, or that all names are to be watched anew, if the file that has the name can't be watched.
+pub fn heard_if(is_missed: bool, heard: Heard) -> Heard
+    ensures { result ≡ heard_if is_missed heard }
+{
+    if is_missed { Heard::Path } else { heard }
+}
+
+/// What inotify is asked for of the file itself that has the name by now, after an event: 0 is nothing. Its own watch goes with the file, and not with the
+/// name: so another file gets one, and the same one where it may be read at last.
+pub fn asked_anew(watch: NameWatch, event: Event, of: Of, found: Found) -> u32
+    ensures { result ≡ asked_anew watch event of found }
+{
+    match of {
+        Of::Name if may_be_another(event) => asked_of_file(watch, found),
+        _ => 0,
+    }
+}
+
+fn may_be_another(event: Event) -> bool
+    ensures { result ≡ may_be_another event }
+{
+    match event {
+        Event::Came => true,
+        Event::Access => true,
+        _ => false,
     }
 }
 

@@ -1,6 +1,6 @@
 //! The numbers of inotify and of stat: what is asked for, what is told, and what stands at a name.
 ghost use Rattle.std.specs.Prelude.{◌≡◌};
-ghost use Rattle.dconf_watches.specs.Inotify.{asked_of, event_in, found_by, has, seen_by};
+ghost use Rattle.dconf_watches.specs.Inotify.{asked_of, asked_of_file, event_in, found_by, has, is_file_missed, seen_by};
 
 use crate::event::Event;
 use crate::name::{Found, NameWatch};
@@ -24,6 +24,10 @@ const IN_MOVE_SELF: u32 = 0x800;
 const IN_UNMOUNT: u32 = 0x2000;
 
 const IN_Q_OVERFLOW: u32 = 0x4000;
+
+const ENOENT: u32 = 2;
+
+const EACCES: u32 = 13;
 
 const S_IFMT: u32 = 0o170000;
 
@@ -63,7 +67,7 @@ fn has(mask: u32, bits: u32) -> bool
     mask & bits != 0
 }
 
-/// What inotify is asked for.
+/// What inotify is asked for of the folder.
 pub fn asked_of(watch: NameWatch) -> u32
     ensures { result ≡ asked_of watch }
 {
@@ -71,11 +75,30 @@ pub fn asked_of(watch: NameWatch) -> u32
         NameWatch::Nothing => 0,
         NameWatch::Itself => IN_DELETE_SELF + IN_MOVE_SELF,
         NameWatch::Passage => IN_MOVED_FROM + IN_MOVED_TO + IN_CREATE + IN_DELETE,
-        NameWatch::Own => IN_ATTRIB + IN_CLOSE_WRITE + IN_MOVED_FROM + IN_MOVED_TO + IN_DELETE,
+        NameWatch::Own => IN_ATTRIB + IN_MOVED_FROM + IN_MOVED_TO + IN_DELETE,
         NameWatch::Awaited => {
             IN_ATTRIB + IN_CLOSE_WRITE + IN_MOVED_FROM + IN_MOVED_TO + IN_CREATE + IN_DELETE
         }
     }
+}
+
+/// What it is asked for of what stands at the name itself: of a folder nothing.
+pub fn asked_of_file(watch: NameWatch, found: Found) -> u32
+    ensures { result ≡ asked_of_file watch found }
+{
+    match (watch, found) {
+        (NameWatch::Own, Found::File) => IN_CLOSE_WRITE,
+        (NameWatch::Own, Found::Other) => IN_CLOSE_WRITE,
+        _ => 0,
+    }
+}
+
+/// Whether something is missed if that can't be watched, by the errno; 0 is none. What went is told of by its folder, and what we may not read no look could
+/// read.
+pub fn is_file_missed(fault: u32) -> bool
+    ensures { result ≡ is_file_missed fault }
+{
+    fault != 0 && fault != ENOENT && fault != EACCES
 }
 
 /// What stands at a name, by the mode of the file and how many names it has. A mode without a kind is none's.

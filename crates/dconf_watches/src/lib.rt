@@ -9,7 +9,7 @@
 
 ghost use Rattle.dconf_watches.specs.Flags.{NoReaderIsLost};
 ghost use Rattle.dconf_watches.specs.Rounds.{RoundsEnd};
-ghost use Rattle.dconf_watches.specs.WatchLaws.{AllThatCountsIsAskedFor, AllThatCountsIsHeard, AllThatIsHeardIsAskedFor, EachBitIsRead, NobodyElseIsHeard, TheEndIsWatched};
+ghost use Rattle.dconf_watches.specs.WatchLaws.{AllThatCountsIsAskedFor, AllThatCountsIsHeard, AllThatIsHeardIsAskedFor, EachBitIsRead, EachFileIsFollowed, NobodyElseIsHeard, TheEndIsWatched, WritersBesideWakeNobody};
 
 mod event;
 mod flag;
@@ -18,14 +18,14 @@ mod name;
 mod numbers;
 mod rounds;
 
-pub use event::{Event, Heard, Of, louder, meaning};
+pub use event::{Event, Heard, Of, asked_anew, heard_if, louder, meaning};
 pub use flag::{Flagging, flag_after, flag_number};
-pub use inotify::{asked_of, event_in, found_by, seen_by};
+pub use inotify::{asked_of, asked_of_file, event_in, found_by, is_file_missed, seen_by};
 pub use name::{
     Found, NameWatch, Way, heard_as, is_busy, is_busy_in, is_missed, is_needed, keeps_profile,
     minds_much, watch_at, watch_of, way_at, way_of,
 };
-pub use numbers::{WatchedName, heard_number, watched_name};
+pub use numbers::{WatchedName, asked_anew_number, heard_number, watched_name};
 pub use rounds::{AfterRound, Sight, WatchRounds};
 
 /// Where a path ends, what comes to that name is watched, and so is each link. Only in a folder in which much happens, and which is not
@@ -40,7 +40,7 @@ pub fn all_that_counts_is_heard()
     ensures { AllThatCountsIsHeard }
 {}
 
-/// What happens to other names is not heard: so what is written beside a file wakes nobody.
+/// What happens to other names is not heard.
 pub fn nobody_else_is_heard()
     ensures { NobodyElseIsHeard }
 {}
@@ -50,7 +50,7 @@ pub fn each_bit_is_read()
     ensures { EachBitIsRead }
 {}
 
-/// Whatever would be heard is asked for.
+/// Whatever would be heard is asked for, of the folder or of the file that has the name.
 pub fn all_that_is_heard_is_asked_for()
     ensures { AllThatIsHeardIsAskedFor }
 {}
@@ -58,6 +58,16 @@ pub fn all_that_is_heard_is_asked_for()
 /// Whatever counts at a file's own name is asked for.
 pub fn all_that_counts_is_asked_for()
     ensures { AllThatCountsIsAskedFor }
+{}
+
+/// Who makes, writes and closes a file beside one that is there wakes nobody: of its folder none of that is asked for.
+pub fn writers_beside_wake_nobody()
+    ensures { WritersBesideWakeNobody }
+{}
+
+/// The file that has the name is watched, whichever that is by now: another that comes there, and one that may be read at last.
+pub fn each_file_is_followed()
+    ensures { EachFileIsFollowed }
 {}
 
 /// All is watched only if the last round found nothing more and missed nothing that is needed; and after 64 rounds there is no other one.

@@ -102,12 +102,13 @@ pub fn way_of(found: Found, is_last: bool) -> Way
     }
 }
 
-/// What it means if something comes there: of a file's own name what the file is; but a link, or what may be one, and a name on the way, make
-/// another path.
+/// What it means if something comes there: of a file's own name what the file is; but where nothing is all names are watched anew then, and a link, or what
+/// may be one, and a name on the way, make another path.
 pub fn heard_as(found: Found, is_last: bool, role: Heard) -> Heard
     ensures { result ≡ heard_as found is_last role }
 {
     match (found, is_last) {
+        (Found::Missing, true) => Heard::Path,
         (Found::Link, true) => Heard::Path,
         (Found::Unseen, true) => Heard::Path,
         (_, true) => role,

@@ -1,19 +1,19 @@
 //! The same as plain numbers, for a caller that is not Rust.
 ghost use Rattle.std.specs.Prelude.{◌≡◌};
-ghost use Rattle.dconf_watches.specs.Events.{louder, meaning};
-ghost use Rattle.dconf_watches.specs.Inotify.{event_in, seen_by};
+ghost use Rattle.dconf_watches.specs.Events.{asked_anew, heard_if, louder, meaning};
+ghost use Rattle.dconf_watches.specs.Inotify.{event_in, is_file_missed, seen_by};
 ghost use Rattle.dconf_watches.specs.Names.{heard_as, way_at, way_of};
 ghost use Rattle.dconf_watches.specs.Numbers.{IsWatchedName, heard_number, heard_of, name_watch_number, name_watch_of, of_what, role_of, watched_so, way_number, within};
 
-use crate::event::{Heard, Of, louder, meaning};
-use crate::inotify::{asked_of, event_in, seen_by};
+use crate::event::{Heard, Of, asked_anew, heard_if, louder, meaning};
+use crate::inotify::{asked_of, asked_of_file, event_in, is_file_missed, seen_by};
 use crate::name::{
     Found, NameWatch, Way, heard_as, is_busy, is_busy_in, is_missed, is_needed, watch_at, watch_of,
     way_at, way_of,
 };
 
 /// What is watched of a name: 0 nothing, 1 the folder itself, 2 a name on the way, 3 the file's own, 4 that, and what is made there;
-/// what inotify is asked for; where the path goes on: 0 nowhere, 1 where the link leads, 2 in the folder, 3 where it was, 4 in the folder
+/// what inotify is asked for of the folder, and of what stands there itself; where the path goes on: 0 nowhere, 1 where the link leads, 2 in the folder, 3 where it was, 4 in the folder
 /// above; what it means if something comes there: 0 the file may have changed, 1 other files may be the store's; whether
 /// something would be missed without it; and whether something is, whatever is watched.
 #[repr(C)]
@@ -21,6 +21,7 @@ use crate::name::{
 pub struct WatchedName {
     watch: u32,
     asked: u32,
+    asked_of_file: u32,
     way: u32,
     comes: u32,
     is_needed: bool,
@@ -48,6 +49,7 @@ pub fn watched_name(
     WatchedName {
         watch: watch_number(watch),
         asked: asked_of(watch),
+        asked_of_file: asked_of_file(watch, found),
         way: way_number(within(followed, way_at(name, way_of(found, is_last)))),
         comes: heard_number_of(heard_as(found, is_last, role_of(is_profile))),
         is_needed: is_needed(watch),
@@ -90,35 +92,61 @@ fn watched_so(minds: bool, folder: &[u8], name: &[u8], is_last: bool, found: Fou
 }
 
 /// As [`meaning`], and what was heard before, if that means more: 0 the file may have changed, 1 other files may be the store's, 2 nothing.
-/// The mask says what happens, to a name if the event has one, which is the same as the watched one or not; and what stands at that by
-/// now, as for [`watched_name`].
+/// The mask says what happens: to the file itself, or in the folder, to a name if the event has one, which is the same as the watched one or not; and what
+/// stands at that by now, as for [`watched_name`]. The file that has the name by now could be watched (`fault` 0), or needn't be, or not, by that errno.
 pub fn heard_number(
     before: u32,
     watch: u32,
     comes: u32,
     mask: u32,
+    of_file: bool,
+    has_name: bool,
+    is_same: bool,
+    fault: u32,
+    is_unseen: bool,
+    mode: u32,
+    links: u64,
+) -> u32
+    ensures { result ≡ heard_number (louder (heard_of before) (heard_if (is_file_missed fault) (meaning (name_watch_of watch) (heard_of comes) (event_in mask) (of_what of_file has_name is_same) (seen_by is_unseen mode links)))) }
+{
+    let told = meaning(
+        watch_of_number(watch),
+        heard_of(comes),
+        event_in(mask),
+        of_what(of_file, has_name, is_same),
+        seen_by(is_unseen, mode, links),
+    );
+    let now = heard_if(is_file_missed(fault), told);
+    heard_number_of(louder(heard_of(before), now))
+}
+
+/// As [`asked_anew`], of the same numbers.
+pub fn asked_anew_number(
+    watch: u32,
+    mask: u32,
+    of_file: bool,
     has_name: bool,
     is_same: bool,
     is_unseen: bool,
     mode: u32,
     links: u64,
 ) -> u32
-    ensures { result ≡ heard_number (louder (heard_of before) (meaning (name_watch_of watch) (heard_of comes) (event_in mask) (of_what has_name is_same) (seen_by is_unseen mode links))) }
+    ensures { result ≡ asked_anew (name_watch_of watch) (event_in mask) (of_what of_file has_name is_same) (seen_by is_unseen mode links) }
 {
-    let now = meaning(
+    asked_anew(
         watch_of_number(watch),
-        heard_of(comes),
         event_in(mask),
-        of_what(has_name, is_same),
+        of_what(of_file, has_name, is_same),
         seen_by(is_unseen, mode, links),
-    );
-    heard_number_of(louder(heard_of(before), now))
+    )
 }
 
-fn of_what(has_name: bool, is_same: bool) -> Of
-    ensures { result ≡ of_what has_name is_same }
+fn of_what(of_file: bool, has_name: bool, is_same: bool) -> Of
+    ensures { result ≡ of_what of_file has_name is_same }
 {
-    if !has_name {
+    if of_file {
+        Of::File
+    } else if !has_name {
         Of::Folder
     } else if is_same {
         Of::Name

@@ -1,15 +1,15 @@
 //! What is watched of the names on the way to a file, and what is heard of them.
 ghost use Rattle.std.specs.Prelude.{◌≡◌, ◌≢◌};
-ghost use Rattle.dconf_watches.specs.Events.{louder, meaning};
+ghost use Rattle.dconf_watches.specs.Events.{asked_anew, heard_if, louder, meaning};
 ghost use Rattle.dconf_watches.specs.Flags.{flag_after, flag_number};
-ghost use Rattle.dconf_watches.specs.Inotify.{event_in, seen_by};
+ghost use Rattle.dconf_watches.specs.Inotify.{event_in, is_file_missed, seen_by};
 ghost use Rattle.dconf_watches.specs.Names.{keeps_profile, minds_much};
 ghost use Rattle.dconf_watches.specs.Numbers.{IsWatchedName, heard_number, heard_of, name_watch_of, of_what};
 ghost use Rattle.dconf_watches.specs.Rounds.{after_number, after_round, begun, gone_through, rounds_of, sight_of};
 
 use dconf_watches::{
-    Sight, WatchRounds, WatchedName, flag_number, heard_number, keeps_profile, minds_much,
-    watched_name,
+    Sight, WatchRounds, WatchedName, asked_anew_number, flag_number, heard_number, is_file_missed,
+    keeps_profile, minds_much, watched_name,
 };
 
 /// Whether who watches minds much that happens: 0 the library's caller, 1 the module, 2 libdconf, 3 the command, 4 the service.
@@ -74,25 +74,55 @@ pub extern "C" fn dconfdb_watch_round(
     rounds.after().number()
 }
 
-/// What is heard of an event of that mask, and before it: 0 the file may have changed, 1 other files may be the store's, 2 nothing. `watch`
-/// and `comes` are of the watched name. The event has a name or not, which is that one or not; `mode` and `links` are of what stands
-/// there by now, unless that can't be seen.
+/// What inotify is asked for of the file itself that has the name by now, after an event of that mask: 0 is nothing. The event is of the file's own watch
+/// (`of_file`), or of its folder's, and has a name or not, which is that one or not; `mode` and `links` are of what stands there by now, unless that can't be
+/// seen.
 #[unsafe(no_mangle)]
-pub extern "C" fn dconfdb_heard(
-    before: u32,
+pub extern "C" fn dconfdb_asked_anew(
     watch: u32,
-    comes: u32,
     mask: u32,
+    of_file: bool,
     has_name: bool,
     is_same: bool,
     is_unseen: bool,
     mode: u32,
     links: u64,
 ) -> u32
-    ensures { result ≡ heard_number (louder (heard_of before) (meaning (name_watch_of watch) (heard_of comes) (event_in mask) (of_what has_name is_same) (seen_by is_unseen mode links))) }
+    ensures { result ≡ asked_anew (name_watch_of watch) (event_in mask) (of_what of_file has_name is_same) (seen_by is_unseen mode links) }
+{
+    asked_anew_number(
+        watch, mask, of_file, has_name, is_same, is_unseen, mode, links,
+    )
+}
+
+/// Whether something is missed if the file itself can't be watched, by the errno; 0 is none.
+#[unsafe(no_mangle)]
+pub extern "C" fn dconfdb_is_file_missed(fault: u32) -> bool
+    ensures { result ≡ is_file_missed fault }
+{
+    is_file_missed(fault)
+}
+
+/// What is heard of such an event, and before it: 0 the file may have changed, 1 other files may be the store's, 2 nothing. `watch` and `comes` are of the
+/// watched name. The file that has the name by now could be watched (`fault` 0), or needn't be, or not, by that errno.
+#[unsafe(no_mangle)]
+pub extern "C" fn dconfdb_heard(
+    before: u32,
+    watch: u32,
+    comes: u32,
+    mask: u32,
+    of_file: bool,
+    has_name: bool,
+    is_same: bool,
+    fault: u32,
+    is_unseen: bool,
+    mode: u32,
+    links: u64,
+) -> u32
+    ensures { result ≡ heard_number (louder (heard_of before) (heard_if (is_file_missed fault) (meaning (name_watch_of watch) (heard_of comes) (event_in mask) (of_what of_file has_name is_same) (seen_by is_unseen mode links)))) }
 {
     heard_number(
-        before, watch, comes, mask, has_name, is_same, is_unseen, mode, links,
+        before, watch, comes, mask, of_file, has_name, is_same, fault, is_unseen, mode, links,
     )
 }
 

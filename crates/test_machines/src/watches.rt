@@ -1,8 +1,8 @@
 //! What is watched of the names on the way to a file, and what is heard of what inotify tells.
 use dconf_watches::{
-    Event, Found, NameWatch, Sight, WatchRounds, Way, asked_of, event_in, flag_number, found_by,
-    heard_number, is_busy, is_busy_in, is_missed, is_needed, keeps_profile, minds_much, seen_by,
-    watch_at, way_at,
+    Event, Found, Heard, NameWatch, Sight, WatchRounds, Way, asked_anew_number, asked_of,
+    asked_of_file, event_in, flag_number, found_by, heard_as, heard_number, is_busy, is_busy_in,
+    is_file_missed, is_missed, is_needed, keeps_profile, minds_much, seen_by, watch_at, way_at,
 };
 use std::test::Fail;
 
@@ -16,7 +16,26 @@ const LINK: u32 = 0o120777;
 
 /// What is heard at a file's own name, at which that stands by then, of a mask that has its name.
 fn heard_at(watch: u32, mask: u32, mode: u32) -> u32 {
-    heard_number(NOTHING, watch, 0, mask, true, true, false, mode, 1)
+    heard_number(
+        NOTHING, watch, 0, mask, false, true, true, 0, false, mode, 1,
+    )
+}
+
+/// What is heard of an event of the file's own watch.
+fn heard_of_file(watch: u32, mask: u32) -> u32 {
+    heard_number(NOTHING, watch, 0, mask, true, false, false, 0, false, 0, 0)
+}
+
+/// What is heard once another file has come, which could be watched or not, by that errno.
+fn heard_with(fault: u32) -> u32 {
+    heard_number(
+        NOTHING, 3, 0, 0x80, false, true, true, fault, false, FILE, 1,
+    )
+}
+
+/// What is asked for of the file that has the name after that.
+fn asked_after(watch: u32, mask: u32, mode: u32) -> u32 {
+    asked_anew_number(watch, mask, false, true, true, false, mode, 1)
 }
 
 fn events_are_read() -> bool {
@@ -50,23 +69,55 @@ fn what_stands_is_read() -> bool {
 fn names_are_heard() -> bool {
     heard_at(4, 0x100, FILE) == 2
         && heard_at(4, 0x100, LINK) == 1
-        && heard_at(3, 0x8, FILE) == 0
+        && heard_at(3, 0x8, FILE) == 2
+        && heard_at(4, 0x8, FILE) == 0
         && heard_at(3, 0x80, FILE) == 0
         && heard_at(3, 0x200, 0) == 1
         && heard_at(2, 0x8, FILE) == 2
-        && heard_number(NOTHING, 3, 0, 0x8, true, false, false, FILE, 1) == 2
-        && heard_number(NOTHING, 3, 0, 0x4, false, false, false, 0, 0) == 1
-        && heard_number(1, 3, 0, 0x8, true, true, false, FILE, 1) == 1
-        && heard_number(NOTHING, 0, 2, 0x4000, true, false, false, 0, 0) == 1
-        && heard_number(NOTHING, 4, 0, 0x100, true, true, true, 0, 0) == 1
+        && heard_number(NOTHING, 3, 0, 0x80, false, true, false, 0, false, FILE, 1) == 2
+        && heard_number(NOTHING, 3, 0, 0x4, false, false, false, 0, false, 0, 0) == 1
+        && heard_number(1, 3, 0, 0x80, false, true, true, 0, false, FILE, 1) == 1
+        && heard_number(NOTHING, 0, 2, 0x4000, false, true, false, 0, false, 0, 0) == 1
+        && heard_number(NOTHING, 4, 0, 0x100, false, true, true, 0, true, 0, 0) == 1
+}
+
+/// Who writes the file is told of by the file itself, and another one is watched once it has the name.
+fn files_are_followed() -> bool {
+    heard_of_file(3, 0x8) == 0
+        && heard_of_file(4, 0x8) == 2
+        && heard_of_file(3, 0x8000) == 2
+        && asked_after(3, 0x80, FILE) == 0x8
+        && asked_after(3, 0x4, FILE) == 0x8
+        && asked_after(3, 0x200, FILE) == 0
+        && asked_after(3, 0x80, LINK) == 0
+        && asked_after(4, 0x80, FILE) == 0
+        && asked_anew_number(3, 0x80, false, true, false, false, FILE, 1) == 0
+        && matches!(heard_as(Found::Missing, true, Heard::File), Heard::Path)
+        && matches!(heard_as(Found::File, true, Heard::File), Heard::File)
+}
+
+/// What went, and what may not be read, is not missed; but for want of memory or watches all are watched anew.
+fn faults_are_read() -> bool {
+    !is_file_missed(0)
+        && !is_file_missed(2)
+        && !is_file_missed(13)
+        && is_file_missed(28)
+        && is_file_missed(12)
+        && heard_with(0) == 0
+        && heard_with(13) == 0
+        && heard_with(28) == 1
 }
 
 fn all_that_is_heard_is_asked_for() -> bool {
     asked_of(NameWatch::Nothing) == 0
         && asked_of(NameWatch::Itself) == 0xc00
         && asked_of(NameWatch::Passage) == 0x3c0
-        && asked_of(NameWatch::Own) == 0x2cc
+        && asked_of(NameWatch::Own) == 0x2c4
         && asked_of(NameWatch::Awaited) == 0x3cc
+        && asked_of_file(NameWatch::Own, Found::File) == 0x8
+        && asked_of_file(NameWatch::Own, Found::Other) == 0x8
+        && asked_of_file(NameWatch::Own, Found::Folder) == 0
+        && asked_of_file(NameWatch::Awaited, Found::Missing) == 0
         && is_needed(NameWatch::Own)
         && !is_needed(NameWatch::Itself)
 }
@@ -135,6 +186,7 @@ fn names_are_watched_and_heard(rt: HostRuntime) -> Result<(), Fail> {
             && names_are_heard()
             && all_that_is_heard_is_asked_for()
     );
+    assert!(rt; files_are_followed() && faults_are_read());
     assert!(rt; names_are_gone_through());
     assert!(rt;
         minds_much(3) && minds_much(4) && !minds_much(0) && !minds_much(1) && !minds_much(2)
