@@ -85,7 +85,7 @@ static void dconfdb_backend_finalize(GObject *object)
  * system. */
 static void __attribute__((destructor)) end_all(void)
 {
-    if (!mutex_lock_until(&living_lock, g_get_monotonic_time() + G_USEC_PER_SEC)) {
+    if (!mutex_lock_until(&living_lock, g_get_monotonic_time() + (gint64)dconfdb_patience_for(DCONFDB_PATIENCE_REST))) {
         worker_end_unseen();
         return;
     }

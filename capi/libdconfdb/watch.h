@@ -43,6 +43,9 @@ bool watch_files(Watch *watch, const char *files, int profiles);
 /* The same of the files that the store at that place has now. */
 bool watch_begin(Watch *watch, const StorePlace *place);
 
+/* And of so many others, a zero byte after each, that may have another store opened. */
+bool watch_begin_with(Watch *watch, const StorePlace *place, const char *others, int count);
+
 /* Watches the files of a store that stays open, whatever its profile names by then. */
 bool watch_store(Watch *watch, const DconfdbStore *store);
 

@@ -228,11 +228,14 @@ static void watch_path(Watch *watch, DconfdbWatchRounds *rounds, const char *pat
         dconfdb_watch_round(rounds, DCONFDB_WATCHING_NAME, false, false, true);
 }
 
-/* The names of the files, of which so many come first that may be the profile; where these aren't all, others are missed. */
+/* The names of the files, of which so many come first that may be the profile; where these aren't all, others are missed. And so many of others that may name
+ * another store. */
 typedef struct {
     const char *at;
     int profiles;
     bool are_all;
+    const char *others;
+    int count;
 } Names;
 
 /* All names once. Gives what comes then. */
@@ -242,6 +245,9 @@ static uint32_t go_through(Watch *watch, DconfdbWatchRounds *rounds, const Names
     dconfdb_watch_round(rounds, DCONFDB_WATCHING_BEGINS, false, false, false);
     for (const char *at = names->at; *at; at = next_text(at))
         watch_path(watch, rounds, at, count++ < names->profiles);
+    const char *other = names->others;
+    for (count = 0; count < names->count; count++, other = next_text(other))
+        watch_path(watch, rounds, other, true);
     return dconfdb_watch_round(rounds, DCONFDB_WATCHING_NAME, names->are_all, false, true);
 }
 
@@ -273,13 +279,18 @@ static bool watch_names(Watch *watch, const Names *names)
 
 bool watch_files(Watch *watch, const char *files, int profiles)
 {
-    const Names names = {files, profiles, true};
+    const Names names = {.at = files, .profiles = profiles, .are_all = true};
     return watch_names(watch, &names);
 }
 
 bool watch_begin(Watch *watch, const StorePlace *place)
 {
-    Names names = {NULL, 0, false};
+    return watch_begin_with(watch, place, NULL, 0);
+}
+
+bool watch_begin_with(Watch *watch, const StorePlace *place, const char *others, int count)
+{
+    Names names = {.others = others, .count = count};
     char *files = has_inotify(watch) ? place_files(place, &names.profiles, &names.are_all, NULL) : NULL;
     names.at = files;
     bool is_whole = watch_names(watch, &names);

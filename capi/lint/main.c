@@ -28,12 +28,20 @@ void find_no_file(const char *file, int fault)
         find(NO_FILE, at, "Device: %s", g_strerror(fault));
 }
 
+/* The same of a kind. */
+static int read_as(const char *file, uint32_t kind, FileWanted *is_wanted, FileBytes *bytes, FileState *state)
+{
+    bool may_map = false;
+    uint64_t most = dconfdb_largest(kind, &may_map);
+    return file_read(AT_FDCWD, file, may_map, is_wanted, most, bytes, state);
+}
+
 /* What a file holds. A text past its largest size is not read, of which there are a few bytes then. */
 static int read_file(const char *file, FileBytes *bytes, FileState *state)
 {
-    int fault = file_read(AT_FDCWD, file, false, NULL, dconfdb_largest(DCONFDB_SIZE_PROFILE), bytes, state);
+    int fault = read_as(file, DCONFDB_SIZE_PROFILE, NULL, bytes, state);
     if (fault == EOVERFLOW)
-        fault = file_read(AT_FDCWD, file, false, dconfdb_is_database_head, dconfdb_largest(DCONFDB_SIZE_DATABASE), bytes, state);
+        fault = read_as(file, DCONFDB_SIZE_DATABASE, dconfdb_is_database_head, bytes, state);
     return fault;
 }
 

@@ -149,11 +149,13 @@ static void make_folder(const char *path)
         g_printerr("dconfdb-service: %s: %s\n", path, g_strerror(fault));
 }
 
+/* Where there is no runtime folder dconf's readers have no flag. */
 static void make_folders(const StorePlace *place)
 {
-    g_autofree char *flags = g_build_filename(g_get_user_runtime_dir(), "dconf", NULL);
+    g_autofree char *flags = place->runtime && *place->runtime ? g_build_filename(place->runtime, "dconf", NULL) : NULL;
     make_folder(place->folder);
-    make_folder(flags);
+    if (flags)
+        make_folder(flags);
 }
 
 /* False: there is no bus. */

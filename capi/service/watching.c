@@ -124,7 +124,8 @@ static gboolean hear(int file, GIOCondition condition, gpointer data)
 /* The files that are the store's now: the profiles may name others by then. */
 static void begin(Writer *writer)
 {
-    watch_answer(writer->watch, watch_begin(writer->watch, place_of(writer->store)));
+    const Service *service = writer->service;
+    watch_answer(writer->watch, watch_begin_with(writer->watch, place_of(writer->store), service->files, service->profiles));
     if (writer->hears == 0 && watch_descriptor(writer->watch) >= 0)
         writer->hears = g_unix_fd_add(watch_descriptor(writer->watch), G_IO_IN, hear, writer);
 }

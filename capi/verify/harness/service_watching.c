@@ -183,7 +183,12 @@ void watch_opened_anew(Watch *watch)
     REACHED("other files are to be watched");
 }
 
-bool watch_begin(Watch *watch, const StorePlace *place) { (void)watch, (void)place; return any_bool(); }
+bool watch_begin_with(Watch *watch, const StorePlace *place, const char *others, int count)
+{
+    (void)watch, (void)place;
+    CHECK(others == service.files && count == service.profiles, "step: the profiles are watched, whichever store has the database");
+    return any_bool();
+}
 int watch_descriptor(const Watch *watch) { (void)watch; return descriptor; }
 void watch_hear(Watch *watch) { (void)watch; }
 void watch_pass_time(Watch *watch, bool listens) { (void)watch, (void)listens; }
