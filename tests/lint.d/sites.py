@@ -38,7 +38,8 @@ class Site:
         """A key that nothing sets yet, whose value has a double, or none."""
         while True:
             key = self.free.pop()
-            if ('d' in key.type) == is_double and 'v' not in key.type:
+            has_double = 'd' in key.type and not key.row(None, None).endswith('[]')  # an empty list has none
+            if has_double == is_double and ('d' in key.type) == is_double and 'v' not in key.type:
                 return key
 
     def add(self, name, lines, kind=None):
