@@ -58,7 +58,7 @@ def sanitized(both, name, what, *more):
     """The program and the library in one, made with a sanitizer."""
     capi = frame.TOP / 'capi'
     kit = Path(subprocess.run(['rt', 'doc'], capture_output=True, text=True, check=True).stdout.strip()).parent / 'c' / 'liblibc_c.a'
-    files = [*sorted((capi / 'libdconf').glob('*.c')), capi / 'common' / 'batch.c', *(capi / f'{it}.c' for it in (capi / 'sources').read_text(encoding='utf-8').split())]
+    files = [*sorted((capi / 'libdconf').glob('*.c')), capi / 'common' / 'batch.c', capi / 'common' / 'tried.c', *(capi / f'{it}.c' for it in (capi / 'sources').read_text(encoding='utf-8').split())]
     program = both.folder / f'{name}.{what.replace(",", ".")}'
     words = ['clang', '-std=gnu11', '-g', '-O1', f'-fsanitize={what}', '-fno-sanitize-recover=undefined', '-DG_LOG_DOMAIN="dconf"', f'-I{capi / "common"}', f'-I{capi / "libdconfdb"}']
     glib = shared.flags('gio-2.0', words=('--libs',))
