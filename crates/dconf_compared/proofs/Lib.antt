@@ -1,1 +1,2 @@
 pub mod BadPaths
+pub mod SearchedLocks

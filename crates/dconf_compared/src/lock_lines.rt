@@ -1,6 +1,9 @@
 //! A line for each lock that one of two ways to see layers has alone.
 ghost use Rattle.std.specs.Prelude.{◌≡◌, IfOk, codes, map, string_bytes};
+ghost use Rattle.std.specs.Cmp.Lexicographic.{slice_cmp};
+ghost use Rattle.std.specs.Ordering.{nat_cmp};
 ghost use Rattle.dconf_model.specs.Layers.{locks_below};
+ghost use Rattle.dconf_model.specs.Order.{IsRising};
 ghost use Rattle.dconf_layers.specs.LayerSettings.{seen_in};
 ghost use Rattle.dconf_compared.specs.Compared.{is_none_of, lock_line, lock_lines};
 
@@ -8,6 +11,7 @@ use dconf_engine::Engine;
 use dconf_layers::LentLayers;
 use dconf_path::DirPath;
 use std::alloc::{AllocError, Global};
+use std::cmp::Ordering;
 
 /// A line for each lock of the layers, from the second on, that the others don't have, after `start`.
 pub(crate) fn lock_lines(
@@ -23,7 +27,7 @@ pub(crate) fn lock_lines(
     lines_of(alloc, start, &locks, &other_locks)
 }
 
-/// The locks of the layers from the second on.
+/// The locks of the layers from the second on, in the order of their bytes.
 fn locks_of(alloc: Global, layers: LentLayers<'_, '_>) -> Result<Vec<String>, AllocError>
     ensures { IfOk result (λ locks. map string_bytes locks.items ≡ locks_below (seen_in layers.entry) (codes "/")) }
 {
@@ -31,12 +35,14 @@ fn locks_of(alloc: Global, layers: LentLayers<'_, '_>) -> Result<Vec<String>, Al
     engine.locks(alloc, DirPath::parse("/").unwrap())
 }
 
+/// A line for each lock that the others, in the order of their bytes, don't have.
 fn lines_of(
     alloc: Global,
     start: &str,
     locks: &[String],
     others: &[String],
 ) -> Result<String, AllocError>
+    requires { IsRising (map string_bytes others.now) }
     ensures { IfOk result (λ text. string_bytes text ≡ lock_lines start.now (map string_bytes locks.now) (map string_bytes others.now)) }
 {
     let mut text = String::new(alloc);
@@ -48,6 +54,7 @@ fn lines_of(
 }
 
 fn line_of(alloc: Global, start: &str, lock: &str, others: &[String]) -> Result<String, AllocError>
+    requires { IsRising (map string_bytes others.now) }
     ensures { IfOk result (λ line. string_bytes line ≡ lock_line start.now (map string_bytes others.now) lock.now) }
 {
     if is_none_of(others, lock) {
@@ -56,8 +63,18 @@ fn line_of(alloc: Global, start: &str, lock: &str, others: &[String]) -> Result<
     Ok(String::new(alloc))
 }
 
+/// Whether a path is none of these, which are in the order of their bytes: it is searched for by halving.
 fn is_none_of(paths: &[String], path: &str) -> bool
+    requires { IsRising (map string_bytes paths.now) }
     ensures { result ≡ is_none_of (map string_bytes paths.now) path.now }
 {
-    paths.iter().all(|other| other.as_str() != path)
+    paths
+        .binary_search_by(|other| order_of(other, path.as_bytes()))
+        .is_err()
+}
+
+fn order_of(other: &String, path: &[u8]) -> Ordering
+    ensures { result ≡ slice_cmp nat_cmp (string_bytes other.now) path.now }
+{
+    other.as_bytes().cmp(path)
 }
