@@ -67,7 +67,7 @@ module _ (first : Text → Option Text) (all : Text → Option (List Text)) wher
   Takes (Show type_text file) = Has (codes "TYPE") (string_bytes type_text) × Has (codes "FILE") (string_bytes file)
   Takes (Read default key profile) = HasFlag (codes "default") default × Has (codes "KEY") (string_bytes key) × HasProfile (string_bytes profile)
   Takes (Origin key profile) = Has (codes "KEY") (string_bytes key) × HasProfile (string_bytes profile)
-  Takes (Explain key profile) = Has (codes "KEY") (string_bytes key) × HasProfile (string_bytes profile)
+  Takes (Explain path profile) = Has (codes "PATH") (string_bytes path) × HasProfile (string_bytes profile)
   Takes (ListIt directory profile) = Has (codes "DIR") (string_bytes directory) × HasProfile (string_bytes profile)
   Takes (ListLocks directory profile) = Has (codes "DIR") (string_bytes directory) × HasProfile (string_bytes profile)
   Takes (Dump skip_doubles directory profile) = HasFlag (codes "skip-doubles") skip_doubles × Has (codes "DIR") (string_bytes directory) × HasProfile (string_bytes profile)

@@ -65,9 +65,13 @@ with_store line = with_rule (with_rule (with_rule line profile_option) user_flag
 abbrev pub read_line : App
 read_line = with_store (with_rule (with_rule (new_app (codes "read")) (required_word (codes "KEY"))) default_flag)
 
--- `NAME KEY`, such as `origin KEY`
-abbrev pub key_line : Text → App
-key_line name = with_store (with_rule (new_app name) (required_word (codes "KEY")))
+-- `origin KEY`
+abbrev pub origin_line : App
+origin_line = with_store (with_rule (new_app (codes "origin")) (required_word (codes "KEY")))
+
+-- `explain PATH`
+abbrev pub explain_line : App
+explain_line = with_store (with_rule (new_app (codes "explain")) (required_word (codes "PATH")))
 
 -- `repair FILE OUT`
 abbrev pub repair_line : App
@@ -117,7 +121,7 @@ dconfdb_line = record (new_app (codes "dconfdb")) {
 -- its commands, in the order of its help
 abbrev commands : List App
 commands =
-    read_line ∷ (write_line ∷ (reset_line ∷ (directory_line (codes "list") ∷ (dump_line ∷ (load_line ∷ (key_line (codes "origin") ∷ (key_line (codes "explain")
+    read_line ∷ (write_line ∷ (reset_line ∷ (directory_line (codes "list") ∷ (dump_line ∷ (load_line ∷ (origin_line ∷ (explain_line
     ∷ (directory_line (codes "list-locks") ∷ (diff_line ∷ (compile_line ∷ (update_line ∷ (check_line ∷ (repair_line ∷ (show_line ∷ []))))))))))))))
 
 abbrev pub command_line : App

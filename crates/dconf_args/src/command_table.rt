@@ -182,14 +182,14 @@ pub(crate) const COMMANDS: [Line<'static>; 15] = [
         ),
         words: &[word::KEY, Word::Profile, word::USER, Word::Store],
     },
-    // `explain KEY`.
+    // `explain PATH`.
     Line {
         name: "explain",
-        about: "Print what each database has for KEY, what is seen, and whether it can be set",
+        about: "Print what each database has for a key, what is seen, and whether it can be set",
         more: read_help!(
-            examples: "  dconfdb explain /org/desk/name"
+            examples: "  dconfdb explain /org/desk/name\n  dconfdb explain /org/desk/"
         ),
-        words: &[word::KEY, Word::Profile, word::USER, Word::Store],
+        words: &[word::EXPLAINED, Word::Profile, word::USER, Word::Store],
     },
     // `list-locks DIR`.
     Line {

@@ -87,6 +87,12 @@ pub(crate) const PATH: Word<'static> = Word::Required {
     help: "the path of a key or, with -f, of a directory such as /org/gnome/",
 };
 
+/// The path of a key that is explained, or of a directory.
+pub(crate) const EXPLAINED: Word<'static> = Word::Required {
+    name: "PATH",
+    help: "the path of a key or, if it ends in /, of a directory: then of each key below it",
+};
+
 /// The keyfiles that are read.
 pub(crate) const KEYFILE: Word<'static> = Word::Further {
     name: "KEYFILE",

@@ -105,7 +105,7 @@ fn asked(alloc: Global, name: &str, named: &ArgMatches<'_>) -> Result<Command, A
         "reset" => reset_asked(alloc, named),
         "load" => load_asked(alloc, named),
         "explain" => {
-            let (key, profile) = value_and_profile(alloc, named, "KEY")?;
+            let (key, profile) = value_and_profile(alloc, named, "PATH")?;
             Ok(Command::Explain { key, profile })
         }
         _ => show_asked(alloc, named),

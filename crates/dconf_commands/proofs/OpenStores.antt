@@ -6,6 +6,7 @@ use Rattle.dconf_model.specs.Explains.{explained}
 use Rattle.dconf_model.specs.Layers.{Layers, child_names, locks_below, origin, paths_below, visible, without_user}
 use Rattle.dconf_model.specs.Outcomes.{Gives, SavesSaying, done, dump_at, lines_text, origin_text, shown_if_any}
 use Rattle.dconf_model.specs.Profiles.{Database, user_file}
+use Rattle.dconf_commands.specs.Below.{explained_below}
 
 abbrev pub Made : Type 1
 Made = List Database → Layers → Gives
@@ -21,6 +22,10 @@ origin_named key = λ databases l o. o ≡ done (origin_text databases (origin l
 -- what explains a key
 abbrev pub key_explained : List ℕ → Made
 key_explained key = λ databases l o. o ≡ done (explained databases l key)
+
+-- what explains the keys below a directory
+abbrev pub keys_explained : List ℕ → Made
+keys_explained directory = λ databases l o. o ≡ done (explained_below databases l directory)
 
 -- the names in a directory
 abbrev pub names_listed : List ℕ → Made

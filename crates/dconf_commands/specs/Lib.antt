@@ -3,3 +3,4 @@ pub mod Stores
 pub mod Dumps
 pub mod Refusals
 pub mod Loads
+pub mod Below

@@ -30,6 +30,7 @@ use dconf_folders::Folder;
 use dconf_streams::{Answer, Counted, Refusal};
 use dump::dump;
 use explain::explain;
+pub(crate) use explain::explained_text;
 use list::{list, list_locks};
 use load::load;
 use origin::origin;

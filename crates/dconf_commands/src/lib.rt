@@ -9,6 +9,7 @@
 #![tactic(auto)]
 
 mod arguments;
+mod below;
 mod commands;
 mod dump_parts;
 mod printed_setting;
@@ -16,4 +17,5 @@ mod printed_value;
 mod store_files;
 mod user_database;
 
+pub use below::answered_below;
 pub use commands::answered;

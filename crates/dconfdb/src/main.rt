@@ -2,6 +2,7 @@
 //! name `dconf`, it has dconf's command line.
 #![tactic(auto)]
 
+mod below;
 mod by_name;
 mod compare;
 mod dry;
@@ -16,9 +17,10 @@ mod sources;
 mod stores;
 mod updates;
 
+use below::explain_below;
 use by_name::dconf;
 use compare::compare;
-use dconf_args::{Asked, command};
+use dconf_args::{Asked, Command, command};
 use dconf_by_name::is_run_as_dconf;
 use dconf_habits::{as_in_dconf, with_dashes};
 use dumps::run_or_dump;
@@ -80,6 +82,9 @@ fn main(rt: HostRuntime) -> ExitCode {
 fn done(rt: &HostRuntime, asked: Asked) -> u8 {
     match asked {
         Asked::Run { command, place } => {
+            if matches!(&command, Command::Explain { key, .. } if key.ends_with('/')) {
+                return explain_below(rt, command, place);
+            }
             let mut session = Session::on(rt.alloc(), rt.stdin(), rt.stdout(), rt.stderr());
             run_or_dump(rt, as_in_dconf(command), place, &mut session)
         }

@@ -47,7 +47,11 @@ pub(crate) fn run_at<I: Read, O: Write, E: Write>(
 }
 
 /// The command by the profile of its store, which is found.
-fn found_for(rt: &HostRuntime, asked: Command, place: Place) -> Result<(Command, Found), NotFound> {
+pub(crate) fn found_for(
+    rt: &HostRuntime,
+    asked: Command,
+    place: Place,
+) -> Result<(Command, Found), NotFound> {
     let found = enter(rt, place, asked.replaced().is_some())?;
     let profile = String::from_str(rt.alloc(), found.profile.path.as_str())?;
     Ok((asked.with_profile(profile), found))

@@ -1,6 +1,6 @@
 //! The sources in the current folder, of which `update` makes databases.
 use dconf_args::SourceFolder;
-use std::alloc::{AllocError, Global};
+use std::alloc::AllocError;
 use std::fs;
 use std::io::{self, ErrorKind};
 
@@ -21,7 +21,8 @@ impl From<AllocError> for Unread {
 pub(crate) fn names_in(rt: &HostRuntime, folder: &str) -> Result<Vec<String>, Unread> {
     match read_names(rt, folder) {
         Ok(names) => Ok(names),
-        Err(error) => Err(fault_of(rt.alloc(), folder, &error)),
+        Err(error) if error.kind() == ErrorKind::OutOfMemory => Err(Unread::Memory),
+        Err(_) => Err(Unread::Folder(String::from_str(rt.alloc(), folder)?)),
     }
 }
 
@@ -39,16 +40,6 @@ fn read_names(rt: &HostRuntime, folder: &str) -> io::Result<Vec<String>> {
 fn add<T: Drop>(list: &mut Vec<T>, it: T) -> Result<(), AllocError> {
     list.push(it)?;
     Ok(())
-}
-
-fn fault_of(alloc: Global, folder: &str, error: &io::Error) -> Unread {
-    if error.kind() == ErrorKind::OutOfMemory {
-        return Unread::Memory;
-    }
-    match String::from_str(alloc, folder) {
-        Ok(folder) => Unread::Folder(folder),
-        Err(_) => Unread::Memory,
-    }
 }
 
 /// Whether a folder has this name, or a link to one.
@@ -85,17 +76,14 @@ fn files_in(rt: &HostRuntime, folder: &str) -> Result<Vec<String>, Unread> {
     let mut files = Vec::new(alloc);
     for name in names_in(rt, folder)? {
         let path = format!(in alloc; "{folder}/{name}")?;
-        if is_source(rt, path.as_str()) {
+        // One that can't be looked at may be a file: `compile` says what is wrong with it.
+        let is_file = match fs::metadata(rt, path.as_str()) {
+            Ok(found) => found.is_file(),
+            Err(_) => true,
+        };
+        if is_file {
             add(&mut files, name)?;
         }
     }
     Ok(files)
-}
-
-/// Whether a file has this name. Of one that can't be looked at it may be, so that `compile` says what is wrong with it.
-fn is_source(rt: &HostRuntime, path: &str) -> bool {
-    match fs::metadata(rt, path) {
-        Ok(found) => found.is_file(),
-        Err(_) => true,
-    }
 }

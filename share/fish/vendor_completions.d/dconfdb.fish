@@ -45,7 +45,7 @@ complete -c dconfdb -n __fish_use_subcommand -f -a list -d 'List the keys and di
 complete -c dconfdb -n __fish_use_subcommand -f -a dump -d 'Print all values below DIR as a keyfile'
 complete -c dconfdb -n __fish_use_subcommand -f -a load -d 'Set keys below DIR from a keyfile on stdin'
 complete -c dconfdb -n __fish_use_subcommand -f -a origin -d 'Print which database the value of KEY comes from'
-complete -c dconfdb -n __fish_use_subcommand -f -a explain -d 'Print what each database has for KEY, what is seen, and whether it can be set'
+complete -c dconfdb -n __fish_use_subcommand -f -a explain -d 'Print what each database has for a key, what is seen, and whether it can be set'
 complete -c dconfdb -n __fish_use_subcommand -f -a list-locks -d 'List the locks on DIR and on paths below it'
 complete -c dconfdb -n __fish_use_subcommand -f -a diff -d 'Print which keys and locks differ between two stores or databases'
 complete -c dconfdb -n __fish_use_subcommand -f -a compile -d 'Compile keyfiles into the database OUT'

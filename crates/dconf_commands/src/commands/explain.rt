@@ -47,11 +47,22 @@ fn explained(
 ) -> Result<Answer, Refusal>
     ensures { GivesOutcome result (λ o. o ≡ done (explained (databases_of profile.now) engine.now (key_text key.entry))) }
 {
+    Ok(Answer::Done(explained_text(alloc, profile, engine, key)?))
+}
+
+/// What explains a key.
+pub(crate) fn explained_text(
+    alloc: Global,
+    profile: &Profile<'_>,
+    engine: &Engine<'_>,
+    key: KeyPath<'_>,
+) -> Result<String, AllocError>
+    ensures { IfOk result (λ text. string_bytes text ≡ explained (databases_of profile.entry.now) engine.entry.now (key_text key.entry)) }
+{
     let databases = database_lines(alloc, profile, engine, key)?;
     let seen = seen_line(alloc, profile, engine, key)?;
     let writable = writable_line(engine.is_writable(), engine.is_locked(key));
-    let text = format!(in alloc; "{databases}{seen}{writable}")?;
-    Ok(Answer::Done(text))
+    format!(in alloc; "{databases}{seen}{writable}")
 }
 
 /// What each database has for a key, a line each.

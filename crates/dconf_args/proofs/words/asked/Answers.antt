@@ -16,7 +16,7 @@ pub value_and_profile-requires-in-text : goal.value_and_profile-requires-in-text
 value_and_profile-requires-in-text c = given _ _ _ c.requires.named.1 (codes "list-locks") c.in-text.is (codes "DIR") refl refl
 
 pub value_and_profile-requires-in-explain : goal.value_and_profile-requires-in-explain
-value_and_profile-requires-in-explain c = given _ _ _ c.requires.named.1 (codes "explain") c.in-explain.is (codes "KEY") refl refl
+value_and_profile-requires-in-explain c = given _ _ _ c.requires.named.1 (codes "explain") c.in-explain.is (codes "PATH") refl refl
 
 pub compile_asked-requires : goal.compile_asked-requires
 compile_asked-requires c = given _ _ _ c.requires.named.1 (codes "compile") c.in-compile.is (codes "OUT") refl refl
