@@ -22,7 +22,7 @@ use Rattle.clap.specs.Words.{first_of}
 
 -- the ids of the options, of which nothing is said here: their values come after them, and may be missing till the next word
 abbrev pub is_option : Text → Bool
-is_option id = list_any (λ other. bytes_eq other id) (codes "locks" ∷ (codes "profile" ∷ (codes "user" ∷ (codes "store" ∷ (codes "default" ∷ (codes "force" ∷ (codes "skip-doubles" ∷ (codes "own" ∷ (codes "dry-run" ∷ [])))))))))
+is_option id = list_any (λ other. bytes_eq other id) (codes "locks" ∷ (codes "profile" ∷ (codes "user" ∷ (codes "store" ∷ (codes "default" ∷ (codes "force" ∷ (codes "skip-doubles" ∷ (codes "own" ∷ (codes "dry-run" ∷ (codes "json" ∷ []))))))))))
 
 -- there is a value, unless the argument is an option
 abbrev Holds : Text → List Text → Type 0

@@ -17,7 +17,7 @@ use Rattle.clap.specs.declared.parser.matches.ArgMatches.TheViews.{out-ArgMatche
 use Rattle.std.specs.Box.{box_value}
 use Rattle.clap.specs.declared.ArgMatches.{ArgMatches}
 use Rattle.clap.proofs.WalkLemmas.{first_value-rows, raw_values-rows}
-use Rattle.dconf_args.specs.Asked.{AsksToCompare, AsksToUpdate, HasValue, IsAskedBy, IsNamedBy, IsOf, IsParsedBy, IsPlacedBy, Takes, is_set}
+use Rattle.dconf_args.specs.Asked.{AsksToCompare, AsksToUpdate, HasValue, IsAskedBy, IsNamedBy, IsOf, IsFormedBy, IsParsedBy, IsPlacedBy, Takes, is_set}
 use Rattle.command_words.specs.declared.commands.Command.{Command}
 use Rattle.dconf_args.specs.CommandLine.{command_line, show_line}
 use Rattle.dconf_args.specs.declared.place.Place.{Place}
@@ -275,6 +275,14 @@ module _ (words : List Text) (name : Text) (sub : ArgMatches) (p : IsNamedBy wor
     folder_value = sym (first_value-rows (found_of sub) (codes "store")) ∙ sym f;
     profile_value = sym (first_value-rows (found_of sub) (codes "profile")) ∙ sym q;
     own_value = ap is_set (sym (first_value-rows (found_of sub) (codes "own"))) ∙ sym o;
+  }
+
+  pub formed_by : (is_json : Bool) → is_json ≡ is_set (first_value (found_of sub) (codes "json")) → IsFormedBy words is_json
+  formed_by is_json j = record {
+    name = name;
+    rows = rows_of (found_of sub);
+    named = p.named;
+    json_value = ap is_set (sym (first_value-rows (found_of sub) (codes "json"))) ∙ sym j;
   }
 
 -- ---- what a parse gave

@@ -115,8 +115,15 @@ pub record IsPlacedBy (words : List Text) (place : Place) : Type 0 where
   pub profile_value : first_of (codes "profile") rows ≡ option_map string_bytes place.profile
   pub own_value : is_set (first_of (codes "own") rows) ≡ place.is_own
 
+-- clap gives this value to the flag of the command, whichever it is, that asks for JSON
+pub record IsFormedBy (words : List Text) (is_json : Bool) : Type 0 where
+  pub name : Text
+  pub rows : List Row
+  pub named : subcommand_of command_line words ≡ Some (name, rows)
+  pub json_value : is_set (first_of (codes "json") rows) ≡ is_json
+
 -- all that the words ask for
 abbrev pub Asks : List Text → Asked → Type 0
-Asks words (Run command place) = IsAskedBy words command × IsPlacedBy words place
+Asks words (Run command place is_json) = IsAskedBy words command × (IsPlacedBy words place × IsFormedBy words is_json)
 Asks words (Update folder forces dry) = AsksToUpdate words (option_map string_bytes folder) forces dry
 Asks words (Diff old new) = AsksToCompare words (string_bytes old) (string_bytes new)

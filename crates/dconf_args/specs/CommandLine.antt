@@ -61,9 +61,13 @@ store_option = record (new_rule (codes "store")) { long = Some (codes "store"); 
 abbrev pub with_store : App → App
 with_store line = with_rule (with_rule (with_rule line profile_option) user_flag) store_option
 
--- `read [-d] KEY`
+-- `--json`
+abbrev pub json_flag : Rule
+json_flag = long_flag (codes "json")
+
+-- `read [-d] [--json] KEY`
 abbrev pub read_line : App
-read_line = with_store (with_rule (with_rule (new_app (codes "read")) (required_word (codes "KEY"))) default_flag)
+read_line = with_store (with_rule (with_rule (with_rule (new_app (codes "read")) (required_word (codes "KEY"))) default_flag) json_flag)
 
 -- `origin KEY`
 abbrev pub origin_line : App
@@ -77,17 +81,22 @@ explain_line = with_store (with_rule (new_app (codes "explain")) (required_word 
 abbrev pub repair_line : App
 repair_line = with_rule (with_rule (new_app (codes "repair")) (required_word (codes "FILE"))) (required_word (codes "OUT"))
 
--- `NAME DIR`, such as `list DIR`
-abbrev pub directory_line : Text → App
-directory_line name = with_store (with_rule (new_app name) (required_word (codes "DIR")))
+-- `list [--json] DIR`
+abbrev pub list_line : App
+list_line = with_store (with_rule (with_rule (new_app (codes "list")) (required_word (codes "DIR"))) json_flag)
+
+-- `list-locks DIR`
+abbrev pub list_locks_line : App
+list_locks_line = with_store (with_rule (new_app (codes "list-locks")) (required_word (codes "DIR")))
 
 -- `--skip-doubles`
 abbrev pub skip_doubles_flag : Rule
 skip_doubles_flag = long_flag (codes "skip-doubles")
 
--- `dump [--skip-doubles] [--own] DIR`
+-- `dump [--skip-doubles] [--own] [--json] DIR`
 abbrev pub dump_line : App
-dump_line = with_store (with_rule (with_rule (with_rule (new_app (codes "dump")) (required_word (codes "DIR"))) skip_doubles_flag) (long_flag (codes "own")))
+dump_line =
+    with_store (with_rule (with_rule (with_rule (with_rule (new_app (codes "dump")) (required_word (codes "DIR"))) skip_doubles_flag) (long_flag (codes "own"))) json_flag)
 
 -- `write KEY VALUE`
 abbrev pub write_line : App
@@ -121,8 +130,8 @@ dconfdb_line = record (new_app (codes "dconfdb")) {
 -- its commands, in the order of its help
 abbrev commands : List App
 commands =
-    read_line ∷ (write_line ∷ (reset_line ∷ (directory_line (codes "list") ∷ (dump_line ∷ (load_line ∷ (origin_line ∷ (explain_line
-    ∷ (directory_line (codes "list-locks") ∷ (diff_line ∷ (compile_line ∷ (update_line ∷ (check_line ∷ (repair_line ∷ (show_line ∷ []))))))))))))))
+    read_line ∷ (write_line ∷ (reset_line ∷ (list_line ∷ (dump_line ∷ (load_line ∷ (origin_line ∷ (explain_line
+    ∷ (list_locks_line ∷ (diff_line ∷ (compile_line ∷ (update_line ∷ (check_line ∷ (repair_line ∷ (show_line ∷ []))))))))))))))
 
 abbrev pub command_line : App
 command_line = fold (λ line command. with_subcommand line command.top) dconfdb_line commands

@@ -84,7 +84,7 @@ Exit status:
 
 /// The commands, in the order of the program's help: a store's, then a site's, then those of single files.
 pub(crate) const COMMANDS: [Line<'static>; 15] = [
-    // `read [-d] KEY`.
+    // `read [-d] [--json] KEY`.
     Line {
         name: "read",
         about: "Print the value of KEY, or nothing if it has none",
@@ -94,6 +94,7 @@ pub(crate) const COMMANDS: [Line<'static>; 15] = [
         words: &[
             word::KEY,
             word::DEFAULT,
+            word::JSON,
             Word::Profile,
             word::USER,
             Word::Store,
@@ -131,26 +132,33 @@ pub(crate) const COMMANDS: [Line<'static>; 15] = [
             Word::Store,
         ],
     },
-    // `list DIR`.
+    // `list [--json] DIR`.
     Line {
         name: "list",
         about: "List the keys and directories directly below DIR",
         more: read_help!(
             examples: "  dconfdb list /org/desk/"
         ),
-        words: &[word::DIR, Word::Profile, word::USER, Word::Store],
+        words: &[
+            word::DIR,
+            word::JSON_NAMES,
+            Word::Profile,
+            word::USER,
+            Word::Store,
+        ],
     },
-    // `dump [--skip-doubles] [--own] DIR`.
+    // `dump [--skip-doubles] [--own] [--json] DIR`.
     Line {
         name: "dump",
         about: "Print all values below DIR as a keyfile",
         more: read_help!(
-            examples: "  dconfdb dump /org/desk/ > desk.keys"
+            examples: "  dconfdb dump /org/desk/ > desk.keys\n  dconfdb dump --json /org/desk/ > desk.json"
         ),
         words: &[
             word::DIR,
             word::NAMING_DOUBLES,
             word::OWN,
+            word::JSON,
             Word::Profile,
             word::USER,
             Word::Store,

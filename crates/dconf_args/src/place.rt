@@ -22,6 +22,8 @@ pub enum Asked {
     Run {
         command: Command,
         place: Place,
+        /// What it prints is JSON, `--json`.
+        is_json: bool,
     },
     /// To make the databases of a folder that are not what their sources say; if none is named, of the one for all users.
     Update {

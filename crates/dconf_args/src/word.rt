@@ -150,6 +150,18 @@ pub(crate) const OWN: Word<'static> = Word::Long {
     help: "print the user's own values alone",
 };
 
+/// Whether JSON is printed.
+pub(crate) const JSON: Word<'static> = Word::Long {
+    name: "json",
+    help: "print JSON: each value's GVariant text is a string",
+};
+
+/// Whether JSON is printed of names.
+pub(crate) const JSON_NAMES: Word<'static> = Word::Long {
+    name: "json",
+    help: "print the names as a JSON array of strings",
+};
+
 /// Whether each database is made, whatever is there.
 pub(crate) const FORCE: Word<'static> = Word::Long {
     name: "force",

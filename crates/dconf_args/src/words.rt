@@ -56,6 +56,7 @@ fn all_asked(alloc: Global, matches: &ArgMatches<'_>) -> Result<Asked, AllocErro
     Ok(Asked::Run {
         command: asked(alloc, name, named)?,
         place,
+        is_json: is_given(named, "json"),
     })
 }
 

@@ -3,15 +3,14 @@ use crate::explain::status_of;
 use crate::messages::{REFUSED, refuse, refuse_device, refuse_for, refuse_memory, refuse_place};
 use crate::runs::warn;
 use crate::sources::is_folder;
-use crate::stores::{Databases, databases_by, found_folder};
+use crate::stores::{Databases, databases_by, found_folder, layers_of};
 use dconf_args::Place;
 use dconf_compared::{Undumped, difference};
 use dconf_disk::StdFolder;
-use dconf_engine::{EngineFault, open_layers};
 use dconf_layers::{Layer, LentLayers};
 use dconf_streams::{Refusal, file, refused};
 use dconf_surroundings::enter;
-use std::alloc::{AllocError, Global};
+use std::alloc::Global;
 use std::env;
 
 /// Prints what differs, and gives the status.
@@ -35,14 +34,6 @@ pub(crate) fn compare(rt: &HostRuntime, old: &str, new: &str) -> u8 {
         Ok(text) => status_of(print!(rt; "{}", text.as_str())),
         Err(refusal) => refuse_for(rt, &refusal),
     }
-}
-
-/// The databases of a store or a file; or else the status of the refusal, which is said.
-fn side(rt: &HostRuntime, name: &str) -> Result<Databases, u8> {
-    if is_folder(rt, name) {
-        return store_side(rt, name);
-    }
-    file_side(rt, name)
 }
 
 /// Those of the store in a folder.
@@ -72,8 +63,12 @@ fn store_side(rt: &HostRuntime, name: &str) -> Result<Databases, u8> {
     }
 }
 
-/// That in a file, behind one without keys, so that its locks count.
-fn file_side(rt: &HostRuntime, name: &str) -> Result<Databases, u8> {
+/// The databases of a store or a file; or else the status of the refusal, which is said. That in a file is behind one without keys, so that its
+/// locks count.
+fn side(rt: &HostRuntime, name: &str) -> Result<Databases, u8> {
+    if is_folder(rt, name) {
+        return store_side(rt, name);
+    }
     let bytes = match file(rt.alloc(), &mut StdFolder::read_only(rt), name) {
         Ok(bytes) => bytes,
         Err(refusal) => return Err(refuse_for(rt, &refusal)),
@@ -82,20 +77,13 @@ fn file_side(rt: &HostRuntime, name: &str) -> Result<Databases, u8> {
         refuse(rt, format_args!("BadDatabase {name}: {fault}"));
         return Err(REFUSED);
     }
-    match alone_in(rt.alloc(), bytes) {
-        Ok(databases) => Ok(databases),
+    match vec![in rt.alloc(); None, Some(bytes)] {
+        Ok(files) => Ok(Databases {
+            files,
+            is_writable: false,
+        }),
         Err(_) => Err(refuse_memory(rt)),
     }
-}
-
-fn alone_in(alloc: Global, bytes: Vec<u8>) -> Result<Databases, AllocError> {
-    let mut files = Vec::new(alloc);
-    files.push(None)?;
-    files.push(Some(bytes))?;
-    Ok(Databases {
-        files,
-        is_writable: false,
-    })
 }
 
 fn compared(alloc: Global, first: &Databases, second: &Databases) -> Result<String, Refusal> {
@@ -110,17 +98,5 @@ fn compared(alloc: Global, first: &Databases, second: &Databases) -> Result<Stri
         Ok(text) => Ok(text),
         Err(Undumped::Path { cause, path }) => Err(refused(alloc, format_args!("{cause} {path}"))),
         Err(Undumped::Memory) => Err(Refusal::Memory),
-    }
-}
-
-fn layers_of(alloc: Global, databases: &Databases) -> Result<Vec<Layer<'_>>, Refusal> {
-    let mut files = Vec::new(alloc);
-    for bytes in &databases.files {
-        files.push(bytes.as_deref())?;
-    }
-    match open_layers(alloc, &files) {
-        Ok(layers) => Ok(layers),
-        Err(EngineFault::Fault(bad)) => Err(refused(alloc, bad)),
-        Err(EngineFault::Memory) => Err(Refusal::Memory),
     }
 }

@@ -1,4 +1,5 @@
 //! `dump` of one database alone: that in a file, or the user's own.
+use crate::answers::{answer, answer_in};
 use crate::explain::{Given, explain};
 use crate::messages::{REFUSED, refuse, refuse_for, refuse_memory, refuse_place};
 use crate::runs::{run_at, warn};
@@ -9,8 +10,8 @@ use dconf_cli::run;
 use dconf_disk::{Folder, FolderFault, StdFolder};
 use dconf_folders::MemoryFolder;
 use dconf_layers::Layer;
-use dconf_streams::{Refusal, file};
-use dconf_surroundings::{Found, enter};
+use dconf_streams::file;
+use dconf_surroundings::enter;
 use std::alloc::{AllocError, Global};
 use std::fs;
 use std::io::{Read, Write};
@@ -24,11 +25,12 @@ const DATABASE: &str = "database";
 
 const ROOT: &str = "/";
 
-/// Runs a command where its store is, but for a `dump` of one database alone.
+/// Runs a command where its store is, but for a `dump` of one database alone, and what is printed as JSON.
 pub(crate) fn run_or_dump<I: Read, O: Write, E: Write>(
     rt: &HostRuntime,
     asked: Command,
     place: Place,
+    is_json: bool,
     session: &mut Session<I, O, E>,
 ) -> u8 {
     if let Command::Dump {
@@ -44,6 +46,7 @@ pub(crate) fn run_or_dump<I: Read, O: Write, E: Write>(
                     bytes.as_deref(),
                     *skip_doubles,
                     directory.as_str(),
+                    is_json,
                     session,
                 ),
                 Err(status) => status,
@@ -56,10 +59,13 @@ pub(crate) fn run_or_dump<I: Read, O: Write, E: Write>(
         };
         if is_file {
             return match database(rt, directory.as_str()) {
-                Ok(bytes) => dump(rt, Some(&bytes), *skip_doubles, ROOT, session),
+                Ok(bytes) => dump(rt, Some(&bytes), *skip_doubles, ROOT, is_json, session),
                 Err(status) => status,
             };
         }
+    }
+    if is_json {
+        return answer(rt, asked, place);
     }
     run_at(rt, asked, place, session)
 }
@@ -79,26 +85,27 @@ fn database(rt: &HostRuntime, name: &str) -> Result<Vec<u8>, u8> {
 
 /// The bytes of the user's own database, if there is one.
 fn own(rt: &HostRuntime, profile: &str, place: Place) -> Result<Option<Vec<u8>>, u8> {
-    let read = if !place.is_users && place.folder.is_none() {
-        users_own(rt.alloc(), &mut StdFolder::read_only(rt), profile)
-    } else {
-        match enter(rt, place, false) {
-            Ok(found) => own_found(rt, &found),
-            Err(fault) => return Err(refuse_place(rt, fault)),
-        }
+    if !place.is_users && place.folder.is_none() {
+        return match users_own(rt.alloc(), &mut StdFolder::read_only(rt), profile) {
+            Ok(bytes) => Ok(bytes),
+            Err(refusal) => Err(refuse_for(rt, &refusal)),
+        };
+    }
+    let found = match enter(rt, place, false) {
+        Ok(found) => found,
+        Err(fault) => return Err(refuse_place(rt, fault)),
     };
-    match read {
-        Ok(bytes) => Ok(bytes),
+    let Ok(mut folder) = found_folder(rt, StdFolder::read_only(rt), &found) else {
+        return Err(refuse_memory(rt));
+    };
+    match users_own(rt.alloc(), &mut folder, found.profile.path.as_str()) {
+        Ok(bytes) => {
+            // What can't be said changes no status here.
+            let _ = warn(rt, folder.bad(), &found);
+            Ok(bytes)
+        }
         Err(refusal) => Err(refuse_for(rt, &refusal)),
     }
-}
-
-fn own_found(rt: &HostRuntime, found: &Found) -> Result<Option<Vec<u8>>, Refusal> {
-    let mut folder = found_folder(rt, StdFolder::read_only(rt), found)?;
-    let bytes = users_own(rt.alloc(), &mut folder, found.profile.path.as_str())?;
-    // What can't be said changes no status here.
-    let _ = warn(rt, folder.bad(), found);
-    Ok(bytes)
 }
 
 /// Dumps a database in a folder that has nothing else.
@@ -107,6 +114,7 @@ fn dump<I: Read, O: Write, E: Write>(
     bytes: Option<&[u8]>,
     skip_doubles: bool,
     directory: &str,
+    is_json: bool,
     session: &mut Session<I, O, E>,
 ) -> u8 {
     let alloc = rt.alloc();
@@ -123,6 +131,9 @@ fn dump<I: Read, O: Write, E: Write>(
         directory,
         profile,
     };
+    if is_json {
+        return answer_in(rt, &command, &mut folder, None);
+    }
     let given = Given::of(rt, &command);
     let status = run(
         alloc,

@@ -2,7 +2,7 @@
 //! name `dconf`, it has dconf's command line.
 #![tactic(auto)]
 
-mod below;
+mod answers;
 mod by_name;
 mod compare;
 mod dry;
@@ -17,7 +17,7 @@ mod sources;
 mod stores;
 mod updates;
 
-use below::explain_below;
+use answers::answer;
 use by_name::dconf;
 use compare::compare;
 use dconf_args::{Asked, Command, command};
@@ -81,12 +81,16 @@ fn main(rt: HostRuntime) -> ExitCode {
 /// Does what is asked, and gives the status.
 fn done(rt: &HostRuntime, asked: Asked) -> u8 {
     match asked {
-        Asked::Run { command, place } => {
+        Asked::Run {
+            command,
+            place,
+            is_json,
+        } => {
             if matches!(&command, Command::Explain { key, .. } if key.ends_with('/')) {
-                return explain_below(rt, command, place);
+                return answer(rt, command, place);
             }
             let mut session = Session::on(rt.alloc(), rt.stdin(), rt.stdout(), rt.stderr());
-            run_or_dump(rt, as_in_dconf(command), place, &mut session)
+            run_or_dump(rt, as_in_dconf(command), place, is_json, &mut session)
         }
         Asked::Update {
             folder,

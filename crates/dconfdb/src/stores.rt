@@ -1,6 +1,8 @@
 //! A store that was found, as it is read.
 use dconf_disk::{Folder, StdFolder};
+use dconf_engine::{EngineFault, open_layers};
 use dconf_found::{FoundFolder, RenamedFolder};
+use dconf_layers::Layer;
 use dconf_path::{DatabaseKind, Profile, ProfileFault, read_profile, settings_text};
 use dconf_places::file_name;
 use dconf_streams::{NamedFile, Refusal, file_if_any, named_file, refused, refused_at};
@@ -84,5 +86,18 @@ pub(crate) fn users_own<F: Folder>(
             file_if_any(alloc, folder, name.as_str())
         }
         _ => Err(refused(alloc, "NotWritable")),
+    }
+}
+
+/// Their layers, or the refusal for the first that is no sound database.
+pub(crate) fn layers_of(alloc: Global, databases: &Databases) -> Result<Vec<Layer<'_>>, Refusal> {
+    let mut files = Vec::new(alloc);
+    for bytes in &databases.files {
+        files.push(bytes.as_deref())?;
+    }
+    match open_layers(alloc, &files) {
+        Ok(layers) => Ok(layers),
+        Err(EngineFault::Fault(bad)) => Err(refused(alloc, bad)),
+        Err(EngineFault::Memory) => Err(Refusal::Memory),
     }
 }

@@ -17,6 +17,8 @@ mod found;
 #[cfg(test)]
 mod input;
 #[cfg(test)]
+mod json_lines;
+#[cfg(test)]
 mod layers;
 #[cfg(test)]
 mod loads;

@@ -34,7 +34,7 @@ fn replaced_text(alloc: Global, line: &str) -> Result<String, Fail> {
 /// Where the store of a line's command is, and what it replaces by another profile.
 pub(crate) fn placed(alloc: Global, line: &str, found: &mut String) -> Result<(), Fail> {
     match command(alloc, &words_of(alloc, line)?) {
-        Ok(Asked::Run { command, place }) => {
+        Ok(Asked::Run { command, place, .. }) => {
             let other = command.with_profile(String::from_str(alloc, "other")?);
             Ok(write!(found, "{place:?} {:?}", other.replaced())?)
         }

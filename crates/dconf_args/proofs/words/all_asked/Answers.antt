@@ -1,6 +1,6 @@
 use Rattle.std.proofs.Common.{codes, refl, rules}
 use Rattle.clap.specs.Words.{found_of, rows_of}
-use Rattle.dconf_args.proofs.Subcommands.{asked_by, asks_to_compare, asks_to_update, given, is_entered, named_by, placed_by}
+use Rattle.dconf_args.proofs.Subcommands.{asked_by, asks_to_compare, asks_to_update, formed_by, given, is_entered, named_by, placed_by}
 use Rattle.dconf_args.proofs.words.all_asked.Goals as goal
 
 pub unwrap-requires : goal.unwrap-requires
@@ -43,4 +43,4 @@ returns c = λ words p.
     let named = named_by words c.args.matches.now p (λ q. q.0.now) (λ q. rows_of (found_of q.1.now)) c.subcommand.result c.subcommand.ensures.name c.subcommand.ensures.rows
     c.unwrap.result c.unwrap.result.1.now c.unwrap.ensures refl in
     let place = c.in_ok-place.ensures in
-    (asked_by words _ _ named _ c.in_ok-asked.ensures, placed_by words _ _ named _ place.user place.folder place.profile place.own)
+    (asked_by words _ _ named _ c.in_ok-asked.ensures, (placed_by words _ _ named _ place.user place.folder place.profile place.own, formed_by words _ _ named _ (search rules)))
