@@ -45,7 +45,7 @@ static char *object_of_user(void)
     DconfdbError error = DCONFDB_ERROR_INIT;
     if (!place_find(NULL, &place, &error))
         return NULL;
-    DconfdbStore *store = place_open(&place, &error);
+    DconfdbStore *store = place_open(&place, DCONFDB_WATCHER_COMMAND, &error);
     size_t len = 0;
     const char *name = store ? place_user(store, &len) : NULL;
     char *object = name ? g_strdup_printf("/ca/desrt/dconf/Writer/%.*s", (int)len, name) : NULL;

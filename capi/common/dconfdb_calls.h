@@ -396,6 +396,7 @@ typedef struct {
     DconfdbBytes data_dirs; /* $XDG_DATA_DIRS */
     DconfdbBytes user;      /* the user's number, in decimal digits */
     bool is_given, is_dconfs;
+    bool counts; /* those variables do: the program hasn't more rights than whoever started it */
 } DconfdbPlace;
 
 /* Which profile counts: after each look comes a step, and before the first one. */
@@ -1148,9 +1149,9 @@ enum {
     DCONFDB_WAY_RISES /* to the folder above */
 };
 
-/* Who watches. */
+/* Who opens a store, and watches its files. */
 enum {
-    DCONFDB_WATCHER_LIBRARY,
+    DCONFDB_WATCHER_LIBRARY, /* for its caller */
     DCONFDB_WATCHER_MODULE,
     DCONFDB_WATCHER_CLIENT,
     DCONFDB_WATCHER_COMMAND,
@@ -1162,6 +1163,10 @@ bool dconfdb_minds_much(uint32_t who);
 
 /* Whether the profile of a store that is open counts as it was read: nobody looks at it again. */
 bool dconfdb_keeps_profile(uint32_t who);
+
+/* Whether the store is opened past its bad files: the library's caller asks for that, or for no more than the names of its files (`lists`), and to all others it
+ * is. */
+bool dconfdb_is_lenient(uint32_t who, bool is_asked, bool lists);
 
 /* Of a name in a folder; the root's path is empty. `minds`: much that happens is minded. `is_last`: it is the file's own name. `mode` and
  * `links` are st_mode and st_nlink of what stands there, 0 where nothing does. `is_unseen`: that can't be seen, or not where a link leads. `followed`: so
@@ -1208,7 +1213,9 @@ uint32_t dconfdb_heard(uint32_t before, uint32_t watch, uint32_t comes, uint32_t
  * database again when that is set. */
 enum {
     DCONFDB_FLAG_BEGINS,
-    DCONFDB_FLAG_OPEN,     /* open the file, where there is one; */
+    DCONFDB_FLAG_LOOK,     /* look: may there be a file? */
+    DCONFDB_FLAG_LOCK,     /* take the lock of the database's folder, if that is there and nobody has it: is it had? */
+    DCONFDB_FLAG_OPEN,     /* open the file; */
     DCONFDB_FLAG_LENGTHEN, /* put a second byte there, since a reader may have made it a moment ago, and mapped nothing yet; */
     DCONFDB_FLAG_SET,      /* set its first byte; */
     DCONFDB_FLAG_REMOVE,   /* and take its name away: who has it mapped sees it, and who comes later makes another */
@@ -1216,7 +1223,7 @@ enum {
 };
 
 /* The task that is due after that one, as it could be done or not; of the first any will do. `is_in_turn`: this program has the lock of the database's
- * folder. Else the name stays: another file may have it by now. */
+ * folder by now. Else the name stays: another file may have it by now. Who had it all the time may begin behind DCONFDB_FLAG_LOCK. */
 uint32_t dconfdb_flag_after(uint32_t task, bool could_be, bool is_in_turn);
 
 /* ---- when what waits is written. All moments are of one clock, in microseconds; 0 is none. */
@@ -1378,10 +1385,11 @@ typedef struct {
     bool has_same_files; /* the store that was opened has the files of the one before */
     bool is_barred;      /* another thread has the turn to look */
     bool is_amid;        /* that one changes the files: what it has seen in its turn is the newest */
-    bool is_late;        /* it is waited no longer for the turn */
+    bool is_late;        /* the time is over that who looks waits for the turn */
     bool is_to_settle;   /* who looks wants to know what of that which waits is there already */
     bool was_unseen;     /* one of those files couldn't be looked at when the profile was read, */
     bool is_unseen;      /* or can't be now */
+    bool is_reading;     /* who looks reads a value: it waits for nobody */
 } DconfdbGlance;
 
 /* The task that is due after that one. */
@@ -1395,7 +1403,8 @@ enum {
     DCONFDB_PATIENCE_ASKED, /* who sets or syncs: for the turn, or until all is written */
     DCONFDB_PATIENCE_END,   /* the program's end, or that of who holds what writes: the same */
     DCONFDB_PATIENCE_REST,  /* the program's end: for a lock that is held for moments */
-    DCONFDB_PATIENCE_TURNS  /* whoever waits: until it is asked again whether others had turns */
+    DCONFDB_PATIENCE_TURNS, /* whoever waits: until it is asked again whether others had turns */
+    DCONFDB_PATIENCE_LOOKS  /* the program's end: until it asks again whether what it waits for is over */
 };
 
 /* For so many microseconds, unless others have turns meanwhile. */
@@ -1441,9 +1450,18 @@ enum {
  * moment (`is_momentary`); or if nobody tries again of themselves. */
 uint32_t dconfdb_failing_met(DconfdbFailing *failing, bool is_there, bool is_momentary, bool tries_again, uint64_t now);
 
-/* The same of a look at the files, that is repeated of itself or not. What mostly passes in a moment is awaited then; and all else is said at once, since
- * what is shown may not be what the files hold. */
-uint32_t dconfdb_failing_look(DconfdbFailing *failing, bool is_there, bool is_momentary, bool is_repeated, uint64_t now);
+/* What is seen of a fault of files, once they were looked at, or were read as they were written. */
+typedef struct {
+    bool is_met;       /* it was met now */
+    bool is_of_look;   /* a look failed by it; else it is of a file that was read */
+    bool has_looked;   /* it was a look */
+    bool is_momentary; /* it mostly passes in a moment */
+    bool is_repeated;  /* the look is made again of itself */
+} DconfdbFaultSeen;
+
+/* The same of these: what mostly passes in a moment is awaited if the look is repeated of itself; and all else is said at once, since what is shown may not
+ * be what the files hold. That a look failed is over by the next look alone. */
+uint32_t dconfdb_failing_look(DconfdbFailing *failing, const DconfdbFaultSeen *seen, uint64_t now);
 
 /* Whether a fault is the one that was said by that text: then it is that which is there still. */
 bool dconfdb_is_same_fault(const uint8_t *said, size_t said_len, const uint8_t *text, size_t text_len);
@@ -1456,7 +1474,7 @@ enum {
 };
 
 /* When the next look is due, if this one is made, which was due in that moment, unless somebody watches the files; of TELLS, how long it is
- * waited for it. 0: none is made. `has_opened`: the store was opened first, or could not be, and may be by now. */
+ * waited for it. 0: none is made, as of READS before that moment. `has_opened`: the store was opened first, or could not be, and may be by now. */
 uint64_t dconfdb_next_look(uint32_t looker, uint64_t due, uint64_t now, bool has_opened, bool is_at_work, bool is_watched);
 
 /* Whether what was begun in one process is at work in this one: it has not ended, and this is no child of that by fork(). */
@@ -1536,6 +1554,7 @@ typedef struct {
     bool is_unmade;                 /* an edit isn't made, by dconfdb_is_unmade */
     bool is_service_db;             /* its database is one that a profile of dconf's names by `service-db` */
     bool is_behind;                 /* one that came before it is on its way to the main thread */
+    bool has_profile;               /* the file that is to be the profile of its database alone says that already */
 } DconfdbServed;
 
 /* What was done with it, or what happened. Of each its own fields count, and no others. */
@@ -1554,12 +1573,13 @@ enum {
     DCONFDB_SERVED_SHOWS,    /* the service tells who listens of a database */
     DCONFDB_SERVED_MADE,     /* an edit was tried, and is told of */
     DCONFDB_SERVED_BESIDE,   /* an edit stands beside others of its change */
-    DCONFDB_SERVED_PASSES    /* it came in another thread than the main one */
+    DCONFDB_SERVED_PASSES,   /* it came in another thread than the main one */
+    DCONFDB_SERVED_PROFILE   /* the file was read that is to be the profile of its database alone */
 };
 
 /* What becomes of it then. */
 enum {
-    DCONFDB_SERVED_GOES_ON, /* it is read, or waits to be written; or each path is named; or it is made, or told of */
+    DCONFDB_SERVED_GOES_ON, /* it is read, or waits to be written; or each path is named; or it is made, or told of; or that file is written */
     DCONFDB_SERVED_ACKNOWLEDGED,
     DCONFDB_SERVED_FAILED,  /* the fault is answered by which it isn't written */
     DCONFDB_SERVED_CLOSED,  /* .. or why nobody with these rights may write there */
@@ -1573,7 +1593,7 @@ enum {
     DCONFDB_SERVED_ALONE,    /* the store of its database alone has it; or an edit is made, or not, by itself */
     DCONFDB_SERVED_ENDS,     /* the service ends, and takes what it was sent before */
     DCONFDB_SERVED_TAKEN,    /* another service has the name */
-    DCONFDB_SERVED_PASSED,   /* it says nothing, or nothing is told of it */
+    DCONFDB_SERVED_PASSED,   /* it says nothing, or nothing is told of it; or that file stays as it is */
     DCONFDB_SERVED_LEFT_OUT, /* it isn't made, which is told */
     DCONFDB_SERVED_REPLACES, /* it counts in the place of the one before it */
     DCONFDB_SERVED_UNSUPPORTED /* no such database is served */
@@ -1917,6 +1937,26 @@ typedef struct {
 /* The task that is due after that one, by its answer. */
 uint32_t dconfdb_changing_after(uint32_t task, bool yes, const DconfdbChanging *known);
 
+/* What is done with a change whose caller doesn't wait for it, in this order. */
+enum {
+    DCONFDB_FAST_BEGINS,
+    DCONFDB_FAST_ADD,    /* let it wait, beside what waits already */
+    DCONFDB_FAST_WRITE,  /* have somebody write what waits */
+    DCONFDB_FAST_TELL,   /* tell what is new by it */
+    DCONFDB_FAST_MADE,   /* over: it waits, or nothing of it was to be made */
+    DCONFDB_FAST_REFUSED /* over: a key may not be written, and nothing of it waits */
+};
+
+/* What dconfdb_entry says of it. */
+typedef struct {
+    bool is_refused; /* DCONFDB_ENTRY_REFUSED */
+    bool is_empty;   /* DCONFDB_ENTRY_EMPTY */
+    bool is_news;    /* DCONFDB_ENTRY_WAITS */
+} DconfdbFast;
+
+/* The task that is due after that one. From when it is known until it waits nobody else lets something wait. */
+uint32_t dconfdb_fast_after(uint32_t task, const DconfdbFast *known);
+
 /* An edit that was tried to write, and what is known of it then. */
 typedef struct {
     bool is_written;  /* all changes are made but for those that are refused */
@@ -2021,22 +2061,36 @@ typedef struct {
 uint32_t dconfdb_read_as(const DconfdbEntry *entry, const DconfdbBytes *folders, size_t count, const uint8_t *name, size_t name_len, uint64_t size,
                          const uint8_t *text, size_t len, size_t *sources, size_t *stem, bool *is_source);
 
+/* Within what of a site what is in the last of these folders is looked at, the first of which is in the root: _SOURCES or _LOCKS, if `update` reads the
+ * folder as that, and else _SITE. */
+uint32_t dconfdb_within(const DconfdbBytes *folders, size_t count);
+
+/* What a file that is asked for is beside the one before it, in the order of their paths. */
+enum {
+    DCONFDB_FILE_AGAIN, /* the same file: it is looked at once */
+    DCONFDB_FILE_NEXT,  /* one more of its folder, and so of its database */
+    DCONFDB_FILE_FIRST  /* the first one of its folder: what others set counts for nothing there */
+};
+
+uint32_t dconfdb_file_after(bool is_same, bool is_of_folder);
+
 /* The folder of the sources and databases that `update` takes if none is named, by the kind of store that the machine has. */
 void dconfdb_machines_folder(bool is_dconfs, DconfdbBytes *folder);
 
 /* A key that is set, or a lock, and what the installed schemas have of it. */
 typedef struct {
     uint32_t what;
-    bool is_known;         /* one has the key, or a key below the directory; or it is set already, or set at all; or the database has its file */
+    bool is_known;         /* one has the key, or a key below the directory; or it is set already, or set at all; or the database has its file; or the text is a value of ours */
     bool has_schemas;      /* one is at the key's directory */
     bool may_be_elsewhere; /* one without a path has a key of that name; of a directory, there is one */
-    bool has_value;        /* it is set to a value */
-    bool is_taken;         /* .. which one of the keys takes; or nothing else is wrong with the lock */
+    bool has_value;        /* it is set to a value; or GLib has one of the text */
+    bool is_taken;         /* .. which one of the keys takes; or nothing else is wrong with the lock; or a database holds such a value */
     bool is_of_type;       /* .. and that is of the first one's type */
-    bool is_system;        /* a database is the system's; or it is a value of a source of `update` */
+    bool is_system;        /* a database is the system's; or it is a text of a source of `update` */
     bool is_made;          /* `update` makes the database's file */
     bool is_unseen;        /* that can't be looked at */
     bool is_among_profiles; /* the profile is one of those in a folder `profiles` */
+    bool has_double;       /* the text has a double, which is none of ours */
 } DconfdbFinding;
 
 enum {
@@ -2046,7 +2100,7 @@ enum {
     DCONFDB_OF_DATABASE, /* that a profile names: `is_known`, it has its file, or nobody can say */
     DCONFDB_OF_KEY_AGAIN,  /* `is_known`: an earlier line of the same database sets it */
     DCONFDB_OF_LOCK_ALONE, /* `is_known`: a keyfile of the site sets the key of the lock */
-    DCONFDB_OF_DOUBLE      /* a text whose value has a double */
+    DCONFDB_OF_TEXT        /* of a value */
 };
 
 /* What is found wrong with it. */
@@ -2060,7 +2114,8 @@ enum {
     DCONFDB_FINDING_NO_DATABASE,
     DCONFDB_FINDING_SET_TWICE,
     DCONFDB_FINDING_NOT_SET,
-    DCONFDB_FINDING_DOUBLE
+    DCONFDB_FINDING_DOUBLE,
+    DCONFDB_FINDING_NO_VALUE
 };
 
 /* What a schema without a path may have is passed over, but where the directory is a slip away from one of these, where schemas have such a key: a
@@ -2105,7 +2160,8 @@ typedef struct {
     uint64_t count; /* how many words there are, with the program's name */
     bool is_path;   /* the last of three is a path */
     bool has_blame; /* the program `blame` may be run */
-    bool is_noted;  /* it is asked for that changes are noted */
+    bool is_noted;  /* the environment asks that changes are noted */
+    bool counts;    /* the environment does: the program hasn't more rights than whoever started it */
 } DconfdbCommandLine;
 
 /* Which program it is for. */
@@ -2120,9 +2176,10 @@ enum {
     DCONFDB_PROGRAM_NOTED /* the proved one, by `blame`, which has it noted that this process changes settings */
 };
 
-/* By the program's name and the two words after it, each empty where there is none. */
+/* By the program's name and the two words after it, each empty where there is none. `has_none`: it is run without the variables that say where a store is, as
+ * to the proved program each counts that it has. */
 uint32_t dconfdb_program_of(const uint8_t *name, size_t name_len, const uint8_t *first, size_t first_len, const uint8_t *second, size_t second_len,
-                            const DconfdbCommandLine *line);
+                            const DconfdbCommandLine *line, bool *has_none);
 
 /* What the words before say; {0} at first, but for the program. Nobody else writes it. */
 typedef struct {
@@ -2152,6 +2209,18 @@ enum {
 
 /* The next word, or the end of all. What it has begins at `from`. */
 uint32_t dconfdb_option(DconfdbWords *read, bool is_end, const uint8_t *word, size_t len, size_t *from);
+
+/* What is said of an argument of `--schema`. */
+enum {
+    DCONFDB_PLACING_TAKEN,
+    DCONFDB_PLACING_NO_PATH, /* there is no `:` between a schema and a path */
+    DCONFDB_PLACING_NO_DIRECTORY,
+    DCONFDB_PLACING_NO_SCHEMA,
+    DCONFDB_PLACING_FIXED /* the schema has a path of its own */
+};
+
+/* By whether it has a `:`, the path behind that is a directory's, there is the schema before it, and that has a path. */
+uint32_t dconfdb_placing(bool has_path, bool is_directory, bool has_schema, bool is_fixed);
 
 #ifdef __cplusplus
 }

@@ -34,11 +34,17 @@ static inline DconfdbBytes environment_variable(int variable)
     return value ? (DconfdbBytes){(const uint8_t *)value, strlen(value)} : nothing;
 }
 
+/* For a program that has more rights than whoever started it nothing of it does. */
+static inline bool environment_counts(void)
+{
+    return !getauxval(AT_SECURE);
+}
+
 /* Without what the machine's file says. */
 static inline DconfdbEnvironment environment_now(void)
 {
     return (DconfdbEnvironment){
-        .counts = !getauxval(AT_SECURE),
+        .counts = environment_counts(),
         .store = environment_variable(STORE_VARIABLE),
         .config = environment_variable(CONFIG_VARIABLE),
         .home = environment_variable(HOME_VARIABLE),

@@ -31,6 +31,7 @@ static pthread_mutex_t listing = PTHREAD_MUTEX_INITIALIZER;
 static FolderLock *first;
 static atomic_ulong forks; /* one more as each begins, and as it is over: who opens a file amid one sees another number then */
 static atomic_int unheeded = -1; /* why none is heeded, an errno, or that nobody has asked yet; or 0, and then for good */
+static atomic_int asking; /* the process of which a thread asks for it again now, or 0; a child that is made meanwhile has its parent's */
 
 static void before_fork(void)
 {
@@ -57,27 +58,31 @@ static void close_both(FolderLock *lock)
     close_one(&lock->folder);
 }
 
-/* LOCK_UN would take it from the parent. */
+/* LOCK_UN would take it from the parent. It is registered here, too, though the parent may not know that yet. */
 static void after_fork_in_child(void)
 {
     for (FolderLock *at = first; at; at = at->next)
         close_both(at);
     first = NULL;
+    unheeded = 0;
     pthread_mutex_unlock(&listing);
 }
 
-static int ask_to_heed(void)
-{
-    return pthread_atfork(before_fork, after_fork, after_fork_in_child);
-}
-
-/* It is asked for while `listing` is free: a child that is made meanwhile would have it locked for ever. */
+/* It is asked for while nothing is locked: a child that is made meanwhile would have that locked for ever. */
 static void heed_forks(void)
 {
-    int fault = ask_to_heed();
-    pthread_mutex_lock(&listing);
-    unheeded = fault;
-    pthread_mutex_unlock(&listing);
+    unheeded = pthread_atfork(before_fork, after_fork, after_fork_in_child);
+}
+
+/* One thread at a time: what is registered twice would wait for itself as somebody forks. Another has the answer that there was. */
+static void heed_forks_again(void)
+{
+    int process = (int)getpid(), before = asking;
+    if (before == process || !atomic_compare_exchange_strong(&asking, &before, process))
+        return;
+    if (unheeded != 0)
+        heed_forks();
+    asking = 0;
 }
 
 /* Where no memory was left for it, it is tried again: a lock that a child keeps would be nobody's. Gives 0, or errno. */
@@ -87,12 +92,9 @@ static int heed_all_forks(void)
     if (unheeded == 0)
         return 0;
     pthread_once(&once, heed_forks);
-    pthread_mutex_lock(&listing);
     if (unheeded != 0)
-        unheeded = ask_to_heed();
-    int fault = unheeded;
-    pthread_mutex_unlock(&listing);
-    return fault;
+        heed_forks_again();
+    return unheeded;
 }
 
 /* Lists what was opened since that was the number of the forks. False: a child that was made meanwhile may have it, unlisted. It is harmless
@@ -222,11 +224,14 @@ static void close_awaited(Awaited *awaited)
     awaited->is_listed = false;
 }
 
+/* Nothing is opened before each fork is heeded from then on. */
 static DconfdbStood open_folder(Awaited *awaited)
 {
     close_awaited(awaited);
+    int fault = heed_all_forks();
     awaited->forks = forks;
-    int fault = folder_open(awaited->folder, &awaited->lock->folder);
+    if (fault == 0)
+        fault = folder_open(awaited->folder, &awaited->lock->folder);
     if (fault != 0)
         awaited->lock->folder = NO_FOLDER;
     return file_stood(NULL, fault);
@@ -353,9 +358,6 @@ static uint32_t try_it(void *it, int *fault)
 
 static int wait_for_lock(Awaited *awaited, int milliseconds)
 {
-    int fault = heed_all_forks();
-    if (fault != 0)
-        return fault;
     return try_for(awaited->has_end ? DCONFDB_WAIT_FOR_LOCK : DCONFDB_WAIT_WITHOUT_END, (uint32_t)milliseconds, try_it, awaited,
                    &awaited->lock->is_others);
 }

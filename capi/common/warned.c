@@ -10,8 +10,7 @@
 typedef struct SaidFault {
     struct SaidFault *next;
     DconfdbFailing failing;
-    bool is_there, is_of_look;
-    bool is_momentary, is_repeated; /* a look that fails is made again of itself; one that has read a bad file isn't */
+    DconfdbFaultSeen seen; /* a look that fails is made again of itself; one that has read a bad file isn't */
     char text[];
 } SaidFault;
 
@@ -33,10 +32,14 @@ static void put(Warned *warned, const DconfdbError *error, bool is_of_look, bool
             return;
         memcpy((*at)->text, error->text, len + 1);
     }
-    (*at)->is_there = true;
-    (*at)->is_of_look = is_of_look;
-    (*at)->is_momentary = is_momentary(error);
-    (*at)->is_repeated = is_repeated;
+    (*at)->seen = (DconfdbFaultSeen){.is_met = true, .is_of_look = is_of_look, .is_momentary = is_momentary(error), .is_repeated = is_repeated};
+}
+
+/* Before those are put that are met now. */
+static void meet_none(const Warned *warned)
+{
+    for (SaidFault *fault = warned->first; fault; fault = fault->next)
+        fault->seen.is_met = false;
 }
 
 static void put_all(Warned *warned, const DconfdbStore *store)
@@ -61,11 +64,12 @@ static uint64_t time_now(void)
     return (uint64_t)now.tv_sec * 1000000 + (uint64_t)now.tv_nsec / 1000;
 }
 
-static void say_each(Warned *warned, Warns *warns, void *it)
+static void say_each(Warned *warned, bool has_looked, Warns *warns, void *it)
 {
     uint64_t now = time_now();
     for (SaidFault **at = &warned->first, *fault; (fault = *at);) {
-        switch (dconfdb_failing_look(&fault->failing, fault->is_there, fault->is_momentary, fault->is_repeated, now)) {
+        fault->seen.has_looked = has_looked;
+        switch (dconfdb_failing_look(&fault->failing, &fault->seen, now)) {
         case DCONFDB_FAULT_SAY:
             warns(it, fault->text);
             break;
@@ -82,21 +86,19 @@ static void say_each(Warned *warned, Warns *warns, void *it)
 
 void warned_renew(Warned *warned, const DconfdbStore *store, const DconfdbError *error, bool is_repeated, Warns *warns, void *it)
 {
-    for (SaidFault *fault = warned->first; fault; fault = fault->next)
-        fault->is_there = false;
+    meet_none(warned);
     if (store)
         put_all(warned, store);
     if (error)
         put(warned, error, true, is_repeated);
-    say_each(warned, warns, it);
+    say_each(warned, true, warns, it);
 }
 
 void warned_renew_files(Warned *warned, const DconfdbStore *store, Warns *warns, void *it)
 {
-    for (SaidFault *fault = warned->first; fault; fault = fault->next)
-        fault->is_there = fault->is_of_look;
+    meet_none(warned);
     put_all(warned, store);
-    say_each(warned, warns, it);
+    say_each(warned, false, warns, it);
 }
 
 void warned_end(Warned *warned)

@@ -20,6 +20,7 @@ G_DEFINE_DYNAMIC_TYPE(DconfdbBackend, dconfdb_backend, G_TYPE_SETTINGS_BACKEND)
 
 static GMutex living_lock; /* taken before a backend's `lock` */
 static GSList *living;     /* each has a reference of somebody's, as long as `living_lock` is held */
+static gint made_in;       /* the process that made the last one, or 0; atomic */
 
 /* GSettings reads a schema's default as a tuple of the key's type at each read; and what GLib knows of
  * a type goes with the last value that has it in its own. This one keeps that of common keys. */
@@ -32,6 +33,7 @@ static GVariant *value_of_common_types(void)
 static void dconfdb_backend_init(DconfdbBackend *self)
 {
     self->process = getpid();
+    g_atomic_int_set(&made_in, self->process);
     self->types = value_of_common_types();
     g_mutex_init(&self->turn);
     g_mutex_init(&self->lock);
@@ -86,7 +88,7 @@ static void dconfdb_backend_finalize(GObject *object)
 static void __attribute__((destructor)) end_all(void)
 {
     if (!mutex_lock_until(&living_lock, g_get_monotonic_time() + (gint64)dconfdb_patience_for(DCONFDB_PATIENCE_REST))) {
-        worker_end_unseen();
+        worker_end_unseen((uint32_t)g_atomic_int_get(&made_in));
         return;
     }
     GSList *all = living;

@@ -7,9 +7,13 @@
 #include <time.h>
 #include <unistd.h>
 
-/* In microseconds: how often it asks. */
-enum { TICK = 5000 };
 enum { NANOSECONDS = 1000, MILLISECOND = 1000, SECOND = 1000000000 };
+
+/* In microseconds: how often it asks. */
+static gint64 tick(void)
+{
+    return (gint64)dconfdb_patience_for(DCONFDB_PATIENCE_LOOKS);
+}
 
 /* `lock` is held. */
 static void know_at_end(const DconfdbBackend *self, DconfdbWriter *known)
@@ -56,7 +60,7 @@ static void joins(DconfdbBackend *self, DconfdbProgress *progress)
     struct timespec end;
     if (clock_gettime(CLOCK_REALTIME, &end) != 0)
         return;
-    end.tv_nsec += TICK * NANOSECONDS;
+    end.tv_nsec += tick() * NANOSECONDS;
     end.tv_sec += end.tv_nsec / SECOND;
     end.tv_nsec %= SECOND;
     progress->settled = pthread_timedjoin_np(self->worker, NULL, &end) == 0;
@@ -66,8 +70,8 @@ static void joins(DconfdbBackend *self, DconfdbProgress *progress)
 static void watches(DconfdbBackend *self, DconfdbProgress *progress)
 {
     DconfdbWriter known = {.added = progress->added};
-    g_usleep(TICK);
-    counts_until(self, &known, g_get_monotonic_time() + TICK);
+    g_usleep((gulong)tick());
+    counts_until(self, &known, g_get_monotonic_time() + tick());
     progress->added = known.added;
     progress->settled = known.settled;
     progress->failed = (uint64_t)g_atomic_int_get(&self->has_given_up);
@@ -78,7 +82,7 @@ static void does_rounds(DconfdbBackend *self, DconfdbProgress *progress)
 {
     progress->settled = !takes_turn(self);
     if (progress->settled == 0)
-        await(self, TICK / MILLISECOND);
+        await(self, (int)(tick() / MILLISECOND));
 }
 
 /* Without `lock` nothing more is known of the thread than that it moves. */
@@ -126,7 +130,7 @@ static bool carry_out_exit(DconfdbBackend *self, uint32_t task, DconfdbWriter *k
         wait_by(self, watches, patience);
         return true;
     case DCONFDB_END_COUNT:
-        return counts_until(self, known, g_get_monotonic_time() + TICK);
+        return counts_until(self, known, g_get_monotonic_time() + tick());
     default:
         say_at_end(task);
         return true;
@@ -145,12 +149,15 @@ void worker_end(DconfdbBackend *self)
         yes = carry_out_exit(self, task, &known, &patience);
 }
 
-void worker_end_unseen(void)
+/* Without a backend nothing can be done but to say so. */
+void worker_end_unseen(uint32_t begun_in)
 {
-    const DconfdbWriter known = {.exits = true};
-    uint32_t task = DCONFDB_END_COUNT;
-    while ((task = dconfdb_writer_after(DCONFDB_WRITER_END, task, false, &known)) < DCONFDB_END_DONE)
-        say_at_end(task);
+    const DconfdbWriter known = {.begun_in = begun_in, .process = (uint32_t)getpid(), .exits = true};
+    uint32_t task = DCONFDB_WRITER_BEGINS;
+    while ((task = dconfdb_writer_after(DCONFDB_WRITER_END, task, false, &known)) < DCONFDB_END_DONE) {
+        if (task == DCONFDB_END_TELL || task == DCONFDB_END_DOUBT)
+            say_at_end(task);
+    }
 }
 
 /* ---- the backend's; `lock` is held, and let go of meanwhile */

@@ -198,7 +198,7 @@ typedef struct {
     gint has_given_up; /* the worker, at the program's end; atomic */
     gint is_watching; /* what others change is noticed without a look at the files; atomic */
     gint is_heard;    /* what happens to the files is told; from when what is owed then is looked at, `is_watching`; atomic */
-    _Atomic gint64 looks; /* when a read is to look at the files again */
+    _Atomic gint64 looks; /* before that moment no read looks at the files, as the proved call has it */
 
     gint64 again; /* for the worker alone, as what follows: when a write is tried again; 0: none is */
     Wait *wait;   /* NULL: no turn is waited for */
@@ -336,8 +336,8 @@ bool worker_is_this(const DconfdbBackend *self);
  * of other programs, up to a minute. Where the disk goes on being full or failing, until one more write has failed. */
 void worker_end(DconfdbBackend *self);
 
-/* The same where it isn't even known which backends there are. */
-void worker_end_unseen(void);
+/* The same where it isn't even known which backends there are; that process made the last one. */
+void worker_end_unseen(uint32_t begun_in);
 
 /* The same where nobody holds the backend any longer. False: the worker holds it as long as something waits. */
 bool worker_let_go(DconfdbBackend *self);

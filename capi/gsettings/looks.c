@@ -111,7 +111,7 @@ static bool has_place(DconfdbBackend *self, Looking *it, DconfdbError *error)
  * stops no program: it counts as what can be read of it. */
 static bool open_store(DconfdbBackend *self, Looking *it, DconfdbError *error)
 {
-    DconfdbStore *store = has_place(self, it, error) ? place_open(&self->place, error) : NULL, *old = self->store;
+    DconfdbStore *store = has_place(self, it, error) ? place_open(&self->place, DCONFDB_WATCHER_MODULE, error) : NULL, *old = self->store;
     if (!store)
         return false;
     if (old) {

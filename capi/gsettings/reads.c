@@ -10,7 +10,7 @@
 
 /* ---- reads */
 
-/* Nearly all reads end here, without a call: store_peek() would look at nothing before that moment, either. */
+/* Nearly all reads end here, without a call: `looks` is the moment that the proved call gave, before which it has no read look at the files. */
 static inline bool is_before_a_look(const DconfdbBackend *self)
 {
     struct timespec now;

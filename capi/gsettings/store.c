@@ -77,10 +77,10 @@ static gint64 next_look(const DconfdbBackend *self, uint32_t looker, gint64 now)
 }
 
 /* Whether this thread is to look. */
-static bool is_to_peek(DconfdbBackend *self, gint64 now)
+static bool is_to_peek(DconfdbBackend *self)
 {
     g_mutex_lock(&self->lock);
-    gint64 next = next_look(self, DCONFDB_LOOKER_READS, now);
+    gint64 next = next_look(self, DCONFDB_LOOKER_READS, coarse_time());
     if (next != 0)
         atomic_store(&self->looks, next);
     g_mutex_unlock(&self->lock);
@@ -127,48 +127,54 @@ static uint32_t go_on_barred(DconfdbBackend *self, uint32_t task, DconfdbGlance 
     return next;
 }
 
-static DconfdbGlance ask_for_turn(DconfdbBackend *self, gint64 end)
+/* Who looks, and until when it waits for the turn. */
+typedef struct {
+    uint32_t looker;
+    gint64 end;
+} Looker;
+
+static DconfdbGlance ask_for_turn(DconfdbBackend *self, const Looker *who)
 {
-    return (DconfdbGlance){.is_barred = !g_mutex_trylock(&self->turn), .is_late = g_get_monotonic_time() >= end};
+    return (DconfdbGlance){.is_barred = !g_mutex_trylock(&self->turn),
+                           .is_late = g_get_monotonic_time() >= who->end,
+                           .is_reading = who->looker == DCONFDB_LOOKER_READS};
 }
 
-static DconfdbGlance ask_again(DconfdbBackend *self, gint64 end)
+static DconfdbGlance ask_again(DconfdbBackend *self, const Looker *who)
 {
     g_usleep(TRY);
-    return ask_for_turn(self, end);
+    return ask_for_turn(self, who);
 }
 
-/* In a turn that is had until then. Where the worker writes, what it has seen in its own is as new: nobody else changes the user's file until it has
+/* In a turn that it has by then. Where the worker writes, what it has seen in its own is as new: nobody else changes the user's file until it has
  * written. */
-static void look_until(DconfdbBackend *self, gint64 end)
+static void look_beside(DconfdbBackend *self, const Looker *who)
 {
-    DconfdbGlance known = ask_for_turn(self, end);
+    DconfdbGlance known = ask_for_turn(self, who);
     uint32_t task = DCONFDB_GLANCE_BEGINS;
     while (known.is_barred && (task = go_on_barred(self, task, &known)) < DCONFDB_GLANCE_SEEN) {
         if (task == DCONFDB_GLANCE_AGAIN)
-            known = ask_again(self, end);
+            known = ask_again(self, who);
     }
     if (!known.is_barred)
         look_quietly(self);
 }
 
+/* Who reads has no time until which it waits: that it doesn't, the proved call says. */
 void store_peek(DconfdbBackend *self)
 {
-    gint64 now = coarse_time();
-    /* Nearly all reads end here, without a lock: before that moment the proved call says no, too. */
-    if (G_LIKELY(now < atomic_load_explicit(&self->looks, memory_order_relaxed)))
-        return;
-    if (is_to_peek(self, now))
-        look_until(self, 0);
+    const Looker reader = {DCONFDB_LOOKER_READS, G_MAXINT64};
+    if (is_to_peek(self))
+        look_beside(self, &reader);
 }
 
 void store_catch_up(DconfdbBackend *self)
 {
     g_mutex_lock(&self->lock);
-    gint64 end = next_look(self, DCONFDB_LOOKER_TELLS, g_get_monotonic_time());
+    const Looker teller = {DCONFDB_LOOKER_TELLS, next_look(self, DCONFDB_LOOKER_TELLS, g_get_monotonic_time())};
     g_mutex_unlock(&self->lock);
-    if (end != 0)
-        look_until(self, end);
+    if (teller.end != 0)
+        look_beside(self, &teller);
 }
 
 void store_end(DconfdbBackend *self)

@@ -43,13 +43,17 @@ static const char *word_at(int count, char **words, int at)
     return at < count ? words[at] : "";
 }
 
-/* Which program the words are for, as the proved call has it. */
-static uint32_t program_of(int count, char **words)
+/* Which program the words are for, and whether it has none of the variables of a store, as the proved call has it. */
+static uint32_t program_of(int count, char **words, bool *has_none)
 {
     const char *name = word_at(count, words, 0), *first = word_at(count, words, 1), *second = word_at(count, words, 2);
-    const DconfdbCommandLine line = {
-        .count = (uint64_t)count, .is_path = is_path(second), .has_blame = access(blamer, X_OK) == 0, .is_noted = secure_getenv("DCONF_BLAME") != NULL};
-    return dconfdb_program_of((const uint8_t *)name, strlen(name), (const uint8_t *)first, strlen(first), (const uint8_t *)second, strlen(second), &line);
+    const DconfdbCommandLine line = {.count = (uint64_t)count,
+                                     .is_path = is_path(second),
+                                     .has_blame = access(blamer, X_OK) == 0,
+                                     .is_noted = getenv("DCONF_BLAME") != NULL,
+                                     .counts = environment_counts()};
+    return dconfdb_program_of((const uint8_t *)name, strlen(name), (const uint8_t *)first, strlen(first), (const uint8_t *)second, strlen(second), &line,
+                              has_none);
 }
 
 /* Becomes the program by dconfdb-blame, or returns. */
@@ -65,7 +69,6 @@ static void run_noted(const char *file, int count, char **words)
     free(noted);
 }
 
-/* As for the library: what the environment says doesn't count for a program that has more rights than whoever started it. */
 static void forget_environment(void)
 {
     for (size_t i = 0; i < VARIABLES; i++)
@@ -78,8 +81,6 @@ static const char *proved_program(void)
     const DconfdbEnvironment environment = environment_now();
     const DconfdbBytes nothing = DCONFDB_NOTHING;
     DconfdbPath path = DCONFDB_NO_PATH;
-    if (!environment.counts)
-        forget_environment();
     uint32_t what = dconfdb_place(&environment, DCONFDB_GIVEN_BY_NOBODY, nothing.at, nothing.len, DCONFDB_WANT_FOLDER, false, nothing.at, nothing.len, &path);
     return what == DCONFDB_ASK_HOME ? homeless : proved;
 }
@@ -102,7 +103,10 @@ static int run_other(uint32_t program, char **words)
 int main(int count, char **words)
 {
     char help[] = "--help", *helped[] = {NULL, help, NULL};
-    uint32_t program = program_of(count, words);
+    bool has_none = false;
+    uint32_t program = program_of(count, words, &has_none);
+    if (has_none)
+        forget_environment();
     switch (program) {
     case DCONFDB_PROGRAM_PROVED:
         return run(proved_program(), words);

@@ -6,6 +6,7 @@
 
 bool dconfdb_makes_difference(const char *path, size_t path_len, bool sets, const void *base);
 uint32_t dconfdb_changing_after(uint32_t task, bool yes, const void *known);
+uint32_t dconfdb_fast_after(uint32_t task, const void *known);
 bool dconfdb_is_said(const void *said, size_t count, bool is_stored);
 bool dconfdb_is_unmade(const void *edit);
 uint32_t dconfdb_look_due(uint32_t looker, const void *known);
@@ -63,6 +64,23 @@ static void finds_changing(void)
     for (size_t i = 0; i < FIELDS; i++)
         lies("DconfdbChanging", names[i], i, FLAG);
     printf("TAKES(DconfdbChanging, %d);\n", FIELDS);
+}
+
+static uint32_t fast_after(uint32_t task, unsigned fields)
+{
+    Flags known = flags_of(fields);
+    return dconfdb_fast_after(task, &known);
+}
+
+static void finds_fast(void)
+{
+    enum { REFUSED = 1, EMPTY = 2, NEWS = 4, FIELDS = 3 };
+    static const char *const names[FIELDS] = {"is_refused", "is_empty", "is_news"};
+    is_so(fast_after(0, REFUSED) == 5 && fast_after(0, EMPTY) == 4 && fast_after(0, NEWS) == 1 && fast_after(0, REFUSED | EMPTY) == 5, "DconfdbFast");
+    is_so(fast_after(1, 0) == 2 && fast_after(2, NEWS) == 3 && fast_after(2, 0) == 4 && fast_after(3, NEWS) == 4, "DconfdbFast");
+    for (size_t i = 0; i < FIELDS; i++)
+        lies("DconfdbFast", names[i], i, FLAG);
+    printf("TAKES(DconfdbFast, %d);\n", FIELDS);
 }
 
 static bool is_said(unsigned first, unsigned second, bool is_stored)
@@ -132,6 +150,7 @@ void finds_changesets(void)
 {
     finds_base();
     finds_changing();
+    finds_fast();
     finds_said();
     finds_tried();
     finds_looks();

@@ -6,6 +6,7 @@
 
 bool dconfdb_patience_goes_on(void *patience, const void *progress, const void *changed, uint64_t now);
 uint32_t dconfdb_failing_met(void *failing, bool is_there, bool is_momentary, bool tries_again, uint64_t now);
+uint32_t dconfdb_failing_look(void *failing, const void *seen, uint64_t now);
 uint32_t dconfdb_tell_next(const void *known);
 uint32_t dconfdb_served_after(uint32_t done, const void *known);
 void dconfdb_sentence(const void *met, void *sentence);
@@ -83,6 +84,33 @@ static void finds_failing(void)
     printf("TAKES(DconfdbFailing, %d);\n", (FAULT_FLAGS + 1) * WORD);
 }
 
+enum { IS_MET, IS_OF_LOOK, HAS_LOOKED, IS_MOMENTARY, IS_REPEATED, FAULT_SEEN };
+
+/* What is said of a fault that was there before or not, by what is seen of it. */
+static uint32_t said_by(bool was_there, unsigned fields)
+{
+    _Alignas(16) uint8_t failing[(FAULT_FLAGS + 1) * WORD] = {0};
+    bool seen[FAULT_SEEN];
+    for (int i = 0; i < FAULT_SEEN; i++)
+        seen[i] = fields >> i & 1;
+    failing[FAULT_IS_THERE] = was_there;
+    return dconfdb_failing_look(failing, seen, 9);
+}
+
+static void finds_seen(void)
+{
+    enum { MET = 1 << IS_MET, OF_LOOK = 1 << IS_OF_LOOK, LOOKED = 1 << HAS_LOOKED, MOMENTARY = 1 << IS_MOMENTARY, REPEATED = 1 << IS_REPEATED };
+    is_so(said_by(false, 0) == 0 && said_by(false, MET) == 1 && said_by(true, 0) == 3, "DconfdbFaultSeen");
+    is_so(said_by(true, OF_LOOK) == 1 && said_by(true, OF_LOOK | LOOKED) == 3, "DconfdbFaultSeen");
+    is_so(said_by(false, MET | MOMENTARY | REPEATED) == 0 && said_by(false, MET | MOMENTARY) == 1 && said_by(false, MET | REPEATED) == 1, "DconfdbFaultSeen");
+    lies("DconfdbFaultSeen", "is_met", IS_MET, FLAG);
+    lies("DconfdbFaultSeen", "is_of_look", IS_OF_LOOK, FLAG);
+    lies("DconfdbFaultSeen", "has_looked", HAS_LOOKED, FLAG);
+    lies("DconfdbFaultSeen", "is_momentary", IS_MOMENTARY, FLAG);
+    lies("DconfdbFaultSeen", "is_repeated", IS_REPEATED, FLAG);
+    printf("TAKES(DconfdbFaultSeen, %d);\n", FAULT_SEEN);
+}
+
 enum { TAKEN_PATHS = 0, TELL_LIST = 8, TELL_FLAGS = 12, TELL_IS_FIRST = 12, TELL_ENDS = 13, TELL_IS_OTHER = 14, TELL_HAS_EDITS = 15, TELL_IS_FOUND = 16,
        TELL_HAS_PATH = 17, TELL_IS_LISTENED = 18, TELL_IS_BETWEEN = 19, TELL_HAS_RIGHTS = 20, TELL_IS_OF_FILES = 21, TELL_HAS_FAULTS = 22,
        TELLING = 24 };
@@ -135,7 +163,8 @@ static void finds_telling(void)
 enum { SERVED_SIZE = 0, SERVED_WAITING = 8, SERVED_WAITING_SIZE = 16, SERVED_NAMES = 24, SERVED_SAID = 32, SERVED_KIND = 36, SERVED_FLAGS = 40,
        SERVED_IS_USED = SERVED_FLAGS, SERVED_IS_NORMAL, SERVED_HAS_EDITS, SERVED_IS_WRITTEN, SERVED_IS_CLOSED, SERVED_ENDS, SERVED_IS_AMID,
        SERVED_IS_SAME, SERVED_IS_OPEN, SERVED_IS_PROFILE_OPEN, SERVED_HAS_SAME_FILE, SERVED_HAD_NAME, SERVED_IS_BUS_CLOSED, SERVED_IS_SHORT,
-       SERVED_IS_AGAIN, SERVED_IS_COVERED, SERVED_SETS, SERVED_IS_USERS, SERVED_IS_UNMADE, SERVED_IS_SERVICE_DB, SERVED_IS_BEHIND, SERVED = 64 };
+       SERVED_IS_AGAIN, SERVED_IS_COVERED, SERVED_SETS, SERVED_IS_USERS, SERVED_IS_UNMADE, SERVED_IS_SERVICE_DB, SERVED_IS_BEHIND,
+       SERVED_HAS_PROFILE, SERVED = 64 };
 
 static bool is_served(uint32_t done, const uint64_t numbers[4], uint32_t said, unsigned fields, uint32_t next)
 {
@@ -144,7 +173,7 @@ static bool is_served(uint32_t done, const uint64_t numbers[4], uint32_t said, u
     memcpy(known + SERVED_SAID, &said, NUMBER);
     if (done == 9) /* of a path what it is, in the place of what is said */
         memcpy(known + SERVED_KIND, &said, NUMBER);
-    for (int i = 0; i < SERVED_IS_BEHIND + 1 - SERVED_FLAGS; i++)
+    for (int i = 0; i < SERVED_HAS_PROFILE + 1 - SERVED_FLAGS; i++)
         known[SERVED_FLAGS + i] = fields >> i & 1;
     return dconfdb_served_after(done, known) == next;
 }
@@ -153,7 +182,7 @@ static bool is_served(uint32_t done, const uint64_t numbers[4], uint32_t said, u
 static void finds_sent(const uint64_t none[4])
 {
     enum { WRITTEN = 8, SHORT = 1 << 13, AGAIN = SHORT << 1, COVERED = SHORT << 2, SETS = SHORT << 3, USERS = SHORT << 4, UNMADE = SHORT << 5,
-           SERVICE_DB = SHORT << 6, BEHIND = SHORT << 7, USED = 1, ENDS = 32 };
+           SERVICE_DB = SHORT << 6, BEHIND = SHORT << 7, HAS_PROFILE = SHORT << 8, USED = 1, ENDS = 32 };
     is_so(is_served(9, none, 1, SHORT, 0) && is_served(9, none, 2, SHORT, 14) && is_served(9, none, 1, 0, 15), "DconfdbServed");
     is_so(is_served(10, none, 0, 0, 0) && is_served(10, none, 0, AGAIN, 16) && is_served(10, none, 0, COVERED, 14) && is_served(10, none, 0, COVERED | SETS, 0),
           "DconfdbServed");
@@ -162,6 +191,7 @@ static void finds_sent(const uint64_t none[4])
     is_so(is_served(0, none, 0, SERVICE_DB, 17) && is_served(13, none, 0, 0, 11), "DconfdbServed");
     is_so(is_served(14, none, 0, USED, 0) && is_served(14, none, 0, 0, 9) && is_served(14, none, 0, USED | BEHIND, 9) && is_served(14, none, 0, USED | ENDS, 9),
           "DconfdbServed");
+    is_so(is_served(15, none, 0, 0, 0) && is_served(15, none, 0, HAS_PROFILE, 14), "DconfdbServed");
     lies("DconfdbServed", "kind", SERVED_KIND, NUMBER);
     lies("DconfdbServed", "is_short", SERVED_IS_SHORT, FLAG);
     lies("DconfdbServed", "is_again", SERVED_IS_AGAIN, FLAG);
@@ -171,6 +201,7 @@ static void finds_sent(const uint64_t none[4])
     lies("DconfdbServed", "is_unmade", SERVED_IS_UNMADE, FLAG);
     lies("DconfdbServed", "is_service_db", SERVED_IS_SERVICE_DB, FLAG);
     lies("DconfdbServed", "is_behind", SERVED_IS_BEHIND, FLAG);
+    lies("DconfdbServed", "has_profile", SERVED_HAS_PROFILE, FLAG);
 }
 
 /* Of what happens at the end, and before it is written, one field counts, or a few. */
@@ -277,6 +308,7 @@ void finds_faults(void)
 {
     finds_progress();
     finds_failing();
+    finds_seen();
     finds_telling();
     finds_served();
     finds_sentence();

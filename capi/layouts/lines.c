@@ -10,7 +10,7 @@ uint32_t dconfdb_read_as(const void *entry, const void *folders, size_t count, c
                          size_t *sources, size_t *stem, bool *is_source);
 uint32_t dconfdb_option(void *read, bool is_end, const char *word, size_t len, size_t *from);
 uint32_t dconfdb_program_of(const char *name, size_t name_len, const char *first, size_t first_len, const char *second, size_t second_len,
-                            const void *line);
+                            const void *line, bool *has_none);
 uint32_t dconfdb_finding(const void *known, const char *directory, size_t directory_len, const void *others, size_t count);
 
 /* Of two lines, the first names the group of the second's key. */
@@ -19,7 +19,7 @@ enum { CURSOR_GROUP = 16, CURSOR_LINE = 32, CURSOR_PLACE = 40, CURSOR = 48, GROU
 /* What is known of a key is read alone: what it is, and the fields of which these are so. */
 enum { FINDING_WHAT = 0, FINDING_IS_KNOWN = 4, FINDING_HAS_SCHEMAS = 5, FINDING_MAY_BE_ELSEWHERE = 6, FINDING_HAS_VALUE = 7,
        FINDING_IS_TAKEN = 8, FINDING_IS_OF_TYPE = 9, FINDING_IS_SYSTEM = 10, FINDING_IS_MADE = 11, FINDING_IS_UNSEEN = 12,
-       FINDING_IS_AMONG_PROFILES = 13, FINDING = 16 };
+       FINDING_IS_AMONG_PROFILES = 13, FINDING_HAS_DOUBLE = 14, FINDING = 16 };
 
 /* Beside one directory, of which `/a/` is a slip away, and `/ab/c/` isn't. */
 static bool is_found_at(const char *directory, uint32_t what, unsigned fields, uint32_t finding)
@@ -27,7 +27,7 @@ static bool is_found_at(const char *directory, uint32_t what, unsigned fields, u
     _Alignas(16) uint8_t known[FINDING] = {0}, other[LENT];
     lends(other, "/b/", 3);
     memcpy(known, &what, NUMBER);
-    for (int i = 0; i < FINDING_IS_AMONG_PROFILES + 1 - FINDING_IS_KNOWN; i++)
+    for (int i = 0; i < FINDING_HAS_DOUBLE + 1 - FINDING_IS_KNOWN; i++)
         known[FINDING_IS_KNOWN + i] = fields >> i & 1;
     return dconfdb_finding(known, directory, strlen(directory), other, 1) == finding;
 }
@@ -39,13 +39,15 @@ static bool is_found(uint32_t what, unsigned fields, uint32_t finding)
 
 static void finds_finding(void)
 {
-    enum { KNOWN = 1, SCHEMAS = 2, ELSEWHERE = 4, VALUE = 8, TAKEN = 16, TYPED = 32, SYSTEM = 64, MADE = 128, UNSEEN = 256, AMONG = 512 };
+    enum { KNOWN = 1, SCHEMAS = 2, ELSEWHERE = 4, VALUE = 8, TAKEN = 16, TYPED = 32, SYSTEM = 64, MADE = 128, UNSEEN = 256, AMONG = 512, DOUBLE = 1024 };
     is_so(is_found(0, 0, 1) && is_found(1, 0, 2) && is_found(2, 0, 3) && is_found(0, KNOWN, 0), "DconfdbFinding");
     is_so(is_found(0, ELSEWHERE, 0) && is_found_at("/a/", 0, ELSEWHERE, 1) && is_found(0, ELSEWHERE | SCHEMAS, 1), "DconfdbFinding");
     is_so(is_found(0, KNOWN | VALUE, 4) && is_found(0, KNOWN | VALUE | TYPED, 5) && is_found(0, KNOWN | VALUE | TAKEN, 0), "DconfdbFinding");
     is_so(is_found_at("profile", 3, SYSTEM, 6) && is_found_at("profile", 3, 0, 0) && is_found_at("profile", 3, SYSTEM | KNOWN, 0), "DconfdbFinding");
     is_so(is_found_at("profile", 3, SYSTEM | MADE, 0) && is_found_at("profile", 3, SYSTEM | UNSEEN, 0) && is_found_at("profile", 3, SYSTEM | AMONG, 0),
           "DconfdbFinding");
+    is_so(is_found(6, DOUBLE | VALUE, 0) && is_found(6, DOUBLE | VALUE | SYSTEM, 9) && is_found(6, DOUBLE | KNOWN | TAKEN, 10), "DconfdbFinding");
+    is_so(is_found(6, KNOWN | TAKEN, 0) && is_found(6, TAKEN, 10) && is_found(6, KNOWN, 10), "DconfdbFinding");
     lies("DconfdbFinding", "what", FINDING_WHAT, NUMBER);
     lies("DconfdbFinding", "is_known", FINDING_IS_KNOWN, FLAG);
     lies("DconfdbFinding", "has_schemas", FINDING_HAS_SCHEMAS, FLAG);
@@ -57,6 +59,7 @@ static void finds_finding(void)
     lies("DconfdbFinding", "is_made", FINDING_IS_MADE, FLAG);
     lies("DconfdbFinding", "is_unseen", FINDING_IS_UNSEEN, FLAG);
     lies("DconfdbFinding", "is_among_profiles", FINDING_IS_AMONG_PROFILES, FLAG);
+    lies("DconfdbFinding", "has_double", FINDING_HAS_DOUBLE, FLAG);
     printf("TAKES(DconfdbFinding, %d);\n", FINDING);
 }
 
@@ -144,14 +147,32 @@ static void finds_words(void)
     printf("TAKES(DconfdbWords, %d);\n", WORDS);
 }
 
+/* What else is known of a line. */
+typedef struct {
+    uint64_t count;
+    bool flags[4];
+} Known;
+
+static uint32_t program_known(const char *name, const char *first, const char *second, const Known *line, bool *has_none)
+{
+    return dconfdb_program_of(name, strlen(name), first, strlen(first), second, strlen(second), line, has_none);
+}
+
 /* The program of three words, the last of them a path or not. */
 static uint32_t program_of(const char *name, const char *first, const char *second, uint64_t count, bool is_path, bool has_blame, bool is_noted)
 {
-    const struct {
-        uint64_t count;
-        bool flags[3];
-    } line = {count, {is_path, has_blame, is_noted}};
-    return dconfdb_program_of(name, strlen(name), first, strlen(first), second, strlen(second), &line);
+    const Known line = {count, {is_path, has_blame, is_noted, true}};
+    bool has_none = true;
+    uint32_t program = program_known(name, first, second, &line, &has_none);
+    return has_none ? UINT32_MAX : program;
+}
+
+/* Where the environment doesn't count. */
+static bool is_bare(uint64_t count)
+{
+    const Known line = {count, {true, true, true, false}};
+    bool has_none = false;
+    return program_known("dconf", "load", "", &line, &has_none) == 0 && has_none;
 }
 
 static void finds_line(void)
@@ -160,10 +181,12 @@ static void finds_line(void)
     is_so(program_of("dconf", "watch", "/", 3, true, false, false) == 5 && program_of("dconf", "watch", "/", 3, false, true, true) == 0, "DconfdbCommandLine");
     is_so(program_of("dconf", "blame", "", 2, false, true, false) == 6 && program_of("dconf", "blame", "", 2, true, false, true) == 0, "DconfdbCommandLine");
     is_so(program_of("dconf", "load", "", 2, false, false, true) == 7 && program_of("dconf", "load", "", 2, true, true, false) == 0, "DconfdbCommandLine");
+    is_so(is_bare(2), "DconfdbCommandLine");
     lies("DconfdbCommandLine", "count", 0, WORD);
     lies("DconfdbCommandLine", "is_path", 8, FLAG);
     lies("DconfdbCommandLine", "has_blame", 9, FLAG);
     lies("DconfdbCommandLine", "is_noted", 10, FLAG);
+    lies("DconfdbCommandLine", "counts", 11, FLAG);
     printf("TAKES(DconfdbCommandLine, %d);\n", 16);
 }
 

@@ -13,13 +13,14 @@ void dconfdb_profile_step(const void *place, const void *look, void *next);
 
 /* ---- a place, of which each text in turn is in a path */
 
-enum { FOLDER = 0, NAMED = 16, DCONFS = 32, SESSION = 48, DATA = 64, USER = 80, IS_GIVEN = 96, IS_DCONFS = 97, A_PLACE = 104 };
+enum { FOLDER = 0, NAMED = 16, DCONFS = 32, SESSION = 48, DATA = 64, USER = 80, IS_GIVEN = 96, IS_DCONFS = 97, DO_COUNT = 98, A_PLACE = 104 };
 
 static void begins_place(uint8_t *place)
 {
     memset(place, 0, A_PLACE);
     for (size_t at = FOLDER; at <= USER; at += LENT)
         lends(place + at, "", 0);
+    place[DO_COUNT] = 1;
 }
 
 /* `/` and `.db` are the calls' own: so these parts are found by what they are. */
@@ -41,7 +42,7 @@ static void finds_path(void)
 
 enum { A_PATH = PART_OF_PATH * LENT, NAME = A_PATH, NEXT_DIR = 2 * A_PATH, STEP = 136, TELLING = 140, ERRNUM = 144, LOOKS = 148, HAS_PATH = 149, NEXT = 152 };
 enum { WHICH = 0, FAILS = 4, DIR_AT = 8, IS_THERE = 16, IS_LENIENT = 17, HAS_KEPT = 18, LISTS = 19, PROFILE_LOOK = 24 };
-enum { MANDATORY = 8, IN_RUNTIME = 10, SYSTEM = 11, IN_DATA = 12, BEGINS = 7 };
+enum { MANDATORY = 8, AT_PATH = 9, IN_RUNTIME = 10, SYSTEM = 11, IN_DATA = 12, BEGINS = 7 };
 
 /* Whether that text lies there: it is that part of the path of the profile that is listed after such a one. */
 static void tries_text(const char *field, size_t at, uint32_t which, bool is_dconfs, size_t part)
@@ -56,6 +57,23 @@ static void tries_text(const char *field, size_t at, uint32_t which, bool is_dco
     dconfdb_profile_step(place, look, next);
     is_so(next[HAS_PATH] == 1 && is_lent(next + part * LENT, text, strlen(text)), "DconfdbPlace");
     lies("DconfdbPlace", field, at, LENT);
+}
+
+/* A profile that the environment names by a path is listed behind the mandatory one, if it counts. */
+static void tries_counts(void)
+{
+    _Alignas(16) uint8_t place[A_PLACE], look[PROFILE_LOOK] = {0}, next[NEXT];
+    begins_place(place);
+    lends(place + DCONFS, "/a text", 7);
+    place[IS_DCONFS] = 1;
+    look[WHICH] = MANDATORY;
+    look[LISTS] = 1;
+    dconfdb_profile_step(place, look, next);
+    bool does = next[STEP] == AT_PATH;
+    place[DO_COUNT] = 0;
+    dconfdb_profile_step(place, look, next);
+    is_so(does && next[STEP] == IN_RUNTIME, "DconfdbPlace");
+    lies("DconfdbPlace", "counts", DO_COUNT, FLAG);
 }
 
 /* A database of the system is in the folder that is given, beside the profile of all users, or in dconf's folder. */
@@ -87,6 +105,7 @@ static void tries_place(void)
     tries_text("data_dirs", DATA, SYSTEM, true, 1);
     tries_text("user", USER, BEGINS, true, 3);
     tries_flags();
+    tries_counts();
     printf("TAKES(DconfdbPlace, %d);\n", A_PLACE);
 }
 

@@ -65,7 +65,7 @@ const StorePlace *engine_place(Engine *self)
 static bool open_store(Engine *self, DconfdbError *error)
 {
     const StorePlace *place = place_or_fault(self, error);
-    DconfdbStore *store = place ? place_open(place, error) : NULL, *unused = store;
+    DconfdbStore *store = place ? place_open(place, DCONFDB_WATCHER_CLIENT, error) : NULL, *unused = store;
     g_mutex_lock(&self->lock);
     if (!self->store)
         self->store = g_steal_pointer(&unused);

@@ -149,7 +149,7 @@ static bool is_redundant(Engine *self, const DconfdbSnapshot *now, const Dconfdb
 }
 
 /* `lock` is held. What becomes of the changes beside what waits. */
-static uint32_t entry_of(Engine *self, bool has_user, const DconfdbSnapshot *now, const Edits *edits, DConfChangeset *changes)
+static DconfdbFast known_beside(Engine *self, bool has_user, const DconfdbSnapshot *now, const Edits *edits, DConfChangeset *changes)
 {
     g_autofree DconfdbNewEdit *known = g_new0(DconfdbNewEdit, edits->edits->len);
     for (guint at = 0; at < edits->edits->len; at++) {
@@ -160,41 +160,48 @@ static uint32_t entry_of(Engine *self, bool has_user, const DconfdbSnapshot *now
         known[at].is_same = is_redundant(self, or_nothing(now), edit, value);
     }
     bool is_there;
-    return dconfdb_entry(known, edits->edits->len, &is_there);
+    uint32_t entry = dconfdb_entry(known, edits->edits->len, &is_there);
+    return (DconfdbFast){.is_refused = entry == DCONFDB_ENTRY_REFUSED,
+                         .is_empty = entry == DCONFDB_ENTRY_EMPTY,
+                         .is_news = entry == DCONFDB_ENTRY_WAITS};
 }
 
-/* Lets the changes wait, unless they are refused, or nothing of them is left. Gives what becomes of them. */
-static uint32_t add_waiting(Engine *self, const DconfdbSnapshot *now, const Edits *edits, DConfChangeset *changes)
+/* `lock` is held. */
+static void add_waiting(Engine *self, const Edits *edits, DConfChangeset *changes)
+{
+    if (!self->waiting)
+        self->waiting = dconf_changeset_new();
+    dconf_changeset_change(self->waiting, changes);
+    ask_now(self, edits);
+}
+
+/* Finds out what becomes of the changes, and lets them wait, if that comes. Gives the task that is due then. */
+static uint32_t begin(Engine *self, const DconfdbSnapshot *now, const Edits *edits, DConfChangeset *changes, DconfdbFast *known)
 {
     bool has_user = engine_has_user(self);
     g_mutex_lock(&self->lock);
-    uint32_t entry = entry_of(self, has_user, now, edits, changes);
-    if (entry != DCONFDB_ENTRY_REFUSED && entry != DCONFDB_ENTRY_EMPTY) {
-        if (!self->waiting)
-            self->waiting = dconf_changeset_new();
-        dconf_changeset_change(self->waiting, changes);
-        ask_now(self, edits);
+    *known = known_beside(self, has_user, now, edits, changes);
+    uint32_t task = dconfdb_fast_after(DCONFDB_FAST_BEGINS, known);
+    if (task == DCONFDB_FAST_ADD) {
+        add_waiting(self, edits, changes);
+        task = dconfdb_fast_after(task, known);
     }
     g_mutex_unlock(&self->lock);
-    return entry;
+    return task;
 }
 
 /* Whether they wait, or there is nothing to be made. */
 static gboolean take(Engine *self, const DconfdbSnapshot *now, const Edits *edits, DConfChangeset *changes, GError **error)
 {
-    switch (add_waiting(self, now, edits, changes)) {
-    case DCONFDB_ENTRY_REFUSED:
-        return refuse_locked(error);
-    case DCONFDB_ENTRY_EMPTY:
-        return TRUE;
-    case DCONFDB_ENTRY_WAITS:
-        have_written(self);
-        notice_changed(self, changes, NULL, TRUE);
-        return TRUE;
-    default:
-        have_written(self);
-        return TRUE;
+    DconfdbFast known;
+    uint32_t task = begin(self, now, edits, changes, &known);
+    for (; task < DCONFDB_FAST_MADE; task = dconfdb_fast_after(task, &known)) {
+        if (task == DCONFDB_FAST_WRITE)
+            have_written(self);
+        else /* DCONFDB_FAST_TELL */
+            notice_changed(self, changes, NULL, TRUE);
     }
+    return task == DCONFDB_FAST_MADE || refuse_locked(error);
 }
 
 gboolean engine_change_fast(Engine *self, DConfChangeset *changes, GError **error)

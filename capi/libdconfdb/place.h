@@ -11,6 +11,7 @@ typedef struct {
     char *folder, *profile;
     char *name, *runtime, *data_dirs, *user; /* of dconf's kind: $DCONF_PROFILE, the runtime folder, $XDG_DATA_DIRS, and the user's number */
     bool is_given, is_dconfs;
+    bool counts; /* whether those variables do */
     DconfdbPlace lent; /* the same, for the proved calls, of a place that was found or copied */
 } StorePlace;
 
@@ -30,10 +31,10 @@ bool place_kind(bool *is_dconfs, const char **file, int *fault);
 
 void place_release(StorePlace *place);
 
-/* dconfdb_store_open_lenient and dconfdb_store_files, of a place. Where the profile is named, and can't be had, there
+/* dconfdb_store_open_with and dconfdb_store_files, of a place, by one of DCONFDB_WATCHER_*. Where the profile is named, and can't be had, there
  * is no database. `profiles` is how many of the files, from the first on, may be the profile, and `are_all` is false where it can't be read
  * now, and may name others. */
-DconfdbStore *place_open(const StorePlace *place, DconfdbError *error);
+DconfdbStore *place_open(const StorePlace *place, uint32_t who, DconfdbError *error);
 char *place_files(const StorePlace *place, int *profiles, bool *are_all, DconfdbError *error);
 
 /* Where an open store is. It isn't to be released. */

@@ -10,7 +10,15 @@
 
 #include <stdlib.h>
 
-static const DconfdbOptions strict = DCONFDB_OPTIONS_INIT, lenient = {sizeof lenient, true, false, DCONFDB_USUAL_WAIT};
+static const DconfdbOptions usual = DCONFDB_OPTIONS_INIT, lenient = {sizeof lenient, true, false, DCONFDB_USUAL_WAIT};
+
+/* What counts of what is asked for, by who opens the store. */
+static DconfdbOptions options_of(uint32_t who, const DconfdbOptions *asked, bool lists)
+{
+    DconfdbOptions options = *asked;
+    options.is_lenient = dconfdb_is_lenient(who, asked->is_lenient, lists);
+    return options;
+}
 
 /* A store of which the place is known alone, which it takes. */
 static DconfdbStore *store_at(StorePlace *place, const DconfdbOptions *options, DconfdbError *error)
@@ -43,8 +51,9 @@ DconfdbStore *dconfdb_store_open_with(const char *folder, const DconfdbOptions *
     StorePlace place;
     DconfdbStore *store = NULL;
     int cancels = hold_cancellation();
+    const DconfdbOptions counting = options_of(DCONFDB_WATCHER_LIBRARY, options, false);
     if (place_of_caller(folder, &place, error))
-        store = open_at(&place, options, error);
+        store = open_at(&place, &counting, error);
     cancel_as_before(cancels);
     return store;
 }
@@ -55,18 +64,19 @@ static bool has_copy(const StorePlace *place, StorePlace *copy, DconfdbError *er
     return place_copy(place, copy) || refuse_memory(error);
 }
 
-DconfdbStore *place_open(const StorePlace *place, DconfdbError *error)
+DconfdbStore *place_open(const StorePlace *place, uint32_t who, DconfdbError *error)
 {
     StorePlace copy;
     int cancels = hold_cancellation();
-    DconfdbStore *store = has_copy(place, &copy, error) ? open_at(&copy, &lenient, error) : NULL;
+    const DconfdbOptions counting = options_of(who, &usual, false);
+    DconfdbStore *store = has_copy(place, &copy, error) ? open_at(&copy, &counting, error) : NULL;
     cancel_as_before(cancels);
     return store;
 }
 
 DconfdbStore *dconfdb_store_open(const char *folder, DconfdbError *error)
 {
-    return dconfdb_store_open_with(folder, &strict, error);
+    return dconfdb_store_open_with(folder, &usual, error);
 }
 
 DconfdbStore *dconfdb_store_open_lenient(const char *folder, DconfdbError *error)
@@ -86,7 +96,8 @@ bool dconfdb_store_profile_fault(const DconfdbStore *store, DconfdbError *error)
 static char *files_at(StorePlace *place, int *profiles, size_t *size, bool *are_all, DconfdbError *error)
 {
     DconfdbError fault = DCONFDB_ERROR_INIT;
-    DconfdbStore *store = store_at(place, &lenient, error);
+    const DconfdbOptions counting = options_of(DCONFDB_WATCHER_LIBRARY, &usual, true);
+    DconfdbStore *store = store_at(place, &counting, error);
     if (!store)
         return NULL;
     *are_all = store_find_files(store, &fault);

@@ -92,20 +92,30 @@ static void check_asked(const Lint *lint, const Asked *asked)
     }
 }
 
-/* The files of a folder are those of one database, in the order of their names. */
+/* No key is set yet in the folder that comes. */
+static void begin_folder(Lint *lint)
+{
+    g_clear_pointer(&lint->set, g_hash_table_unref);
+    lint->set = g_hash_table_new_full(g_str_hash, g_str_equal, g_free, g_free);
+}
+
+/* One of them, beside the one before it, or NULL. */
+static void check_beside(Lint *lint, const Asked *asked, const Asked *before)
+{
+    switch (dconfdb_file_after(before && is_same_file(asked, before), before && is_of_folder(asked, before))) {
+    case DCONFDB_FILE_AGAIN: return;
+    case DCONFDB_FILE_FIRST: begin_folder(lint); break;
+    default: break;
+    }
+    check_asked(lint, asked);
+}
+
 static void check_files(const Schemas *schemas, char *const *files, size_t count)
 {
     Lint lint = {schemas, NULL, NULL};
     Asked *asked = asked_files(files, count);
-    for (size_t i = 0; i < count; i++) {
-        if (i > 0 && is_same_file(&asked[i], &asked[i - 1]))
-            continue;
-        if (i == 0 || !is_of_folder(&asked[i], &asked[i - 1])) {
-            g_clear_pointer(&lint.set, g_hash_table_unref);
-            lint.set = g_hash_table_new_full(g_str_hash, g_str_equal, g_free, g_free);
-        }
-        check_asked(&lint, &asked[i]);
-    }
+    for (size_t i = 0; i < count; i++)
+        check_beside(&lint, &asked[i], i > 0 ? &asked[i - 1] : NULL);
     g_clear_pointer(&lint.set, g_hash_table_unref);
     asked_free(asked, count);
 }

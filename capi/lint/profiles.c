@@ -34,7 +34,7 @@ static void check_named(const Lint *lint, const Asked *asked, const char *text, 
     Place at = {asked->file, line_of(text, database->name.at)};
     DconfdbPath path = DCONFDB_NO_PATH, flag = DCONFDB_NO_PATH;
     const DconfdbBytes nothing = DCONFDB_NOTHING, folder = {(const uint8_t *)asked->folder, strlen(asked->folder)};
-    const DconfdbPlace place = {folder, nothing, nothing, nothing, nothing, nothing, true, false};
+    const DconfdbPlace place = {folder, nothing, nothing, nothing, nothing, nothing, true, false, false};
     dconfdb_database_path(&place, (const uint8_t *)asked->file, strlen(asked->file), database->kind, database->name.at, database->name.len, &path, &flag);
     char *file = path_of(&path);
     const DconfdbFinding known = known_of(lint, asked, database, file);

@@ -76,13 +76,10 @@ bool asked_is_made(const Asked *asked, GHashTable *made)
 
 uint32_t folder_within(const char *path)
 {
-    char folder[] = "", *whole = g_canonicalize_filename(path, NULL);
-    Asked asked = {.file = path, .folder = whole[1] ? whole : folder, .name = "file", .entry = {.is_one_read = true}};
-    Standing standing = standing_of(&asked, 0, NULL);
-    g_free(whole);
-    if (!standing.is_source)
-        return DCONFDB_WITHIN_SITE;
-    return standing.as == DCONFDB_READ_LOCKS ? DCONFDB_WITHIN_LOCKS : DCONFDB_WITHIN_SOURCES;
+    const DconfdbBytes nothing = DCONFDB_NOTHING;
+    g_autofree char *whole = g_canonicalize_filename(path, NULL);
+    g_autoptr(GArray) parts = parts_of(whole[1] ? whole : "");
+    return dconfdb_within(parts->len > 0 ? (const DconfdbBytes *)(gpointer)parts->data : &nothing, parts->len);
 }
 
 static char *sources_of(const Asked *asked)

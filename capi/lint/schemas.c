@@ -133,25 +133,27 @@ void schemas_close(Schemas *schemas)
     g_free(schemas);
 }
 
+static bool is_directory(const char *path)
+{
+    bool is_short;
+    return dconfdb_path_kind((const uint8_t *)path, strlen(path), DCONFDB_DIRECTORY_WANTED, false, &is_short) == DCONFDB_PATH_DIRECTORY;
+}
+
 const char *schemas_place(Schemas *schemas, const char *words)
 {
-    const char *path = strchr(words, ':');
-    if (!path)
-        return "there is no ':' between a schema and a path";
-    path++;
-    bool is_short;
-    if (dconfdb_path_kind((const uint8_t *)path, strlen(path), DCONFDB_DIRECTORY_WANTED, false, &is_short) != DCONFDB_PATH_DIRECTORY)
-        return "the path is not a directory's";
-    char *id = g_strndup(words, (size_t)(path - 1 - words));
+    static const char *const whys[] = {[DCONFDB_PLACING_NO_PATH] = "there is no ':' between a schema and a path",
+                                       [DCONFDB_PLACING_NO_DIRECTORY] = "the path is not a directory's",
+                                       [DCONFDB_PLACING_NO_SCHEMA] = "there is no such schema",
+                                       [DCONFDB_PLACING_FIXED] = "the schema has a path of its own"};
+    const char *colon = strchr(words, ':'), *path = colon ? colon + 1 : "";
+    g_autofree char *id = g_strndup(words, colon ? (size_t)(colon - words) : 0);
     GSettingsSchema *schema = g_settings_schema_source_lookup(schemas->source, id, TRUE);
-    g_free(id);
-    if (!schema)
-        return "there is no such schema";
-    bool is_fixed = g_settings_schema_get_path(schema) != NULL;
-    if (!is_fixed)
+    uint32_t said = dconfdb_placing(colon, is_directory(path), schema, schema && g_settings_schema_get_path(schema));
+    if (said == DCONFDB_PLACING_TAKEN)
         add_fixed(schemas, schema, path);
-    g_settings_schema_unref(schema);
-    return is_fixed ? "the schema has a path of its own" : NULL;
+    if (schema)
+        g_settings_schema_unref(schema);
+    return whys[said];
 }
 
 /* ---- what there is at a path */

@@ -22,17 +22,13 @@ static void find_no_value(Place at, const char *path, uint32_t number, size_t st
     }
 }
 
-/* By GLib, of a text with a double, which ours refuses. */
-static GVariant *glibs_value(Place at, const char *path, const DconfdbBytes *text)
-{
-    GError *error = NULL;
-    GVariant *value = g_variant_parse(NULL, (const char *)text->at, (const char *)text->at + text->len, NULL, &error);
-    if (!value) {
-        find(NO_VALUE, at, "%s: the text is no value: %s", path, error->message);
-        g_error_free(error);
-    }
-    return value;
-}
+/* What two readings of a text came to. */
+typedef struct {
+    uint32_t parsed, stored; /* why it is no value, by ours; and why no database holds that; or OK */
+    size_t start, end;       /* where it is none */
+    GVariant *value;         /* NULL: it is none, or none of GLib's */
+    GError *error;           /* why it is none by GLib, which is asked where ours refuses a double */
+} Reading;
 
 /* Why no database holds such a value of that type, which in one is a level deeper; or OK. */
 static uint32_t fault_of_storing(const DconfdbBytes *value, const DconfdbBytes *type_text)
@@ -46,46 +42,60 @@ static uint32_t fault_of_storing(const DconfdbBytes *value, const DconfdbBytes *
     return dconfdb_change(&empty, 1, true, &change, 1, path, 0, room, 0, &len, &at, &is_same);
 }
 
-/* The value that was parsed; or NULL, and it is said why. */
-static GVariant *stored_value(Place at, const char *path, const uint8_t *room, size_t size, size_t len)
+/* Of a value that was parsed. */
+static void read_stored(Reading *it, const uint8_t *room, size_t size, size_t len)
 {
     const DconfdbBytes value = {room, size}, type_text = {room + size, len - size};
-    uint32_t number = fault_of_storing(&value, &type_text);
-    if (number == DCONFDB_OK)
-        return value_of_bytes(&value, &type_text);
-    find_no_value(at, path, number, 0, 0);
-    return NULL;
+    it->stored = fault_of_storing(&value, &type_text);
+    if (it->stored == DCONFDB_OK)
+        it->value = value_of_bytes(&value, &type_text);
 }
 
-static void check_double(const Lint *lint, Place at, const char *path, size_t start, size_t end)
+static Reading read_text(const DconfdbBytes *text)
 {
-    const DconfdbFinding known = {.what = DCONFDB_OF_DOUBLE, .is_system = lint->site != NULL};
-    if (finding_alone(&known, path) == DCONFDB_FINDING_DOUBLE)
-        find(DOUBLE, at, "%s: DoubleText at %zu..%zu: 'update' refuses a double", path, start, end);
+    Reading it = {.stored = DCONFDB_OK};
+    size_t len = 64 + 2 * text->len, room_len, size = 0;
+    uint8_t *room = NULL;
+    do {
+        room_len = len;
+        room = g_realloc(room, room_len);
+        it.parsed = dconfdb_parse_value(text->at, text->len, room, room_len, &len, &size, &it.start, &it.end);
+    } while (it.parsed == DCONFDB_OK && len > room_len);
+    if (it.parsed == DCONFDB_OK)
+        read_stored(&it, room, size, len);
+    else if (it.parsed == DCONFDB_DOUBLE_TEXT)
+        it.value = g_variant_parse(NULL, (const char *)text->at, (const char *)text->at + text->len, NULL, &it.error);
+    g_free(room);
+    return it;
+}
+
+static void say_no_value(Place at, const char *path, const Reading *it)
+{
+    if (it->error)
+        find(NO_VALUE, at, "%s: the text is no value: %s", path, it->error->message);
+    else if (it->parsed != DCONFDB_OK)
+        find_no_value(at, path, it->parsed, it->start, it->end);
+    else
+        find_no_value(at, path, it->stored, 0, 0);
 }
 
 /* NULL: it is no value, and then it is said why; or none of GLib's. */
 static GVariant *value_of(const Lint *lint, Place at, const char *path, const DconfdbBytes *text)
 {
-    size_t len = 64 + 2 * text->len, room_len, size = 0, start = 0, end = 0;
-    uint32_t number;
-    uint8_t *room = NULL;
-    do {
-        room_len = len;
-        room = g_realloc(room, room_len);
-        number = dconfdb_parse_value(text->at, text->len, room, room_len, &len, &size, &start, &end);
-    } while (number == DCONFDB_OK && len > room_len);
-    GVariant *value = NULL;
-    if (number == DCONFDB_OK)
-        value = stored_value(at, path, room, size, len);
-    else if (number == DCONFDB_DOUBLE_TEXT)
-        value = glibs_value(at, path, text);
-    else
-        find_no_value(at, path, number, start, end);
-    if (number == DCONFDB_DOUBLE_TEXT && value)
-        check_double(lint, at, path, start, end);
-    g_free(room);
-    return value;
+    Reading it = read_text(text);
+    const DconfdbFinding known = {.what = DCONFDB_OF_TEXT,
+                                  .is_known = it.parsed == DCONFDB_OK,
+                                  .has_value = it.value != NULL,
+                                  .is_taken = it.stored == DCONFDB_OK,
+                                  .is_system = lint->site != NULL,
+                                  .has_double = it.parsed == DCONFDB_DOUBLE_TEXT};
+    switch (finding_alone(&known, path)) {
+    case DCONFDB_FINDING_NO_VALUE: say_no_value(at, path, &it); break;
+    case DCONFDB_FINDING_DOUBLE: find(DOUBLE, at, "%s: DoubleText at %zu..%zu: 'update' refuses a double", path, it.start, it.end); break;
+    default: break;
+    }
+    g_clear_error(&it.error);
+    return it.value;
 }
 
 /* ---- lines */

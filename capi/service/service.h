@@ -95,6 +95,9 @@ struct Writer {
     DconfdbSnapshot *told; /* what listeners know of */
 
     Watch *watch;
+    int ears;           /* epoll's, of inotify; -1: can't be had */
+    gint heard;         /* inotify's, if it is by `ears`; else -1; atomic */
+    bool is_deaf;       /* for the thread that writes, they don't have it now */
     guint hears, waits; /* sources, of what happens and of time; 0: none */
     Profiles seen;      /* when the store was opened */
     Warned warned;      /* the faults that were said, and are there still */
@@ -114,7 +117,10 @@ void writer_free(Writer *writer);
 /* In the main thread: sees what others change. */
 void writer_watch(Writer *writer);
 
-/* In the thread that writes: `turn` was let go of. */
+/* In the thread that writes: what happens to the files wakes nobody until it has written, since `turn` would be waited for. */
+void writer_writes(Writer *writer);
+
+/* `turn` was let go of. */
 void writer_has_written(Writer *writer);
 
 /* ---- who is told (told.c); `turn` is held */

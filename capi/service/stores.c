@@ -2,6 +2,8 @@
 #include "service.h"
 
 #include <string.h>
+#include <sys/epoll.h>
+#include <unistd.h>
 
 /* ---- where it is */
 
@@ -18,7 +20,9 @@ static char *profile_of_name(const char *name, DconfdbError *error)
     g_autofree char *folder = g_build_filename(g_get_user_runtime_dir(), "dconfdb", "service", NULL);
     g_autofree char *line = g_strdup_printf("user-db:%s\n", name);
     g_autofree char *path = g_build_filename(folder, name, NULL);
-    if (has_line(path, line) || (g_mkdir_with_parents(folder, 0700) == 0 && g_file_set_contents(path, line, -1, &fault)))
+    const DconfdbServed known = {.has_profile = has_line(path, line)};
+    bool stays = dconfdb_served_after(DCONFDB_SERVED_PROFILE, &known) == DCONFDB_SERVED_PASSED;
+    if (stays || (g_mkdir_with_parents(folder, 0700) == 0 && g_file_set_contents(path, line, -1, &fault)))
         return g_steal_pointer(&path);
     error->code = DCONFDB_ERROR_FILE;
     g_strlcpy(error->text, fault ? fault->message : folder, sizeof error->text);
@@ -31,7 +35,7 @@ static DconfdbStore *open_alone(const Service *service, const char *name, Dconfd
     g_autofree char *profile = profile_of_name(name, error);
     StorePlace place = service->place;
     place.profile = profile;
-    return profile ? place_open(&place, error) : NULL;
+    return profile ? place_open(&place, DCONFDB_WATCHER_SERVICE, error) : NULL;
 }
 
 static bool has_same_file(const DconfdbStore *one, const DconfdbStore *other)
@@ -58,7 +62,7 @@ Profiles service_profiles(const Service *service)
 DconfdbStore *store_named(const Service *service, const char *name, DconfdbError *error)
 {
     DconfdbStore *alone = open_alone(service, name, error);
-    DconfdbStore *profiles = alone ? place_open(&service->place, error) : NULL;
+    DconfdbStore *profiles = alone ? place_open(&service->place, DCONFDB_WATCHER_SERVICE, error) : NULL;
     const DconfdbServed known = {.is_open = alone, .is_profile_open = profiles, .has_same_file = profiles && has_same_file(profiles, alone)};
     switch (dconfdb_served_after(DCONFDB_SERVED_OPENED, &known)) {
     case DCONFDB_SERVED_PROFILES: return keep(profiles, profiles, alone);
@@ -79,6 +83,8 @@ static Writer *writer_new(Service *service, const char *name, DconfdbStore *stor
     writer->seen = *seen;
     writer->told = dconfdb_store_snapshot(store);
     writer->watch = watch_new(DCONFDB_WATCHER_SERVICE);
+    writer->ears = epoll_create1(EPOLL_CLOEXEC);
+    writer->heard = -1;
     g_mutex_init(&writer->turn);
     return writer;
 }
@@ -106,6 +112,8 @@ void writer_free(Writer *writer)
     g_clear_handle_id(&writer->hears, g_source_remove);
     g_clear_handle_id(&writer->waits, g_source_remove);
     watch_free(writer->watch);
+    if (writer->ears >= 0)
+        close(writer->ears);
     dconfdb_snapshot_unref(writer->told);
     dconfdb_store_close(writer->store);
     g_mutex_clear(&writer->turn);

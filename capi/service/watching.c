@@ -5,6 +5,7 @@
 #include <glib-unix.h>
 #include <limits.h>
 #include <stdlib.h>
+#include <sys/epoll.h>
 
 static void go_on(Writer *writer);
 
@@ -103,8 +104,38 @@ static gboolean go_on_later(gpointer data)
     return G_SOURCE_REMOVE;
 }
 
+static gboolean hear(int file, GIOCondition condition, gpointer data);
+
+/* Where `ears` can't have inotify again. */
+static gboolean hear_itself(gpointer data)
+{
+    Writer *writer = data;
+    g_clear_handle_id(&writer->hears, g_source_remove);
+    writer->hears = g_unix_fd_add(watch_descriptor(writer->watch), G_IO_IN, hear, writer);
+    return G_SOURCE_REMOVE;
+}
+
+/* Epoll wakes who polls it also for what it was asked to pass over: so inotify is taken out of it. */
+void writer_writes(Writer *writer)
+{
+    int inotify = g_atomic_int_get(&writer->heard);
+    writer->is_deaf = inotify >= 0 && epoll_ctl(writer->ears, EPOLL_CTL_DEL, inotify, NULL) == 0;
+}
+
+static void listen_again(Writer *writer)
+{
+    struct epoll_event event = {.events = EPOLLIN};
+    writer->is_deaf = epoll_ctl(writer->ears, EPOLL_CTL_ADD, g_atomic_int_get(&writer->heard), &event) != 0;
+    if (writer->is_deaf) {
+        g_atomic_int_set(&writer->heard, -1);
+        g_idle_add_full(G_PRIORITY_DEFAULT, hear_itself, writer, NULL);
+    }
+}
+
 void writer_has_written(Writer *writer)
 {
+    if (writer->is_deaf)
+        listen_again(writer);
     if (g_atomic_int_get(&writer->is_to_look))
         g_idle_add_full(G_PRIORITY_DEFAULT, go_on_later, writer, NULL);
 }
@@ -121,13 +152,23 @@ static gboolean hear(int file, GIOCondition condition, gpointer data)
     return G_SOURCE_CONTINUE;
 }
 
+/* What the main loop polls: inotify by `ears`, which the other thread stops; or, where these can't be had, itself. */
+static int ears_of(Writer *writer, int inotify)
+{
+    struct epoll_event event = {.events = EPOLLIN};
+    if (epoll_ctl(writer->ears, EPOLL_CTL_ADD, inotify, &event) != 0)
+        return inotify;
+    g_atomic_int_set(&writer->heard, inotify);
+    return writer->ears;
+}
+
 /* The files that are the store's now: the profiles may name others by then. */
 static void begin(Writer *writer)
 {
     const Service *service = writer->service;
     watch_answer(writer->watch, watch_begin_with(writer->watch, place_of(writer->store), service->files, service->profiles));
     if (writer->hears == 0 && watch_descriptor(writer->watch) >= 0)
-        writer->hears = g_unix_fd_add(watch_descriptor(writer->watch), G_IO_IN, hear, writer);
+        writer->hears = g_unix_fd_add(ears_of(writer, watch_descriptor(writer->watch)), G_IO_IN, hear, writer);
 }
 
 static gboolean pass_time(gpointer data)

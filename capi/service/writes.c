@@ -232,6 +232,7 @@ static bool write_run(Run *run, FolderLock *lock, const Turn *turn)
 {
     Writer *writer = run->writer;
     read_all(run);
+    writer_writes(writer);
     g_mutex_lock(&writer->turn);
     write_in(run, turn);
     bool is_over = is_settled(writer->service, run);

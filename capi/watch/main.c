@@ -2,6 +2,7 @@
 #define _GNU_SOURCE
 #include "dconfdb.h"
 #include "dconfdb_calls.h"
+#include "errors.h"
 #include "lists.h"
 #include "looked.h"
 #include "notices.h"
@@ -73,9 +74,7 @@ static bool tell(const Watching *watch, const DconfdbSnapshot *now, DconfdbError
     seen_free(&told);
     if (any)
         puts("");
-    if (!is_told)
-        snprintf(error->text, sizeof error->text, "no memory is left");
-    return is_told;
+    return is_told || refuse_memory(error);
 }
 
 /* ---- looking */
@@ -97,7 +96,7 @@ typedef struct {
 /* Opens the store in the place of the one that is open. */
 static bool open_anew(Watching *watch, Looking *it)
 {
-    DconfdbStore *store = place_open(&watch->place, &it->error);
+    DconfdbStore *store = place_open(&watch->place, DCONFDB_WATCHER_COMMAND, &it->error);
     if (!store)
         return false;
     it->known.has_same_files = have_same_files(store, watch->store);
@@ -108,7 +107,7 @@ static bool open_anew(Watching *watch, Looking *it)
 }
 
 /* Tells what is new: after a look that failed nothing is. False: it failed. */
-static bool hand_out(Watching *watch, Looking *it)
+static bool tell_newest(Watching *watch, Looking *it)
 {
     DconfdbSnapshot *now = dconfdb_store_snapshot(watch->store);
     if (!tell(watch, now, &it->error)) {
@@ -129,7 +128,7 @@ static void carry_out(Watching *watch, uint32_t task, Looking *it)
 {
     switch (task) {
     case DCONFDB_GLANCE_HAND:
-        it->is_told = hand_out(watch, it);
+        it->is_told = tell_newest(watch, it);
         break;
     case DCONFDB_GLANCE_HEED: /* nothing waits here */
         break;
@@ -193,13 +192,18 @@ static int watch_until_interrupted(Watching *watch)
     return 1;
 }
 
+static bool has_names(Watching *watch, DconfdbError *error)
+{
+    watch->names = watch_new(DCONFDB_WATCHER_COMMAND);
+    return watch->names || refuse_memory(error);
+}
+
 /* What is watched, before anything is read of it: what changes meanwhile is told of. False: it can't be. */
 static bool prepare(Watching *watch, DconfdbError *error)
 {
     bool are_all = false;
     watch->names_read = place_files(&watch->place, &watch->profiles, &are_all, error);
-    watch->names = watch_new(DCONFDB_WATCHER_COMMAND);
-    if (!watch->names_read || !watch->names)
+    if (!watch->names_read || !has_names(watch, error))
         return false;
     begin(watch);
     watch->seen = profiles_now(watch->names_read, watch->profiles);
@@ -210,10 +214,10 @@ static int start(Watching *watch)
 {
     DconfdbError error = DCONFDB_ERROR_INIT;
     if (!prepare(watch, &error)) {
-        warn(watch->names_read ? "Memory" : error.text);
+        warn(error.text);
         return 1;
     }
-    watch->store = place_open(&watch->place, &error);
+    watch->store = place_open(&watch->place, DCONFDB_WATCHER_COMMAND, &error);
     if (!watch->store) {
         warn(error.text);
         return 1;

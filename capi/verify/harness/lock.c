@@ -20,19 +20,22 @@ static void others_fork(const void *mutex)
     }
 }
 
+static bool is_heeded, has_asked;
+
 int pthread_once(pthread_once_t *once, void (*does_it)(void))
 {
     (void)once;
-    does_it();
+    if (!has_asked)
+        does_it();
+    has_asked = true;
     return 0;
 }
-
-static bool is_heeded;
 
 int pthread_atfork(void (*before)(void), void (*after)(void), void (*child)(void))
 {
     CHECK(before == before_fork && after == after_fork && child == after_fork_in_child, "step: each child of fork() closes what it has of a lock");
     CHECK(!is_heeded, "step: once");
+    CHECK(none_is_held(), "order: a child that is made meanwhile has no mutex locked");
     is_heeded = any_bool();
     return is_heeded ? 0 : ENOMEM;
 }
@@ -141,6 +144,15 @@ static bool is_state_of(uint32_t task, const Awaited *it)
     }
 }
 
+/* Nobody has asked that children of fork() are heeded, or in vain, and another thread or a parent's may be asking again; or they are. */
+static void some_heeding(void)
+{
+    has_asked = any_bool();
+    is_heeded = has_asked && any_bool();
+    unheeded = is_heeded ? 0 : has_asked ? ENOMEM : -1;
+    asking = any_bool() ? 0 : any_bool() ? getpid() : getpid() + 1;
+}
+
 /* Some state. */
 static void some_state(Awaited *it)
 {
@@ -172,6 +184,10 @@ static void is_listed_then(Kind kind)
 
 static void is_well_done(uint32_t task, const Awaited *it)
 {
+    if (task == DCONFDB_TAKING_OPEN_FOLDER) {
+        CHECK(is_heeded || (it->taking.task == DCONFDB_TAKING_NOT_HAD && it->taking.fault == ENOMEM), "answer: where children of fork() can't be heeded nothing is locked");
+        CHECK(unheeded == (is_heeded ? 0 : ENOMEM), "answer: whether they are is known");
+    }
     if (task == DCONFDB_TAKING_OPEN && was_done(OPENAT)) {
         CHECK(last[OPENAT].file == it->lock->folder && (last[OPENAT].flags & (O_NOFOLLOW | O_NONBLOCK | O_ACCMODE)) == (O_NOFOLLOW | O_NONBLOCK | O_RDWR),
               "step: no link is followed, no pipe waited for, and it can be locked everywhere");
@@ -192,6 +208,7 @@ int lock_step(void)
 {
     Awaited it;
     some_state(&it);
+    some_heeding();
     uint32_t task = it.taking.task;
     locking = &one_lock;
     at_mutex = others_fork;
@@ -263,7 +280,6 @@ int try_for(uint32_t what, uint32_t milliseconds, Tries *tries, void *it, bool *
 static uint32_t try_it(void *data, int *fault)
 {
     Awaited *it = data;
-    CHECK(is_heeded, "order: children of fork() are heeded before anything is locked");
     if (it->lock->folder < 0) {
         *fault = any_fault();
         if (*fault != 0)
@@ -289,7 +305,6 @@ static int locks_and_unlocks(void)
     GIVEN(milliseconds >= -1);
     int fault = folder_lock("/f", milliseconds, &lock);
     CHECK(none_is_held(), "order: the list's mutex is free");
-    CHECK(is_heeded || fault == ENOMEM, "answer: where children of fork() can't be heeded nothing is locked");
     if (fault != 0) {
         CHECK(only_open(-1, -1) && first == NULL, "descriptor: a fault leaves nothing open or listed");
         CHECK(is_flocked(-1), "answer: a fault has no lock");

@@ -97,24 +97,20 @@ int flag(void)
     bool has_name = any_bool();
     at_call = at_each;
     is_locked = true;
-    if (any_bool())
-        flag_set(has_name ? name : NULL);
-    else
-        flag_mark(has_name ? name : NULL);
+    flag_set(has_name ? name : NULL);
+    CHECK(looks == 0, "step: who has the lock opens it at once");
     CHECK(only_open(-1, -1), "descriptor: it is closed");
     CHECK(has_name || calls == 0, "step: where there is none nothing is done");
     CHECK(!has_name || (count_of[OPEN] == 1 && last[OPEN].name == name), "step: it is opened once");
     CHECK(!was_done(OPEN) || count_of[PWRITE] == (is_longer ? 2 : 1), "step: what is there is set");
     if (is_set && is_gone)
         REACHED("it is set, and its name goes");
-    if (is_set && !is_gone)
-        REACHED("it is set, and its name stays");
     if (was_done(OPEN) && !is_set)
         REACHED("it can't be set");
     return 0;
 }
 
-/* harness service_flag: unwind 6, with glib.c, with machines.c, quick */
+/* harness service_flag: unwind 8, with glib.c, with machines.c, quick */
 int service_flag(void)
 {
     static char folder[] = "/f";

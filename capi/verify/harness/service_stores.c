@@ -26,8 +26,9 @@ static bool is_open_now(const DconfdbStore *store)
 }
 
 /* The first one that is opened has the database alone, by a profile of its own. */
-DconfdbStore *place_open(const StorePlace *place, DconfdbError *error)
+DconfdbStore *place_open(const StorePlace *place, uint32_t who, DconfdbError *error)
 {
+    CHECK(who == DCONFDB_WATCHER_SERVICE, "step: the service opens");
     bool is_first = place != &service.place;
     CHECK(is_first != is_alone_opened, "step: the store of the database alone, and then the profile's");
     CHECK(!is_first || __CPROVER_r_ok(place->profile, 1), "memory: the profile's name is there");
@@ -67,8 +68,16 @@ void dconfdb_snapshot_unref(DconfdbSnapshot *snapshot)
     has_snapshot = false;
 }
 
+static bool is_profile_read, is_to_be_written; /* the file that is to be the profile of one alone */
+
 uint32_t dconfdb_served_after(uint32_t done, const DconfdbServed *known)
 {
+    if (done == DCONFDB_SERVED_PROFILE) {
+        CHECK(!is_alone_opened, "order: the profile is there before a store is opened by it");
+        CHECK(is_profile_read || !known->has_profile, "answer: what can't be read says nothing");
+        is_to_be_written = !known->has_profile;
+        return served_given(done, known);
+    }
     CHECK(done == DCONFDB_SERVED_OPENED && known->is_open == is_alone_open && known->is_profile_open == is_profile_open, "answer: which stores are open");
     return served_given(done, known);
 }
@@ -84,6 +93,7 @@ gboolean g_file_get_contents(const char *name, char **text, gsize *len, GError *
     if (any_bool())
         return FALSE;
     *text = g_strdup("t");
+    is_profile_read = true;
     return TRUE;
 }
 
@@ -96,6 +106,7 @@ gint g_mkdir_with_parents(const char *name, gint mode)
 gboolean g_file_set_contents(const char *name, const char *text, gssize len, GError **error)
 {
     CHECK(__CPROVER_r_ok(name, 1) && __CPROVER_r_ok(text, 1) && len == -1, "memory: a text that is there");
+    CHECK(is_to_be_written, "step: a profile that is good stays as it is");
     if (any_bool())
         return TRUE;
     *error = g_malloc(sizeof **error);

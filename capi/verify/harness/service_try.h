@@ -1,7 +1,7 @@
 /* A try of the service's thread to write what waits, as the harnesses have it. */
 #include "service_writes.h"
 
-static bool has_turn, is_tried, is_written, is_flagged, has_batch;
+static bool has_turn, is_tried, is_written, is_flagged, has_batch, is_silent;
 static bool is_told[CHANGES];
 static unsigned asked;            /* how many edits were to be written */
 static const Writer *written_for; /* whose */
@@ -197,7 +197,19 @@ void tell_others(Writer *writer, const Newest *newest, const GPtrArray *left_out
         CHECK(__CPROVER_r_ok(left_out->pdata[i], 1), "memory: a path that is there");
 }
 
-void writer_has_written(Writer *writer) { CHECK(!is_held(&writer->turn), "order: who looks may"); }
+/* ---- who hears of it */
+
+void writer_writes(Writer *writer)
+{
+    CHECK(!is_held(&writer->turn) && !is_silent, "order: nobody is woken from then on");
+    is_silent = true;
+}
+
+void writer_has_written(Writer *writer)
+{
+    CHECK(!is_held(&writer->turn) && is_silent, "order: who looks may");
+    is_silent = false;
+}
 
 static void tries_once(void)
 {

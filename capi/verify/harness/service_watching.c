@@ -17,6 +17,7 @@ static bool is_old_open = true, is_new_open, is_compared, has_new_files;
 static unsigned answered, steps;
 static int descriptor;
 static bool has_fd, has_timeout, is_idle;
+static bool is_by_ears, is_silent; /* inotify is heard by epoll's; and isn't, for now */
 
 uint32_t dconfdb_look_due(uint32_t looker, const DconfdbLookKnown *known)
 {
@@ -193,11 +194,29 @@ int watch_descriptor(const Watch *watch) { (void)watch; return descriptor; }
 void watch_hear(Watch *watch) { (void)watch; }
 void watch_pass_time(Watch *watch, bool listens) { (void)watch, (void)listens; }
 
+/* ---- epoll, which may have no room for another file */
+
+enum { EARS = 9 };
+
+int epoll_ctl(int ears, int what, int file, struct epoll_event *event)
+{
+    CHECK(event && (what == EPOLL_CTL_ADD || what == EPOLL_CTL_MOD), "memory: what is asked for is there");
+    CHECK(what == EPOLL_CTL_ADD ? file == descriptor && !is_by_ears && event->events == EPOLLIN : file == (is_by_ears ? descriptor : -1),
+          "descriptor: inotify's, which is added once");
+    bool is_done = ears == EARS && (what == EPOLL_CTL_ADD ? any_bool() : is_by_ears);
+    if (is_done) {
+        is_by_ears = true;
+        is_silent = event->events == 0;
+    }
+    return is_done ? 0 : -1;
+}
+
 /* ---- sources, of which one at a time waits */
 
 guint g_unix_fd_add(gint file, GIOCondition condition, gboolean (*call)(gint, GIOCondition, gpointer), gpointer data)
 {
     CHECK(file >= 0 && condition == G_IO_IN && call == hear && data == &writer && !has_fd, "step: it is heard once");
+    CHECK(file == (is_by_ears ? EARS : descriptor), "descriptor: the one that tells");
     has_fd = true;
     return 1;
 }
@@ -232,6 +251,8 @@ static void set_up(void)
     writer.watch = (Watch *)(void *)&a_watch;
     had_old = 1;
     descriptor = any_bool() ? 5 : -1;
+    writer.ears = any_bool() ? EARS : -1;
+    writer.heard = -1;
 }
 
 /* harness service_look: unwind 6, with glib.c, quick */
@@ -285,5 +306,11 @@ int service_go_on(void)
         REACHED("it rests");
     if (writer.is_to_look)
         REACHED("something is written");
+    writer_writes(&writer);
+    CHECK(is_silent == is_by_ears, "answer: who writes wakes nobody here");
+    if (is_silent)
+        REACHED("nobody is woken");
+    writer_has_written(&writer);
+    CHECK(!is_silent, "answer: what happened is heard behind the write");
     return 0;
 }

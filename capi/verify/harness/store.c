@@ -8,7 +8,16 @@
 
 static DconfdbSnapshot seen;
 static unsigned refused, mutexes, notices;
-static bool has_place, has_seen;
+static bool has_place, has_seen, asks_lenient, lists, is_lenient;
+
+/* Whether bad files are passed over: any answer. */
+bool dconfdb_is_lenient(uint32_t who, bool is_asked, bool are_listed)
+{
+    CHECK(who == DCONFDB_WATCHER_LIBRARY, "step: the library's caller opens");
+    CHECK(is_asked == asks_lenient && are_listed == lists, "step: what it asked for");
+    is_lenient = any_bool();
+    return is_lenient;
+}
 
 bool refuse_memory(DconfdbError *error)
 {
@@ -67,6 +76,7 @@ bool store_find_files(DconfdbStore *store, DconfdbError *error)
 {
     (void)error;
     CHECK(store->count == 0 && !store->now && mutexes == 2 && notices == 1, "order: it is whole before its files are found");
+    CHECK(store->options.is_lenient == is_lenient, "answer: bad files are passed over as the proved call says");
     size_t count = any_size();
     GIVEN(count <= MOST_DATABASES);
     for (size_t i = 0; i < count; i++)
@@ -161,7 +171,8 @@ static void is_gone(void)
 /* harness store_open: unwind 4 */
 int store_open(void)
 {
-    DconfdbStore *store = any_bool() ? dconfdb_store_open("/f", NULL) : dconfdb_store_open_lenient(NULL, NULL);
+    asks_lenient = any_bool();
+    DconfdbStore *store = asks_lenient ? dconfdb_store_open_lenient(NULL, NULL) : dconfdb_store_open("/f", NULL);
     CHECK((store == NULL) == (refused > 0), "answer: what failed is told, and nothing else");
     if (!store) {
         is_gone();
@@ -184,6 +195,7 @@ int store_open(void)
 int store_files(void)
 {
     size_t size = 0;
+    lists = true;
     char *files = dconfdb_store_files("/f", any_bool() ? &size : NULL, NULL);
     is_gone();
     CHECK(files || refused > 0, "answer: what failed is told");

@@ -164,7 +164,7 @@ static void compare_flags(void)
 
 static void compare_served_of(DconfdbServed known)
 {
-    for (uint32_t done = DCONFDB_SERVED_CAME; done <= DCONFDB_SERVED_PASSES; done++) {
+    for (uint32_t done = DCONFDB_SERVED_CAME; done <= DCONFDB_SERVED_PROFILE; done++) {
         if (dconfdb_served_after(done, &known) != served_given(done, &known))
             fail("served_after", "another fate than is given");
     }
@@ -179,7 +179,7 @@ static void compare_served(void)
                                .is_closed = bits & 16, .ends = bits & 32, .is_amid = bits & 64, .is_same = bits & 128, .is_open = bits & 256,
                                .is_profile_open = bits & 512, .has_same_file = bits & 1024, .had_name = bits & 2048, .is_bus_closed = bits & 1, .kind = bits / 4096, .is_short = bits & 1,
                                .sets = bits & 2, .is_again = bits & 4, .is_covered = bits & 8, .is_users = bits & 16, .is_unmade = bits & 32, .is_service_db = bits & 64,
-                               .is_behind = bits & 2};
+                               .is_behind = bits & 2, .has_profile = bits & 8};
         for (uint32_t i = 0; i < 7 * 8; i++) {
             known.size = sizes[i / 8];
             known.waiting = i & 1 ? 9999 : i & 2 ? 10000 : 0;

@@ -350,8 +350,10 @@ static inline uint32_t settling_given(uint32_t task, bool yes, const DconfdbSett
 /* What is done about the flag of dconf's readers. */
 static inline uint32_t flag_given(uint32_t task, bool could_be, bool is_in_turn)
 {
-    if (task != DCONFDB_FLAG_BEGINS && !could_be)
+    if (task != DCONFDB_FLAG_BEGINS && task != DCONFDB_FLAG_LOCK && !could_be)
         return DCONFDB_FLAG_OVER;
+    if (task == DCONFDB_FLAG_LOOK && is_in_turn)
+        return DCONFDB_FLAG_OPEN;
     if (task < DCONFDB_FLAG_SET)
         return task + 1;
     return task == DCONFDB_FLAG_SET && is_in_turn ? DCONFDB_FLAG_REMOVE : DCONFDB_FLAG_OVER;

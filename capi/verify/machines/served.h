@@ -61,6 +61,7 @@ static inline uint32_t served_given(uint32_t done, const DconfdbServed *known)
     case DCONFDB_SERVED_MADE: return served_made(known);
     case DCONFDB_SERVED_BESIDE: return DCONFDB_SERVED_ALONE;
     case DCONFDB_SERVED_PASSES: return !known->is_used || known->is_behind || known->ends ? DCONFDB_SERVED_LATER : served_came(known);
+    case DCONFDB_SERVED_PROFILE: return known->has_profile ? DCONFDB_SERVED_PASSED : DCONFDB_SERVED_GOES_ON;
     case DCONFDB_SERVED_NAMELESS: return known->had_name || known->is_bus_closed ? DCONFDB_SERVED_ENDS : DCONFDB_SERVED_TAKEN;
     default: return served_tried(known);
     }

@@ -103,13 +103,13 @@ inline go_on_barred() {
     TAKE(LOCK); if :: is_shown(); hand_newest() :: skip fi; GIVE(LOCK);
     if :: worker_tells() :: notice_tell() fi
 }
-inline look_until() {
+inline look_beside() {
     if
     :: atomic { owner[TURN] == FREE -> owner[TURN] = _pid; mine = mine | (1 << TURN) }; look_quietly()
     :: owner[TURN] != FREE -> go_on_barred()
     fi
 }
-inline store_peek() { TAKE(LOCK); GIVE(LOCK); look_until() }
+inline store_peek() { TAKE(LOCK); GIVE(LOCK); look_beside() }
 
 /* ---- a write, by the worker */
 

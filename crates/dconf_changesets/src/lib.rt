@@ -1,7 +1,7 @@
 //! What dconf's client does with changes, beside the store: what a set says of each key, by [`effect_of`] and [`shared_within`]; what of a
 //! set makes a difference to a database, by [`differs`]; where the newest word of a key is found, by [`asked_after`]; who looks at the files,
-//! by [`look_due`]; what becomes of a change whose caller waits for it, by [`change_after`]; and what is told, by [`is_said`] and
-//! [`is_unmade`].
+//! by [`look_due`]; what becomes of a change whose caller waits for it, by [`change_after`], or doesn't, by [`fast_after`]; and what is told, by
+//! [`is_said`] and [`is_unmade`].
 //!
 //! Nothing is kept here: who asks keeps the sets, and does as it is told.
 #![tactic(auto)]
@@ -9,6 +9,7 @@
 ghost use Rattle.dconf_changesets.specs.Above.{NoDirectoryIsPassedOver};
 ghost use Rattle.dconf_changesets.specs.Asking.{NoLookIsMissed, TheNewestIsAsked};
 ghost use Rattle.dconf_changesets.specs.Differences.{KeptIsEnough};
+ghost use Rattle.dconf_changesets.specs.Fast.{WhatIsToldWaits};
 ghost use Rattle.dconf_changesets.specs.Making.{MadeMeansOnTheDisk, OthersAreToldFirst, WhatIsLostIsToldAgain};
 ghost use Rattle.dconf_changesets.specs.Rows.{FoundIsSaid, LaterCounts};
 ghost use Rattle.dconf_changesets.specs.Saying.{TheSameIsSaid};
@@ -16,6 +17,7 @@ ghost use Rattle.dconf_changesets.specs.Saying.{TheSameIsSaid};
 mod above;
 mod asking;
 mod differences;
+mod fast;
 mod making;
 mod rows;
 mod saying;
@@ -23,6 +25,7 @@ mod saying;
 pub use above::shared_within;
 pub use asking::{LookDue, LookKnown, asked_after, look_due, look_number};
 pub use differences::{Base, differs};
+pub use fast::{FastKnown, FastTask, fast_after, fast_number};
 pub use making::{
     ChangeKnown, ChangeTask, Tried, change_after, change_number, is_unmade, waits_again,
 };
@@ -63,6 +66,11 @@ pub fn made_means_on_the_disk()
 /// is put.
 pub fn others_are_told_first()
     ensures { OthersAreToldFirst }
+{}
+
+/// A change whose caller doesn't wait for it is refused as a whole, or waits before anybody is told of it; and of what is new by it everybody is.
+pub fn what_is_told_waits()
+    ensures { WhatIsToldWaits }
 {}
 
 /// Who reads goes without a look at the files only where what was seen is what they are; and no look is left out for good.

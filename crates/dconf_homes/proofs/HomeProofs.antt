@@ -1,17 +1,15 @@
 -- What holds of a store that was found.
-use Rattle.std.proofs.Common.{◌≡◌, ℕ, List, [], ◌∷◌, ◌++◌, ◌∙◌, Bool, true, false, not, refl, inl, inr, ap, arith, codes, length, length-append, Some, None}
+use Rattle.std.proofs.Common.{◌≡◌, ℕ, List, [], ◌++◌, ◌∙◌, Bool, true, false, refl, inl, inr, ap, arith, codes, length, length-append, Some, None}
 use Rattle.std.specs.Prelude.{if◌then◌else◌}
 use Rattle.dconf_model.specs.Paths.{starts_with_slash}
-use Rattle.dconf_model.specs.Profiles.{Database, Kind, is_name}
+use Rattle.dconf_model.specs.Profiles.{Kind, is_name}
 use Rattle.dconf_model.specs.Profiles.Kind.{user_db, system_db}
-use Rattle.dconf_places.specs.Places.{Variables, Giver, database_path, is_empty}
-use Rattle.dconf_places.specs.Places.Giver.{nobody, program, user}
+use Rattle.dconf_places.specs.Places.{Variables, Giver}
 use Rattle.dconf_places.specs.declared.profile.Found.TheVariants.{There, Missing, Unreadable, Unknown}
 use Rattle.dconf_places.proofs.Holding.{IsWhole, begun_by, else_is, folder_is_whole, home_is_whole, users_file_is_in_the_folder}
-use Rattle.dconf_homes.specs.Homes.{Home, Surroundings, StoreKind, What, config_folder, dconfs_folder, file_in, found_kind, kind_for, spot_by}
+use Rattle.dconf_homes.specs.Homes.{Home, Surroundings, StoreKind, config_folder, dconfs_folder, file_in, kind_for, spot_by}
 use Rattle.dconf_homes.specs.Homes.StoreKind.{own, dconfs, unknown}
 use Rattle.dconf_homes.specs.Homes.What.{the_folder}
-use Rattle.dconf_homes.specs.declared.sought.Sought.{Sought}
 use Rattle.dconf_homes.specs.declared.sought.Sought.TheVariants.{Ours, Mandatory, Path, Runtime, System, Data}
 use Rattle.dconf_homes.specs.HomeLaws.{FilesAreDconfs, FolderIsWhole, GivenIsOurs, NoneIsPassedOverSilently, OthersAreOurs}
 

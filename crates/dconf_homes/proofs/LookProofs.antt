@@ -4,13 +4,12 @@ use Rattle.std.specs.Prelude.{not, ◌&&◌, ◌||◌, if◌then◌else◌}
 use Rattle.dconf_places.specs.Places.{Giver, is_empty}
 use Rattle.dconf_places.specs.Places.Giver.{nobody, program, user}
 use Rattle.dconf_places.specs.declared.profile.Candidate.TheVariants.{Named, Own, Everyones}
-use Rattle.dconf_places.specs.declared.profile.Found.{Found}
 use Rattle.dconf_places.specs.declared.profile.Found.TheVariants.{There, Missing, Unreadable, Unknown}
-use Rattle.dconf_homes.specs.Homes.{Home, StoreKind, Surroundings, What, kind_for, minds_machine, spot_in}
+use Rattle.dconf_homes.specs.Homes.{StoreKind, Surroundings, What, kind_for, minds_machine, spot_in}
 use Rattle.dconf_homes.specs.Homes.StoreKind.{own}
 use Rattle.dconf_homes.specs.Homes.What.{the_folder, the_profile, the_runtime}
 use Rattle.dconf_homes.specs.HomeLaws.{AllAreListed, WhatIsNotAsked}
-use Rattle.dconf_homes.specs.Sought.{behind, has_name, if_none, last_step, listed_step, sought_step}
+use Rattle.dconf_homes.specs.Sought.{behind, has_name, if_none}
 use Rattle.dconf_homes.specs.declared.sought.Sought.{Sought}
 use Rattle.dconf_homes.specs.declared.sought.Sought.TheVariants.{Ours, Mandatory, Path, Runtime, System, Data}
 use Rattle.dconf_homes.specs.declared.sought.SoughtStep.{SoughtStep}

@@ -4,16 +4,14 @@ use Rattle.dconf_model.specs.Paths.{starts_with_slash}
 use Rattle.dconf_model.specs.Profiles.{Database, is_name}
 use Rattle.dconf_model.specs.Profiles.Kind.{user_db, system_db}
 use Rattle.dconf_places.specs.Places.{Giver, database_path, is_beside, folder_of, path_at}
-use Rattle.dconf_places.specs.Places.Giver.{nobody, program, user}
+use Rattle.dconf_places.specs.Places.Giver.{program, user}
 use Rattle.dconf_places.specs.declared.profile.Found.{Found}
 use Rattle.dconf_places.specs.declared.profile.Found.TheVariants.{Missing}
-use Rattle.dconf_homes.specs.Homes.{Home, Surroundings, StoreKind, What, file_in, kind_for, minds_machine, spot_in}
-use Rattle.dconf_homes.specs.Homes.StoreKind.{own}
+use Rattle.dconf_homes.specs.Homes.{Home, Surroundings, What, file_in, kind_for, minds_machine, spot_in}
 use Rattle.dconf_homes.specs.Homes.What.{the_folder}
-use Rattle.dconf_homes.specs.Sought.{has_name, is_said, listed_step, sought_step}
+use Rattle.dconf_homes.specs.Sought.{is_said, listed_step, sought_step}
 use Rattle.dconf_homes.specs.declared.sought.Sought.{Sought}
-use Rattle.dconf_homes.specs.declared.sought.Sought.TheVariants.{Ours}
-use Rattle.dconf_homes.specs.declared.sought.SoughtStep.TheVariants.{Counts, Look, UsersAlone}
+use Rattle.dconf_homes.specs.declared.sought.SoughtStep.TheVariants.{Counts, Look}
 
 -- whoever gives a folder has our own kind of store in it, whatever the machine's file says
 abbrev pub GivenIsOurs : Type 0

@@ -102,6 +102,10 @@ spot_in what s g = spot_by (kind_for s g) what s g
 
 -- ---- a store that was found
 
+-- a variable of a program that has more rights than whoever started it counts as unset
+abbrev pub counted : Bool → List ℕ → List ℕ
+counted counts text = if counts then text else []
+
 -- Its folder; the profile that a program names, or the environment of our own kind; $DCONF_PROFILE; the runtime folder; $XDG_DATA_DIRS; and
 -- the user's number. What there is none of is empty.
 pub record Home : Type 0 where

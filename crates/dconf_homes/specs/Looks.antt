@@ -1,5 +1,5 @@
 -- The looks at the profiles that may count, as C makes them: what it says of one, and what it is told then.
-use Rattle.std.specs.Prelude.{◌≡◌, ℕ, List, Option, Some, None, Bool, true, false, not, ◌||◌, ◌==◌, if◌then◌else◌, is_some}
+use Rattle.std.specs.Prelude.{◌≡◌, ℕ, List, Option, None, Bool, true, false, not, ◌||◌, ◌==◌, if◌then◌else◌, is_some}
 use Rattle.dconf_verdicts.specs.Errnos.{kind_of}
 use Rattle.dconf_verdicts.specs.Faults.{is_files_own}
 use Rattle.dconf_places.specs.Numbers.{telling_number}

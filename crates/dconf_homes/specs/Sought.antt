@@ -3,7 +3,7 @@ use Rattle.std.specs.Prelude.{ℕ, ◌+◌, List, [], ◌++◌, codes, Option, S
 use Rattle.std.specs.List.{slice_split, slice_get}
 use Rattle.dconf_model.specs.Paths.{starts_with_slash}
 use Rattle.dconf_places.specs.Places.{is_empty}
-use Rattle.dconf_places.specs.ProfileSteps.{candidate_path, first_candidate, is_told, profile_step}
+use Rattle.dconf_places.specs.ProfileSteps.{candidate_path, first_candidate, profile_step}
 use Rattle.dconf_places.specs.declared.profile.Found.{Found}
 use Rattle.dconf_places.specs.declared.profile.Found.TheVariants.{There, Missing, Unreadable, Unknown}
 use Rattle.dconf_places.specs.declared.profile.ProfileStep.{ProfileStep}

@@ -1,6 +1,6 @@
 -- What the code's texts are to the definitions.
 use Rattle.dconf_places.specs.Told.{variables_of}
-use Rattle.dconf_homes.specs.Homes.{Home, StoreKind, Surroundings, What}
+use Rattle.dconf_homes.specs.Homes.{counted, Home, StoreKind, Surroundings, What}
 use Rattle.dconf_homes.specs.declared.homes.Around.{Around}
 use Rattle.dconf_homes.specs.declared.homes.FoundKind.{FoundKind}
 use Rattle.dconf_homes.specs.declared.homes.Wanted.{Wanted}
@@ -25,9 +25,9 @@ home_of p =
     record {
       folder = p.folder.now;
       named = p.named.now;
-      profile = p.profile.now;
+      profile = counted p.counts p.profile.now;
       runtime = p.runtime.now;
-      data_dirs = p.data_dirs.now;
+      data_dirs = counted p.counts p.data_dirs.now;
       user = p.user.now;
       given = p.is_given;
       in_place = p.is_dconfs;

@@ -246,6 +246,8 @@ pub struct Place<'a> {
     pub is_given: bool,
     /// Whether it is dconf's kind.
     pub is_dconfs: bool,
+    /// Whether the environment counts: what `profile` and `data_dirs` say is nothing to a program that has more rights than whoever started it.
+    pub counts: bool,
 }
 
 impl<'a> Place<'a> {

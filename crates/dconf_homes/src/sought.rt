@@ -160,10 +160,24 @@ impl SoughtStep {
 }
 
 impl<'a> Place<'a> {
+    /// What counts of `$DCONF_PROFILE`,
+    fn counted_profile(&self) -> &'a [u8]
+        ensures { result.now ≡ (home_of self.now).profile }
+    {
+        if self.counts { self.profile } else { b"" }
+    }
+
+    /// and of `$XDG_DATA_DIRS`.
+    fn counted_dirs(&self) -> &'a [u8]
+        ensures { result.now ≡ (home_of self.now).data_dirs }
+    {
+        if self.counts { self.data_dirs } else { b"" }
+    }
+
     fn has_name(&self) -> bool
         ensures { result ≡ has_name (home_of self.now) }
     {
-        !self.profile.is_empty()
+        !self.counted_profile().is_empty()
     }
 
     /// The name that is looked for in the folders of profiles.
@@ -171,7 +185,7 @@ impl<'a> Place<'a> {
         ensures { result.now ≡ name_of (home_of self.now) }
     {
         if self.has_name() {
-            self.profile
+            self.counted_profile()
         } else {
             b"user"
         }
@@ -196,11 +210,14 @@ impl<'a> Place<'a> {
         match sought {
             Sought::Ours(candidate) => Some(candidate.path(self.folder, self.named)),
             Sought::Mandatory => Some(joined(MANDATORY_FOLDER.as_bytes(), b"", self.user)),
-            Sought::Path => Some(joined(b"", b"", self.profile)),
+            Sought::Path => Some(joined(b"", b"", self.counted_profile())),
             Sought::Runtime if self.runtime.is_empty() => None,
             Sought::Runtime => Some(joined(self.runtime, b"/dconf/profile", b"")),
             Sought::System => Some(joined(PROFILES_FOLDER.as_bytes(), b"", self.profile_name())),
-            Sought::Data(number) => in_dir(dir_at(self.data_dirs, number), self.profile_name()),
+            Sought::Data(number) => in_dir(
+                dir_at(self.counted_dirs(), number),
+                self.profile_name(),
+            ),
         }
     }
 
@@ -209,7 +226,7 @@ impl<'a> Place<'a> {
     {
         if !self.has_name() {
             Sought::Runtime
-        } else if self.profile.starts_with(b"/") {
+        } else if self.counted_profile().starts_with(b"/") {
             Sought::Path
         } else {
             Sought::System
@@ -230,7 +247,7 @@ impl<'a> Place<'a> {
     fn behind_dir(&self, number: usize) -> SoughtStep
         ensures { result ≡ behind_dir (home_of self.now) number }
     {
-        if number < MOST_DIRS - 1 && dir_at(self.data_dirs, number + 1).is_some() {
+        if number < MOST_DIRS - 1 && dir_at(self.counted_dirs(), number + 1).is_some() {
             SoughtStep::Look(Sought::Data(number + 1))
         } else {
             self.last()
@@ -336,7 +353,7 @@ impl<'a> Place<'a> {
         ensures { result.now ≡ naming (home_of self.now) }
     {
         if self.named.is_empty() {
-            self.profile
+            self.counted_profile()
         } else {
             self.named
         }

@@ -45,10 +45,18 @@ by_unnoted false true help x y z n m o e = n e
 by_unnoted false false true x y z n m o e = m e
 by_unnoted false false false x y z n m o e = o e
 
-noted : (name first second : List ℕ) (k : Line) → k.is_noted ≡ false → program_of name first second k ≢ Program.Noted
+unasked : (counts notes : Bool) → notes ≡ false → counts && notes ≡ false
+unasked true notes n = n
+unasked false notes n = refl
+
+unheard : (counts notes : Bool) → counts ≡ false → counts && notes ≡ false
+unheard true notes c = absurd (let bad : true ≡ false = c in cc)
+unheard false notes c = refl
+
+noted : (name first second : List ℕ) (k : Line) → k.counts && k.is_noted ≡ false → program_of name first second k ≢ Program.Noted
 noted name first second k n =
     by_unnoted _ _ _ (dconfs_program first k) (helped (own_program second)) (own_program first)
-    (dconfs_unnoted _ _ k.is_noted (changes first) n) (helped_unnoted _ _) (own_unnoted _ _)
+    (dconfs_unnoted _ _ (k.counts && k.is_noted) (changes first) n) (helped_unnoted _ _) (own_unnoted _ _)
 
 -- ---- what no word is for
 
@@ -98,9 +106,14 @@ other : (name first second : List ℕ) (k : Line) → bytes_eq first (codes "wat
     bytes_eq first (codes "lint") ≡ false → bytes_eq first (codes "help") ≡ false → is_proved (program_of name first second k) ≡ true
 other name first second k w b l h =
     by_proved (nat_lt k.count 2) (is_dconf name) (k.count == 3) (bytes_eq first (codes "help")) (dconfs_program first k) (helped (own_program second)) (own_program first)
-    (dconfs_proved (k.count == 3) (bytes_eq first (codes "watch")) k.is_path (k.count == 2) (bytes_eq first (codes "blame")) k.has_blame k.is_noted (changes first) w b)
+    (dconfs_proved (k.count == 3) (bytes_eq first (codes "watch")) k.is_path (k.count == 2) (bytes_eq first (codes "blame")) k.has_blame (k.counts && k.is_noted) (changes first) w b)
     (own_proved (bytes_eq first (codes "watch")) (bytes_eq first (codes "lint")) w l) h
 
 pub one_program_runs : OneProgramRuns
 one_program_runs name first second k =
-    record { noted = noted name first second k; none = none name first second k; other = other name first second k }
+    record {
+      noted = λ n. noted name first second k (unasked k.counts k.is_noted n);
+      uncounted = λ c. noted name first second k (unheard k.counts k.is_noted c);
+      none = none name first second k;
+      other = other name first second k;
+    }

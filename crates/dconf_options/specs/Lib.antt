@@ -1,4 +1,5 @@
 pub mod Words
 pub mod Options
 pub mod OptionLaws
+pub mod Placings
 pub mod Programs

@@ -1,5 +1,5 @@
 -- Which program a command line is for. docs/MANUAL.md, "watch PATH", "lint [FILE].." and "The name dconf".
-use Rattle.std.specs.Prelude.{ℕ, List, Bool, true, false, codes, ◌&&◌, ◌||◌, ◌==◌, ◌≡◌, ◌≢◌, ◌<◌, nat_eq, nat_lt, if◌then◌else◌}
+use Rattle.std.specs.Prelude.{ℕ, List, Bool, true, false, codes, ◌&&◌, ◌||◌, ◌==◌, ◌≡◌, ◌≢◌, ◌<◌, nat_eq, nat_lt, not, if◌then◌else◌}
 use Rattle.std.specs.List.{ends_with}
 use Rattle.std.specs.Str.{bytes_eq}
 use Rattle.dconf_options.specs.declared.programs.Line.{Line}
@@ -12,12 +12,12 @@ is_dconf name = bytes_eq name (codes "dconf") || ends_with nat_eq name (codes "/
 abbrev pub changes : List ℕ → Bool
 changes word = bytes_eq word (codes "write") || (bytes_eq word (codes "reset") || bytes_eq word (codes "load"))
 
--- `dconf watch PATH`, and `dconf blame` where that is installed; and what changes settings is noted, if that is asked for
+-- `dconf watch PATH`, and `dconf blame` where that is installed; and what changes settings is noted, if the environment asks for that, and counts
 abbrev pub dconfs_program : List ℕ → Line → Program
 dconfs_program first k =
     if k.count == 3 && (bytes_eq first (codes "watch") && k.is_path) then DconfWatch else
     if k.count == 2 && (bytes_eq first (codes "blame") && k.has_blame) then DconfBlame else
-    if k.is_noted && changes first then Noted else Proved
+    if (k.counts && k.is_noted) && changes first then Noted else Proved
 
 abbrev pub own_program : List ℕ → Program
 own_program word = if bytes_eq word (codes "watch") then Watch else if bytes_eq word (codes "lint") then Lint else Proved
@@ -48,8 +48,6 @@ program_number DconfWatch = 5
 program_number DconfBlame = 6
 program_number Noted = 7
 
--- ---- the law
-
 -- it hands the words to the proved program, at last
 abbrev pub is_proved : Program → Bool
 is_proved Proved = true
@@ -61,9 +59,17 @@ is_proved LintHelp = false
 is_proved DconfWatch = false
 is_proved DconfBlame = false
 
+-- The proved one, to which each variable counts that it has, has none of a store where none counts; the others are told that none does.
+abbrev pub forgets : Program → Line → Bool
+forgets program k = is_proved program && not k.counts
+
+-- ---- the law
+
 pub record IsRunByOne (name first second : List ℕ) (k : Line) : Type 0 where
   -- nobody is noted who didn't ask for it
   pub noted : k.is_noted ≡ false → program_of name first second k ≢ Noted
+  -- by an environment that counts
+  pub uncounted : k.counts ≡ false → program_of name first second k ≢ Noted
   -- and what has no word, or a word of neither, is the proved program's
   pub none : k.count < 2 → program_of name first second k ≡ Proved
   pub other : bytes_eq first (codes "watch") ≡ false → bytes_eq first (codes "blame") ≡ false → bytes_eq first (codes "lint") ≡ false →

@@ -1,6 +1,6 @@
 //! Which program a command line is for.
 ghost use Rattle.std.specs.Prelude.{◌≡◌};
-ghost use Rattle.dconf_options.specs.Programs.{changes, dconfs_program, helped, is_dconf, own_program, program_number, program_of};
+ghost use Rattle.dconf_options.specs.Programs.{changes, dconfs_program, forgets, helped, is_dconf, is_proved, own_program, program_number, program_of};
 
 /// A program, and what it is handed.
 #[derive(Clone, Copy)]
@@ -30,8 +30,10 @@ pub struct Line {
     pub is_path: bool,
     /// The program `blame` may be run.
     pub has_blame: bool,
-    /// It is asked for that changes are noted.
+    /// The environment asks that changes are noted.
     pub is_noted: bool,
+    /// The environment counts: the program hasn't more rights than whoever started it.
+    pub counts: bool,
 }
 
 /// By the program's name and the two words after it, each empty where there is none.
@@ -48,6 +50,19 @@ pub fn program_of(name: &[u8], first: &[u8], second: &[u8], line: &Line) -> Prog
         return helped(own_program(second));
     }
     own_program(first)
+}
+
+/// Whether the program is run without the variables that say where a store is: to the proved one each counts that it has, and none does here.
+pub fn forgets(program: Program, line: &Line) -> bool
+    ensures { result ≡ forgets program line.now }
+{
+    is_proved(program) && !line.counts
+}
+
+fn is_proved(program: Program) -> bool
+    ensures { result ≡ is_proved program }
+{
+    matches!(program, Program::Proved | Program::Noted)
 }
 
 /// The same as a number: 0 proved, 1 watch, 2 lint, 3 and 4 their help, 5 dconf's watch, 6 its blame, 7 noted.
@@ -88,7 +103,7 @@ fn dconfs_program(first: &[u8], line: &Line) -> Program
     if line.count == 2 && (first == "blame".as_bytes() && line.has_blame) {
         return Program::DconfBlame;
     }
-    if line.is_noted && changes(first) {
+    if (line.counts && line.is_noted) && changes(first) {
         return Program::Noted;
     }
     Program::Proved

@@ -1,10 +1,10 @@
 -- What is found is wrong, and what is wrong is found.
-use Rattle.std.proofs.Common.{ℕ, ◌≡◌, ◌⊎◌, inl, inr, Bool, true, false, not, refl}
+use Rattle.std.proofs.Common.{◌≡◌, ◌⊎◌, inl, inr, Bool, true, false, not, refl}
 use Rattle.std.specs.Prelude.{◌&&◌, ◌||◌, if◌then◌else◌, codes}
 use Rattle.std.specs.Str.{bytes_eq}
 use Rattle.dconf_roles.specs.declared.findings.Finding.{Finding}
-use Rattle.dconf_roles.specs.declared.findings.Finding.TheVariants.{Nothing, NotTaken, OtherType, NoDatabase, SetTwice, NotSet}
-use Rattle.dconf_roles.specs.Findings.{NoAlarmIsFalse, is_key, may_be_there, may_have_file, missing}
+use Rattle.dconf_roles.specs.declared.findings.Finding.TheVariants.{Nothing, NotTaken, OtherType, NoDatabase, SetTwice, NotSet, Double, NoValue}
+use Rattle.dconf_roles.specs.Findings.{NoAlarmIsFalse, is_key, is_value, may_be_there, may_have_file, missing}
 
 -- by whether it is known, has a value, that is taken, is of the type; whether it may be there, and what is missing else
 abbrev by : Bool → Bool → Bool → Bool → Bool → Finding → Finding
@@ -74,6 +74,18 @@ not_set_by false true false a b c = absurd (let bad : false ≡ true = c in cc)
 not_set_by false false key a b c = absurd (let bad : false ≡ true = b in cc)
 not_set_by true fine key a b c = absurd (let bad : true ≡ false = a in cc)
 
+-- by whether it is a value, and what is found of one
+abbrev text_by : Bool → Finding → Finding
+text_by value double = if not value then NoValue else double
+
+none_by : (value : Bool) (double : Finding) → value ≡ false → text_by value double ≡ NoValue
+none_by false double e = refl
+none_by true double e = absurd (let bad : true ≡ false = e in cc)
+
+double_by : (value : Bool) (double : Finding) → value ≡ true → text_by value double ≡ double
+double_by true double e = refl
+double_by false double e = absurd (let bad : false ≡ true = e in cc)
+
 pub no_alarm_is_false : NoAlarmIsFalse
 no_alarm_is_false k slip = record {
   taken = taken_by k.is_known k.has_value k.is_taken k.is_of_type (may_be_there k slip) (missing k.what);
@@ -87,4 +99,6 @@ no_alarm_is_false k slip = record {
   not_set = λ path. not_set_by k.is_known k.is_taken (is_key path);
   there = λ file. there_by (may_have_file k) k.is_system (bytes_eq file (codes "profile"));
   database = λ file. database_by (may_have_file k) k.is_system (bytes_eq file (codes "profile"));
+  text = none_by (is_value k) (if k.has_double && k.is_system then Double else Nothing);
+  double = double_by (is_value k) (if k.has_double && k.is_system then Double else Nothing);
 }

@@ -1,7 +1,5 @@
 -- No place is gone to twice.
-use Rattle.std.proofs.Common.{◌≡◌, ◌≢◌, Bool, true, false, refl}
-use Rattle.std.specs.Prelude.{nat_lt}
-use Rattle.dconf_roles.specs.declared.places.Place.{Place}
+use Rattle.std.proofs.Common.{true, false, refl}
 use Rattle.dconf_roles.specs.declared.places.Place.TheVariants.{Begins, Directories, Keys, Holders, Paths, KeysThere, Over}
 use Rattle.dconf_roles.specs.Places.{EachPlaceComesOnce}
 

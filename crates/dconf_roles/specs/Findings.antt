@@ -3,7 +3,7 @@ use Rattle.std.specs.Prelude.{ℕ, ◌≡◌, ◌⊎◌, Bool, true, false, not,
 use Rattle.std.specs.List.{ends_with}
 use Rattle.std.specs.Str.{bytes_eq}
 use Rattle.dconf_roles.specs.declared.findings.Finding.{Finding}
-use Rattle.dconf_roles.specs.declared.findings.Finding.TheVariants.{Nothing, NoKey, NoLockedKey, NoLockedDirectory, OtherType, NotTaken, NoDatabase, SetTwice, NotSet, Double}
+use Rattle.dconf_roles.specs.declared.findings.Finding.TheVariants.{Nothing, NoKey, NoLockedKey, NoLockedDirectory, OtherType, NotTaken, NoDatabase, SetTwice, NotSet, Double, NoValue}
 use Rattle.dconf_roles.specs.declared.findings.FindingKnown.{FindingKnown}
 
 -- no schema is at its directory, one without a path may have it, and it is no slip
@@ -39,14 +39,18 @@ is_key path = not (ends_with nat_eq path (codes "/"))
 abbrev pub of_unset : FindingKnown → List ℕ → Finding
 of_unset k path = if not k.is_known && (k.is_taken && is_key path) then NotSet else Nothing
 
--- a value with a double, in a source of `update`, which refuses it
-abbrev pub of_double : FindingKnown → Finding
-of_double k = if k.is_system then Double else Nothing
+-- a text is a value, and one that a database holds; of one with a double, which we don't read, GLib says whether it is
+abbrev pub is_value : FindingKnown → Bool
+is_value k = if k.has_double then k.has_value else k.is_known && k.is_taken
+
+-- and one with a double, in a source of `update`, is refused there
+abbrev pub of_text : FindingKnown → Finding
+of_text k = if not (is_value k) then NoValue else if k.has_double && k.is_system then Double else Nothing
 
 abbrev pub finding_for : FindingKnown → List ℕ → Bool → Finding
 finding_for k name slip =
     if k.what == 3 then of_database k name else if k.what == 4 then of_again k else if k.what == 5 then of_unset k name
-    else if k.what == 6 then of_double k else finding_of k slip
+    else if k.what == 6 then of_text k else finding_of k slip
 
 abbrev pub finding_number : Finding → ℕ
 finding_number Nothing = 0
@@ -59,6 +63,7 @@ finding_number NoDatabase = 6
 finding_number SetTwice = 7
 finding_number NotSet = 8
 finding_number Double = 9
+finding_number NoValue = 10
 
 -- ---- the law
 
@@ -79,6 +84,9 @@ pub record IsNoFalseAlarm (k : FindingKnown) (slip : Bool) : Type 0 where
   pub set : (path : List ℕ) → k.is_known ≡ true → of_unset k path ≡ Nothing
   pub not_set : (path : List ℕ) → k.is_known ≡ false → k.is_taken ≡ true → is_key path ≡ true → of_unset k path ≡ NotSet
   pub database : (file : List ℕ) → may_have_file k ≡ false → k.is_system ≡ true → bytes_eq file (codes "profile") ≡ true → of_database k file ≡ NoDatabase
+  -- a text is found exactly if it is no value, or has a double where `update` reads it
+  pub text : is_value k ≡ false → of_text k ≡ NoValue
+  pub double : is_value k ≡ true → of_text k ≡ (if k.has_double && k.is_system then Double else Nothing)
 
 abbrev pub NoAlarmIsFalse : Type 0
 NoAlarmIsFalse = (k : FindingKnown) (slip : Bool) → IsNoFalseAlarm k slip

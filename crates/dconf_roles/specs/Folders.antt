@@ -2,6 +2,7 @@
 use Rattle.std.specs.Prelude.{ℕ, List, Bool, true, false, [], ◌∷◌, ◌+◌, nat_lt, if◌then◌else◌}
 use Rattle.dconf_roles.specs.Roles.{as_file, in_folder, is_sources}
 use Rattle.dconf_roles.specs.declared.roles.Role.{Role}
+use Rattle.dconf_roles.specs.declared.sites.Within.{Within}
 
 -- that of the files of the last one
 unfoldable pub role_in : List (List ℕ) → Role → Role
@@ -27,3 +28,19 @@ is_read Role.Keyfile = true
 is_read Role.Locks = true
 is_read Role.Hidden = false
 is_read Role.Unread = false
+
+-- what is in a folder of that role is looked at in NAME.d, in its `locks`, or in the site as a whole
+abbrev pub within_by : Role → Within
+within_by Role.Keyfile = Within.Sources
+within_by Role.Locks = Within.Locks
+within_by role = Within.Site
+
+abbrev pub looked_within : List (List ℕ) → Within
+looked_within folders = within_by (role_in folders Role.ByItsText)
+
+-- as part_of takes it
+abbrev pub within_number : Within → ℕ
+within_number Within.Site = 1
+within_number Within.Sources = 2
+within_number Within.Locks = 3
+within_number Within.Profiles = 4

@@ -8,3 +8,4 @@ pub mod Machines
 pub mod Nearness
 pub mod Places
 pub mod Sites
+pub mod Asked

@@ -1,5 +1,5 @@
 -- Which name is said to be the nearest to one that is missing. docs/MANUAL.md, "lint [FILE]..".
-use Rattle.std.specs.Prelude.{ℕ, List, Bool, true, ◌+◌, ◌-◌, ◌*◌, ◌/◌, ◌&&◌, ◌==◌, if◌then◌else◌, length, min, nat_lt, nat_le}
+use Rattle.std.specs.Prelude.{ℕ, List, Bool, ◌+◌, ◌-◌, ◌*◌, ◌/◌, ◌&&◌, ◌==◌, if◌then◌else◌, length, min, nat_lt, nat_le}
 use Rattle.std.specs.Str.{chars}
 use Rattle.std.specs.Str.Lossy.{utf8_lossy}
 use Rattle.strsim.specs.Edits.{osa_table}

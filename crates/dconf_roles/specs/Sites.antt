@@ -1,5 +1,5 @@
 -- As what `update` takes what lies in the folder of a site, and what nobody reads there. dconf(1), "update"; docs/MANUAL.md, "update" and "lint [FILE]..".
-use Rattle.std.specs.Prelude.{ℕ, List, Bool, true, false, [], ◌∷◌, ◌≡◌, ◌≢◌, ◌++◌, ◌-◌, ◌&&◌, ◌||◌, ◌==◌, codes, length, map, nat_eq, nat_lt, not, if◌then◌else◌}
+use Rattle.std.specs.Prelude.{ℕ, List, Bool, true, false, [], ◌≡◌, ◌≢◌, ◌++◌, ◌-◌, ◌&&◌, ◌||◌, ◌==◌, codes, length, map, nat_eq, nat_lt, not, if◌then◌else◌}
 use Rattle.std.specs.List.{ends_with, filter}
 use Rattle.std.specs.Str.{bytes_eq, is_utf8}
 use Rattle.dconf_model.specs.Commands.Command.{compile}

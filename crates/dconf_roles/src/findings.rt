@@ -1,7 +1,7 @@
 //! What is found wrong with a key that is set, and with a lock.
 ghost use Rattle.std.specs.Prelude.{◌≡◌, map};
 ghost use Rattle.std.specs.List.{list_any};
-ghost use Rattle.dconf_roles.specs.Findings.{finding_for, finding_of, finding_number, is_key, may_be_there, may_have_file, missing, of_again, of_database, of_double, of_unset, of_value};
+ghost use Rattle.dconf_roles.specs.Findings.{finding_for, finding_of, finding_number, is_key, is_value, may_be_there, may_have_file, missing, of_again, of_database, of_text, of_unset, of_value};
 ghost use Rattle.dconf_roles.specs.Slips.{is_slip};
 
 use crate::slips::{Name, has_slip};
@@ -28,6 +28,8 @@ pub enum Finding {
     NotSet,
     /// The value has a double, which `update` refuses.
     Double,
+    /// The text is no value, or none that a database holds.
+    NoValue,
 }
 
 /// What is known of it.
@@ -35,22 +37,22 @@ pub enum Finding {
 #[derive(Clone, Copy)]
 pub struct FindingKnown {
     /// What it is: 0 a key that is set, 1 a lock of a key, 3 a database that a profile names, 4 a key that may be set already, 5 a lock whose key
-    /// may not be set, 6 a value with a double, else a lock of a directory.
+    /// may not be set, 6 a text of a value, else a lock of a directory.
     pub what: u32,
     /// A schema has the key, or one below the directory; or the database has its file; or an earlier line of the same
-    /// database sets the key; or a keyfile of the site does.
+    /// database sets the key; or a keyfile of the site does; or the text is a value of ours.
     pub is_known: bool,
     /// A schema is at the key's directory.
     pub has_schemas: bool,
     /// A schema without a path has a key of that name; of a directory, there is such a schema.
     pub may_be_elsewhere: bool,
-    /// It is set to a value.
+    /// It is set to a value; or GLib has one of the text.
     pub has_value: bool,
-    /// One of the keys takes the value; or nothing else is wrong with the lock.
+    /// One of the keys takes the value; or nothing else is wrong with the lock; or a database holds such a value.
     pub is_taken: bool,
     /// The value is of the first one's type.
     pub is_of_type: bool,
-    /// The database is the system's; or the value is one of a source of `update`.
+    /// The database is the system's; or the text is one of a source of `update`.
     pub is_system: bool,
     /// `update` makes the database's file.
     pub is_made: bool,
@@ -58,6 +60,8 @@ pub struct FindingKnown {
     pub is_unseen: bool,
     /// The profile is one of those in a folder `profiles`, which say nothing of the folder around it.
     pub is_among_profiles: bool,
+    /// The text has a double, which is none of ours.
+    pub has_double: bool,
 }
 
 /// What is found of a key that is set, or of a lock. What a schema without a path may have is passed over, unless it is a slip away from a
@@ -74,7 +78,7 @@ pub fn finding_of(known: &FindingKnown, directory: &[u8], others: &[Name<'_>]) -
     missing(known.what)
 }
 
-/// The same, and of a database that a profile names, which is a file of that name; of what is set twice, or locked and not set; and of doubles.
+/// The same, and of a database that a profile names, which is a file of that name; of what is set twice, or locked and not set; and of texts.
 pub fn finding_for(known: &FindingKnown, name: &[u8], others: &[Name<'_>]) -> Finding
     ensures { result ≡ finding_for known.now name.now (list_any (λ other. is_slip name.now other.text.now) others.now) }
 {
@@ -82,13 +86,14 @@ pub fn finding_for(known: &FindingKnown, name: &[u8], others: &[Name<'_>]) -> Fi
         3 => of_database(known, name),
         4 => of_again(known),
         5 => of_unset(known, name),
-        6 => of_double(known),
+        6 => of_text(known),
         _ => finding_of(known, name, others),
     }
 }
 
 /// The same as a number: 0 nothing, 1 no schema has the key, 2 the locked key, 3 a key below the locked directory, 4 the value is of another
-/// type, 5 the key doesn't take it, 6 the database has no file, 7 the key is set already, 8 it is locked and not set, 9 the value has a double.
+/// type, 5 the key doesn't take it, 6 the database has no file, 7 the key is set already, 8 it is locked and not set, 9 the value has a double,
+/// 10 the text is no value.
 pub fn finding_number(known: &FindingKnown, name: &[u8], others: &[Name<'_>]) -> u32
     ensures { result ≡ finding_number (finding_for known.now name.now (list_any (λ other. is_slip name.now other.text.now) others.now)) }
 {
@@ -103,6 +108,7 @@ pub fn finding_number(known: &FindingKnown, name: &[u8], others: &[Name<'_>]) ->
         Finding::SetTwice => 7,
         Finding::NotSet => 8,
         Finding::Double => 9,
+        Finding::NoValue => 10,
     }
 }
 
@@ -149,13 +155,26 @@ fn is_key(path: &[u8]) -> bool
 }
 
 /// What dconf's own command makes a database of may have doubles.
-fn of_double(known: &FindingKnown) -> Finding
-    ensures { result ≡ of_double known.now }
+fn of_text(known: &FindingKnown) -> Finding
+    ensures { result ≡ of_text known.now }
 {
-    if known.is_system {
+    if !is_value(known) {
+        return Finding::NoValue;
+    }
+    if known.has_double && known.is_system {
         return Finding::Double;
     }
     Finding::Nothing
+}
+
+/// Ours reads no doubles: of a text with one GLib says whether it is a value.
+fn is_value(known: &FindingKnown) -> bool
+    ensures { result ≡ is_value known.now }
+{
+    if known.has_double {
+        return known.has_value;
+    }
+    known.is_known && known.is_taken
 }
 
 fn may_be_there(known: &FindingKnown, is_slip: bool) -> bool

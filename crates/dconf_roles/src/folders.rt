@@ -1,9 +1,10 @@
 //! The role of a file by the folders that it is in.
 ghost use Rattle.std.specs.Prelude.{◌≡◌, ◌<◌, ◌≤◌, ◌^◌, length, map};
-ghost use Rattle.dconf_roles.specs.Folders.{is_read, role_in, role_of, sources_in, up_to};
+ghost use Rattle.dconf_roles.specs.Folders.{is_read, looked_within, role_in, role_of, sources_in, up_to, within_number};
 ghost use Rattle.dconf_roles.specs.Roles.{as_file, in_folder, is_sources};
 
 use crate::roles::{Role, as_file, in_folder, is_sources};
+use crate::sites::Within;
 use crate::slips::Name;
 
 /// The role of the file of that name behind these folders, the first of which is in the root.
@@ -54,5 +55,28 @@ pub fn is_read(role: Role) -> bool
         Role::Keyfile => true,
         Role::Locks => true,
         _ => false,
+    }
+}
+
+/// Within what of a site what is in the last of these folders is looked at: 1 in all of it, unless `update` reads the folder; 2 in NAME.d, 3 in its
+/// `locks`.
+pub fn within_number(folders: &[Name<'_>]) -> u32
+    ensures { result ≡ within_number (looked_within (map (λ f. f.text.now) folders.now)) }
+{
+    match looked_within(folders) {
+        Within::Site => 1,
+        Within::Sources => 2,
+        Within::Locks => 3,
+        Within::Profiles => 4,
+    }
+}
+
+fn looked_within(folders: &[Name<'_>]) -> Within
+    ensures { result ≡ looked_within (map (λ f. f.text.now) folders.now) }
+{
+    match role_in(folders, Role::ByItsText) {
+        Role::Keyfile => Within::Sources,
+        Role::Locks => Within::Locks,
+        _ => Within::Site,
     }
 }

@@ -10,6 +10,7 @@ ghost use Rattle.dconf_roles.specs.Places.{EachPlaceComesOnce};
 ghost use Rattle.dconf_roles.specs.Roles.{WhatUpdateReadsIsRead};
 ghost use Rattle.dconf_roles.specs.Sites.{WhatUpdateCompilesIsTaken};
 
+mod asked;
 mod findings;
 mod folders;
 mod machines;
@@ -21,8 +22,9 @@ mod roles;
 mod sites;
 mod slips;
 
+pub use asked::{FileBeside, beside_number};
 pub use findings::{Finding, FindingKnown, finding_for, finding_number, finding_of};
-pub use folders::{is_read, role_of, sources_in};
+pub use folders::{is_read, role_of, sources_in, within_number};
 pub use machines::machines_folder;
 pub use nearness::{Nearing, is_nearer};
 pub use numbers::{entry_number, reading_number};
@@ -42,8 +44,8 @@ pub fn what_update_compiles_is_taken()
     ensures { WhatUpdateCompilesIsTaken }
 {}
 
-/// What no schema has is found, unless one without a path may have it; and so is a value that no key takes, and a database of the system that isn't
-/// there, in the profile of a folder. Nothing else is.
+/// What no schema has is found, unless one without a path may have it; and so is a value that no key takes, a text that is none, and a database of the
+/// system that isn't there, in the profile of a folder. Nothing else is.
 pub fn no_alarm_is_false()
     ensures { NoAlarmIsFalse }
 {}

@@ -1,5 +1,5 @@
 -- What holds of a look at the files, whatever is known.
-use Rattle.std.proofs.Common.{◌≡◌, ◌⊎◌, inl, inr, Bool, true, false, not, refl, ap, sym, ◌∙◌}
+use Rattle.std.proofs.Common.{◌≡◌, ◌≢◌, ◌⊎◌, inl, inr, Bool, true, false, not, refl, ap, sym, ◌∙◌}
 use Rattle.std.specs.Prelude.{◌&&◌, ◌||◌, if◌then◌else◌, nat_lt, ◌==◌}
 use Rattle.dconf_rounds.specs.declared.glances.Glance.{Glance}
 use Rattle.dconf_rounds.specs.declared.glances.Glance.TheVariants.{Refresh, Open, OpenAgain, Hand, Heed, Watch, Settle, Again, Seen, Failed}
@@ -101,6 +101,27 @@ later_by : (a h w l : Bool) → a ≡ false → barred a h w l ≡ (if l then Fa
 later_by false h w l e = refl
 later_by true h w l e = absurd (let bad : true ≡ false = e in cc)
 
+-- who has the turn never asks for it again
+mine_ends : (b k o h e w t d : Bool) → by b k o h e w t d ≢ Again
+mine_ends true true o h e w t d s = let bad : Refresh ≡ Again = s in cc
+mine_ends true false true h e w t d s = let bad : Open ≡ Again = s in cc
+mine_ends true false false h e w t d s = let bad : OpenAgain ≡ Again = s in cc
+mine_ends false k o true e w t d s = let bad : Hand ≡ Again = s in cc
+mine_ends false k o false true w t d s = let bad : Heed ≡ Again = s in cc
+mine_ends false k o false false true t d s = let bad : Watch ≡ Again = s in cc
+mine_ends false k o false false false true d s = let bad : Settle ≡ Again = s in cc
+mine_ends false k o false false false false true s = let bad : Seen ≡ Again = s in cc
+mine_ends false k o false false false false false s = let bad : Failed ≡ Again = s in cc
+
+never_again : (y a h w l r : Bool) (mine : Glance) → mine ≢ Again → r ≡ true → (if y then barred a h w (l || r) else mine) ≢ Again
+never_again false a h w l r mine n e s = n s
+never_again true true true w l r mine n e s = let bad : Seen ≡ Again = s in cc
+never_again true true false true l r mine n e s = let bad : Seen ≡ Again = s in cc
+never_again true true false false l r mine n e s = let bad : Hand ≡ Again = s in cc
+never_again true false h w true r mine n e s = let bad : Failed ≡ Again = s in cc
+never_again true false h w false true mine n e s = let bad : Failed ≡ Again = s in cc
+never_again true false h w false false mine n e s = let bad : false ≡ true = e in cc
+
 free : (b : Bool) (x y : Glance) → b ≡ false → (if b then x else y) ≡ y
 free true x y e = absurd (let bad : true ≡ false = e in cc)
 free false x y e = refl
@@ -125,7 +146,8 @@ nothing_new_is_missed done k =
     let t : Bool = nat_lt done 7 && settles k in
     let c : Bool = done == 4 in
     let mine : Glance = by b (refreshes k) o h e w t k.is_done in
-    let other : Glance = barred k.is_amid c k.is_shown k.is_late in
+    let late : Bool = k.is_late || k.is_reading in
+    let other : Glance = barred k.is_amid c k.is_shown late in
     let is_mine : k.is_barred ≡ false → glance_after done k ≡ mine = free k.is_barred other mine in
     let is_other : k.is_barred ≡ true → glance_after done k ≡ other = held k.is_barred other mine in
     record {
@@ -133,9 +155,10 @@ nothing_new_is_missed done k =
       seen = λ f s. seen_by b (refreshes k) o h e w t k.is_done (sym (is_mine f) ∙ s);
       failed = λ f s. failed_by b (refreshes k) o h e w t k.is_done (sym (is_mine f) ∙ s);
       kept = λ f s. kept_by b (refreshes k) o h e w t k.is_done (sym (is_mine f) ∙ s);
-      once = λ f p q. free k.is_barred (barred k.is_amid false k.is_shown k.is_late) (begin_by (refreshes k) o) f ∙ kept_once k.is_open k.keeps_profile (are_as_read k) o p q;
+      once = λ f p q. free k.is_barred (barred k.is_amid false k.is_shown late) (begin_by (refreshes k) o) f ∙ kept_once k.is_open k.keeps_profile (are_as_read k) o p q;
       settled = λ f s. is_read (nat_lt done 7) k.is_done k.is_to_settle (settled_by b (refreshes k) o h e w t k.is_done (sym (is_mine f) ∙ s));
-      handed = λ y n. seen_in (glance_after done k) other k.is_shown (is_other y) (handed_by k.is_amid c k.is_shown k.is_late (sym (ap is_told (is_other y)) ∙ n));
-      shown = λ y n. shown_by k.is_amid c k.is_shown k.is_late (sym (is_other y) ∙ n);
-      later = λ y n. is_other y ∙ later_by k.is_amid c k.is_shown k.is_late n;
+      handed = λ y n. seen_in (glance_after done k) other k.is_shown (is_other y) (handed_by k.is_amid c k.is_shown late (sym (ap is_told (is_other y)) ∙ n));
+      shown = λ y n. shown_by k.is_amid c k.is_shown late (sym (is_other y) ∙ n);
+      later = λ y n. is_other y ∙ later_by k.is_amid c k.is_shown late n;
+      read = λ r s. never_again k.is_barred k.is_amid c k.is_shown k.is_late k.is_reading mine (mine_ends b (refreshes k) o h e w t k.is_done) r s;
     }

@@ -1,5 +1,5 @@
 -- What whoever looks at the files of a store does next.
-use Rattle.std.specs.Prelude.{ℕ, ◌≡◌, ◌⊎◌, Bool, true, false, not, ◌&&◌, ◌||◌, if◌then◌else◌, ◌==◌, nat_lt}
+use Rattle.std.specs.Prelude.{ℕ, ◌≡◌, ◌≢◌, ◌⊎◌, Bool, true, false, not, ◌&&◌, ◌||◌, if◌then◌else◌, ◌==◌, nat_lt}
 use Rattle.dconf_rounds.specs.declared.glances.GlanceKnown.{GlanceKnown}
 use Rattle.dconf_rounds.specs.declared.glances.Glance.{Glance}
 use Rattle.dconf_rounds.specs.declared.glances.Glance.TheVariants.{Refresh, Open, OpenAgain, Hand, Heed, Watch, Settle, Again, Seen, Failed}
@@ -41,9 +41,10 @@ settles k = k.is_done && k.is_to_settle
 
 -- ---- what comes next, once the first tasks were done, or were not due
 
--- while another thread has the turn nobody looks: what that one has seen is the newest, if it changes the files; and else it is over soon
+-- while another thread has the turn nobody looks: what that one has seen is the newest, if it changes the files; and else it is over soon, which is waited
+-- for for a time, and by who reads not at all
 abbrev pub after_barred : ℕ → GlanceKnown → Glance
-after_barred done k = if k.is_amid then (if (done == 4) || k.is_shown then Seen else Hand) else if k.is_late then Failed else Again
+after_barred done k = if k.is_amid then (if (done == 4) || k.is_shown then Seen else Hand) else if k.is_late || k.is_reading then Failed else Again
 
 abbrev pub glance_after : ℕ → GlanceKnown → Glance
 glance_after done k =
@@ -88,9 +89,11 @@ pub record IsGoodGlance (done : ℕ) (k : GlanceKnown) : Type 0 where
   pub settled : k.is_barred ≡ false → glance_after done k ≡ Settle → k.is_done ≡ true
   -- who has no turn to look hands out what another thread has seen in its own, or asks for the turn again, and does nothing else
   pub handed : k.is_barred ≡ true → is_told (glance_after done k) ≡ false → ((glance_after done k ≡ Hand) × (k.is_shown ≡ false)) ⊎ (glance_after done k ≡ Again)
-  -- it succeeds exactly if there is something that was seen so, and fails only once its time is over
+  -- it succeeds exactly if there is something that was seen so, and fails only once its time is over, or if it reads
   pub shown : k.is_barred ≡ true → glance_after done k ≡ Seen → k.is_amid ≡ true
-  pub later : k.is_barred ≡ true → k.is_amid ≡ false → glance_after done k ≡ (if k.is_late then Failed else Again)
+  pub later : k.is_barred ≡ true → k.is_amid ≡ false → glance_after done k ≡ (if k.is_late || k.is_reading then Failed else Again)
+  -- so who reads waits for nobody
+  pub read : k.is_reading ≡ true → glance_after done k ≢ Again
 
 abbrev pub NothingNewIsMissed : Type 0
 NothingNewIsMissed = (done : ℕ) (k : GlanceKnown) → IsGoodGlance done k

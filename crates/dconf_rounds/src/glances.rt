@@ -51,13 +51,15 @@ pub struct GlanceKnown {
     pub is_barred: bool,
     /// That one changes the files: it has read them in its turn, and nobody else changes them until it has written.
     pub is_amid: bool,
-    /// It is waited no longer for that turn.
+    /// The time is over that who looks waits for that turn.
     pub is_late: bool,
     /// Who looks wants to know what of that which waits is there already.
     pub is_to_settle: bool,
     /// One of those files couldn't be looked at when the profile was read, or can't be now.
     pub was_unseen: bool,
     pub is_unseen: bool,
+    /// Who looks reads a value.
+    pub is_reading: bool,
 }
 
 /// What comes next, once the first `done` tasks were done, or were not due.
@@ -106,7 +108,8 @@ pub fn glance_number(done: u32, known: &GlanceKnown) -> u32
     }
 }
 
-/// The same of who can't look: what another thread has seen is as new, if that changes the files; and else that one is over soon.
+/// The same of who can't look: what another thread has seen is as new, if that changes the files; and else that one is over soon, which who reads doesn't
+/// wait for.
 fn after_barred(done: u32, known: &GlanceKnown) -> Glance
     ensures { result ≡ after_barred done known.now }
 {
@@ -117,7 +120,7 @@ fn after_barred(done: u32, known: &GlanceKnown) -> Glance
             Glance::Hand
         };
     }
-    if known.is_late {
+    if known.is_late || known.is_reading {
         return Glance::Failed;
     }
     Glance::Again

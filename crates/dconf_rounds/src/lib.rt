@@ -42,7 +42,7 @@ pub fn yes_means_all_is_there()
 /// A look at the files keeps a store open only while both profiles are the ones that were read, for sure, or count as they were read. It does all that is due before it
 /// is over: what is new is handed out, what others changed while changes waited is heeded, the files of a store that was opened
 /// are watched, and what waits is settled only by files that were read. Who can't look while another thread changes the files hands out what that
-/// one has seen; and who can't look for another reason asks again until its time is over.
+/// one has seen; and who can't look for another reason asks again until its time is over, unless it reads: then it waits for nobody.
 pub fn nothing_new_is_missed()
     ensures { NothingNewIsMissed }
 {}

@@ -1,6 +1,6 @@
 -- What holds of what comes before it serves, whatever is known.
 use Rattle.std.proofs.Common.{◌≡◌, ◌≢◌, Bool, true, false, refl}
-use Rattle.std.specs.Prelude.{ℕ, ◌&&◌, if◌then◌else◌, nat_lt}
+use Rattle.std.specs.Prelude.{◌&&◌, if◌then◌else◌, nat_lt}
 use Rattle.dconf_served.specs.declared.begins.Begins.{Begins}
 use Rattle.dconf_served.specs.declared.begins.Begins.TheVariants.{MakeFolders, OpenUser, Serves}
 use Rattle.dconf_served.specs.Begins.{OthersAreToldOfFromTheStart}

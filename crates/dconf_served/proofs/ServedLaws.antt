@@ -206,11 +206,16 @@ who_waits_is_told_at_the_end k last = record {
   rests = rests k.waiting;
 }
 
+says_so : (says : Bool) → (if says then PassedOver else GoesOn) ≡ PassedOver → says ≡ true
+says_so true e = refl
+says_so false e = absurd (let bad : GoesOn ≡ PassedOver = e in cc)
+
 pub locks_count_where_they_are_known : LocksCountWhereTheyAreKnown
 locks_count_where_they_are_known k = record {
   locked = locked k.is_open k.is_profile_open k.has_same_file;
   unknown = unknown k.is_open k.is_profile_open k.has_same_file;
   others = others k.is_open k.is_profile_open k.has_same_file;
+  profile = says_so k.has_profile;
 }
 
 pub what_is_sent_counts : WhatIsSentCounts

@@ -97,11 +97,16 @@ joined k = if k.is_same then GoesOn else Later
 abbrev pub placed : ServedKnown → Served
 placed k = if not k.is_open || not k.is_profile_open then Failed else if k.has_same_file then Profiles else Alone
 
+-- the file that is to be the profile of one by itself: it is watched, and written unless it is that already
+abbrev pub profiled : ServedKnown → Served
+profiled k = if k.has_profile then PassedOver else GoesOn
+
 abbrev pub served_after : ℕ → ServedKnown → Served
 served_after done k = if done == 0 then came k else if done == 1 then read k else if done == 3 then told k else
     if done == 4 then ended k else if done == 5 then joined k else if done == 6 then placed k else if done == 7 then left k else
     if done == 8 then named k else if done == 9 then entered k else if done == 10 then ordered k else if done == 11 then shown k else
-    if done == 12 then made k else if done == 13 then beside k else if done == 14 then passed k else tried k
+    if done == 12 then made k else if done == 13 then beside k else if done == 14 then passed k else
+    if done == 15 then profiled k else tried k
 
 abbrev pub served_number : Served → ℕ
 served_number GoesOn = 0
@@ -165,6 +170,8 @@ pub record IsPlacedSafely (k : ServedKnown) : Type 0 where
   pub locked : k.has_same_file ≡ true → served_after 6 k ≢ Alone
   pub unknown : k.is_profile_open ≡ false → served_after 6 k ≡ Failed
   pub others : served_after 6 k ≡ Profiles → k.has_same_file ≡ true
+  -- one by itself has a profile that says so: what is there stays only if it does
+  pub profile : served_after 15 k ≡ PassedOver → k.has_profile ≡ true
 
 abbrev pub LocksCountWhereTheyAreKnown : Type 0
 LocksCountWhereTheyAreKnown = (k : ServedKnown) → IsPlacedSafely k

@@ -31,7 +31,8 @@ pub fn who_waits_is_told_at_the_end()
     ensures { WhoWaitsIsToldAtTheEnd }
 {}
 
-/// The locks of the profile count for the database that it has as its user's; and nothing is written while they can't be known.
+/// The locks of the profile count for the database that it has as its user's; and nothing is written while they can't be known. What is there as the
+/// profile of a database by itself is left as it is only if it says so.
 pub fn locks_count_where_they_are_known()
     ensures { LocksCountWhereTheyAreKnown }
 {}

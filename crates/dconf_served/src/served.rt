@@ -1,6 +1,6 @@
 //! What becomes of a call that changes settings, and of the service that takes it.
 ghost use Rattle.std.specs.Prelude.{◌≡◌};
-ghost use Rattle.dconf_served.specs.Served.{came, ended, entered, has_room, is_odd, is_path, is_settled, joined, lasts, left, made, named, ordered, passed, placed, read, served_after, served_number, shown, told, tried};
+ghost use Rattle.dconf_served.specs.Served.{came, ended, entered, has_room, is_odd, is_path, is_settled, joined, lasts, left, made, named, ordered, passed, placed, profiled, read, served_after, served_number, shown, told, tried};
 
 /// A change has so many bytes at most.
 const LARGEST: u64 = 67_108_864;
@@ -112,12 +112,14 @@ pub struct ServedKnown {
     pub is_service_db: bool,
     /// One that came before it is on its way to the main thread.
     pub is_behind: bool,
+    /// The file that is to be the profile of its database alone says that already.
+    pub has_profile: bool,
 }
 
 /// What becomes of a change: 0 it came, 14 it came in another thread than the main one, 1 it is read, 3 what is seen otherwise by it is told, 4 the service ends before it is answered, 5 it
 /// waits behind those that are taken, 6 the stores were opened that may have its database, and else it was tried to write it. Of what it says: 9 a
 /// path is read, 10 it comes behind those before it in the order of their bytes, 12 an edit was tried, and is told of, 13 it stands beside others
-/// of its change. And of the service: 7 each caller is answered who can be at its end, 8 it hasn't its name, 11 it tells of a database.
+/// of its change. Of its database 15: the file was read that is to be the profile of that alone. And of the service: 7 each caller is answered who can be at its end, 8 it hasn't its name, 11 it tells of a database.
 pub fn served_after(done: u32, known: &ServedKnown) -> Served
     ensures { result ≡ served_after done known.now }
 {
@@ -136,6 +138,7 @@ pub fn served_after(done: u32, known: &ServedKnown) -> Served
         12 => made(known),
         13 => Served::Alone, // a locked key keeps no other one from being set
         14 => passed(known),
+        15 => profiled(known),
         _ => tried(known),
     }
 }
@@ -347,6 +350,16 @@ fn placed(known: &ServedKnown) -> Served
         return Served::Profiles;
     }
     Served::Alone
+}
+
+/// Who watches it hears of each write: one that is good stays as it is, and any other is written.
+fn profiled(known: &ServedKnown) -> Served
+    ensures { result ≡ profiled known.now }
+{
+    if known.has_profile {
+        return Served::PassedOver;
+    }
+    Served::GoesOn
 }
 
 /// The thread rests if nothing waited when the end came, and is waited for then; else it may be in line for its turn, or amid a try.

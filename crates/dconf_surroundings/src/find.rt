@@ -143,6 +143,7 @@ pub fn enter<R: Files + Env + AllocGlobal>(
         user: user.as_bytes(),
         is_given: place.folder.is_some(),
         is_dconfs,
+        counts: around.environment.counts,
     };
     let profile = profile_of(rt, &home)?;
     Ok(Found {

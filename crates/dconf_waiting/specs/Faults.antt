@@ -1,6 +1,7 @@
 -- What is said of a fault while it lasts.
 use Rattle.std.specs.Prelude.{ℕ, ◌≡◌, Bool, true, false, not, ◌&&◌, ◌||◌, if◌then◌else◌, nat_le}
 use Rattle.dconf_waiting.specs.declared.failing.Failing.{Failing}
+use Rattle.dconf_waiting.specs.declared.failing.FaultSeen.{FaultSeen}
 use Rattle.dconf_waiting.specs.declared.failing.Word.{Word}
 use Rattle.dconf_waiting.specs.declared.failing.Word.TheVariants.{Nothing, Say, Said, Over}
 use Rattle.dconf_waiting.specs.Dues.{next_pause}
@@ -52,6 +53,10 @@ failing_after f is_there is_momentary tries_again now =
       is_there = true;
       is_said = is_said_after f is_momentary tries_again now;
     }
+
+-- it was met; or a look failed by it, and none was made since, whatever was written
+abbrev pub is_still_there : FaultSeen → Bool
+is_still_there s = s.is_met || (s.is_of_look && not s.has_looked)
 
 -- a look that fails by what mostly is so for a moment may succeed when it is repeated; any other fault of one is said at once
 abbrev pub is_awaited : Bool → Bool → Bool

@@ -8,9 +8,10 @@ use Rattle.dconf_waiting.specs.declared.patience.Patience.{Patience}
 abbrev pub later_by : ℕ → ℕ → ℕ
 later_by now time = min (now + time) 18446744073709551615
 
--- who sets or syncs, the program's end, and who wants a lock there that is held for moments; and between two questions whether others had turns
+-- who sets or syncs, the program's end, and who wants a lock there that is held for moments; and between two questions whether others had turns, and two
+-- of the end whether what it waits for is over
 abbrev pub patience_for : ℕ → ℕ
-patience_for who = if who == 0 then 10000000 else if who == 1 then 5000000 else if who == 3 then 500000 else 2000000
+patience_for who = if who == 0 then 10000000 else if who == 1 then 5000000 else if who == 3 then 500000 else if who == 4 then 5000 else 2000000
 
 -- for a minute at most, from when it began
 abbrev pub latest_of : Patience → ℕ → ℕ

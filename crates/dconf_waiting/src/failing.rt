@@ -1,6 +1,6 @@
 //! What is said of a fault while it lasts, and when what failed by it is tried again. All moments are of one clock, in microseconds.
 ghost use Rattle.std.specs.Prelude.{◌≡◌, ◌↔◌, IsTrue};
-ghost use Rattle.dconf_waiting.specs.Faults.{due_after, failed_after, failing_after, is_awaited, is_said_after, lasts, longest, no_fault, since_of, word_number, word_of};
+ghost use Rattle.dconf_waiting.specs.Faults.{due_after, failed_after, failing_after, is_awaited, is_said_after, is_still_there, lasts, longest, no_fault, since_of, word_number, word_of};
 
 use crate::due::pause_after;
 
@@ -27,6 +27,21 @@ pub struct Failing {
     pub is_there: bool,
     /// It was said.
     pub is_said: bool,
+}
+
+/// What is seen of a fault of files, once they were looked at, or were read as they were written.
+#[repr(C)]
+#[derive(Clone, Copy)]
+pub struct FaultSeen {
+    /// It was met now.
+    pub is_met: bool,
+    /// A look failed by it. Else it is of a file that was read.
+    pub is_of_look: bool,
+    /// It was a look.
+    pub has_looked: bool,
+    pub is_momentary: bool,
+    /// The look is made again of itself.
+    pub is_repeated: bool,
 }
 
 /// What is said now.
@@ -59,22 +74,16 @@ impl Failing {
         }
     }
 
-    /// The same of a look at the files. As long as they can't be read, what is shown may not be what they hold: so that is said at once, unless it
-    /// is mostly so for a moment, and the look is repeated.
-    pub fn met_looking(
-        &mut self,
-        is_there: bool,
-        is_momentary: bool,
-        is_repeated: bool,
-        now: u64,
-    ) -> u32
-        ensures said { result ≡ word_number (word_of self.old is_there is_momentary (is_awaited is_momentary is_repeated) now) }
-        ensures after { self.new ≡ failing_after self.old is_there is_momentary (is_awaited is_momentary is_repeated) now }
+    /// The same of a look at the files, or of a write. As long as they can't be read, what is shown may not be what they hold: so that is said at once,
+    /// unless it is mostly so for a moment, and the look is repeated. That a look failed is over by the next look alone.
+    pub fn met_looking(&mut self, seen: &FaultSeen, now: u64) -> u32
+        ensures said { result ≡ word_number (word_of self.old (is_still_there seen.now) seen.now.is_momentary (is_awaited seen.now.is_momentary seen.now.is_repeated) now) }
+        ensures after { self.new ≡ failing_after self.old (is_still_there seen.now) seen.now.is_momentary (is_awaited seen.now.is_momentary seen.now.is_repeated) now }
     {
         self.met(
-            is_there,
-            is_momentary,
-            is_awaited(is_momentary, is_repeated),
+            is_still_there(seen),
+            seen.is_momentary,
+            is_awaited(seen.is_momentary, seen.is_repeated),
             now,
         )
     }
@@ -178,6 +187,12 @@ fn no_fault(tries: u64) -> Failing
         is_there: false,
         is_said: false,
     }
+}
+
+fn is_still_there(seen: &FaultSeen) -> bool
+    ensures { result ≡ is_still_there seen.now }
+{
+    seen.is_met || (seen.is_of_look && !seen.has_looked)
 }
 
 /// Whether it is awaited that a look succeeds.

@@ -20,7 +20,7 @@ mod patience;
 
 pub use batch::{BatchRecord, BatchStep};
 pub use due::{pause_after, sleep_until};
-pub use failing::{Failing, Word, is_same_fault};
+pub use failing::{Failing, FaultSeen, Word, is_same_fault};
 pub use fate::{Fate, Waiter, WaitingEdit, fate_number, fate_of};
 pub use fresh::{Looker, next_look};
 pub use line::{Tally, settle};

@@ -19,8 +19,12 @@ const LONGEST_ASKED: u64 = 10_000_000;
 
 const LONGEST_END: u64 = 5_000_000;
 
+/// How often the program's end asks whether what it waits for is over.
+const BETWEEN_LOOKS: u64 = 5_000;
+
 /// How long it is waited for what waits, or for the turn, unless others have turns meanwhile: by who sets or syncs (0), at the end (1), and (else)
-/// for a lock that is wanted for moments, at the end; and (3) until it is asked again whether others had one.
+/// for a lock that is wanted for moments, at the end; (3) until it is asked again whether others had one; and (4) until the end asks again whether what it
+/// waits for is over.
 pub fn patience_for(who: u32) -> u64
     ensures { result ≡ patience_for who }
 {
@@ -28,6 +32,7 @@ pub fn patience_for(who: u32) -> u64
         0 => LONGEST_ASKED,
         1 => LONGEST_END,
         3 => BETWEEN_TURNS,
+        4 => BETWEEN_LOOKS,
         _ => LONGEST_REST,
     }
 }

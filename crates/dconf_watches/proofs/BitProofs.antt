@@ -1,12 +1,12 @@
 -- What inotify tells and is asked for, bit by bit.
-use Rattle.std.proofs.Common.{◌≡◌, ◌≢◌, ◌⊎◌, Bool, true, false, refl, inl, inr}
+use Rattle.std.proofs.Common.{◌≡◌, ◌≢◌, ◌⊎◌, true, false, refl, inl, inr}
 use Rattle.dconf_watches.specs.declared.name.Found.{Found}
 use Rattle.dconf_watches.specs.declared.name.NameWatch.{NameWatch}
 use Rattle.dconf_watches.specs.declared.event.Event.{Event}
 use Rattle.dconf_watches.specs.declared.event.Of.{Of}
 use Rattle.dconf_watches.specs.declared.event.Heard.{Heard}
 use Rattle.dconf_watches.specs.Events.{meaning}
-use Rattle.dconf_watches.specs.Inotify.{Bit, asked_of, asked_of_file, event_in, has, number}
+use Rattle.dconf_watches.specs.Inotify.{Bit, asked_of, asked_of_file, event_in, number}
 use Rattle.dconf_watches.specs.WatchLaws.{AllThatCountsIsAskedFor, AllThatIsHeardIsAskedFor, EachBitIsRead, IsIn, WritersBesideWakeNobody, is_file}
 
 pub each_bit_is_read : EachBitIsRead

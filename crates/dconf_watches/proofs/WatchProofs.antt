@@ -1,5 +1,5 @@
 -- The laws of watches, case by case.
-use Rattle.std.proofs.Common.{◌≡◌, ◌≢◌, ◌⊎◌, Bool, true, false, refl, inl, inr}
+use Rattle.std.proofs.Common.{◌≡◌, ◌≢◌, ◌⊎◌, true, false, refl, inl, inr}
 use Rattle.dconf_watches.specs.declared.name.Found.{Found}
 use Rattle.dconf_watches.specs.declared.event.Event.{Event}
 use Rattle.dconf_watches.specs.declared.event.Heard.{Heard}

@@ -15,6 +15,11 @@ minds_much who = (who == 3) || (who == 4)
 abbrev pub keeps_profile : ℕ → Bool
 keeps_profile who = who == 2
 
+-- A bad file refuses the store of the library's caller alone, unless that asks for a lenient one, or for no more than the names of its files: to all others
+-- it counts as what can be read of it
+abbrev pub is_lenient : ℕ → Bool → Bool → Bool
+is_lenient who asked lists = not (who == 0) || (asked || lists)
+
 -- much happens in /etc: only who minds that waits there
 abbrev pub is_busy : Bool → List ℕ → Bool
 is_busy minds folder = not minds && bytes_eq folder (codes "/etc")

@@ -22,8 +22,8 @@ pub use event::{Event, Heard, Of, asked_anew, heard_if, louder, meaning};
 pub use flag::{Flagging, flag_after, flag_number};
 pub use inotify::{asked_of, asked_of_file, event_in, found_by, is_file_missed, seen_by};
 pub use name::{
-    Found, NameWatch, Way, heard_as, is_busy, is_busy_in, is_missed, is_needed, keeps_profile,
-    minds_much, watch_at, watch_of, way_at, way_of,
+    Found, NameWatch, Way, heard_as, is_busy, is_busy_in, is_lenient, is_missed, is_needed,
+    keeps_profile, minds_much, watch_at, watch_of, way_at, way_of,
 };
 pub use numbers::{WatchedName, asked_anew_number, heard_number, watched_name};
 pub use rounds::{AfterRound, Sight, WatchRounds};
@@ -75,7 +75,8 @@ pub fn rounds_end()
     ensures { RoundsEnd }
 {}
 
-/// The name of the flag goes only once it is set, and by who has the turn: so each reader of dconf's is told, or keeps the file that is set next.
+/// The name of the flag goes only once it is set, and by who has the turn; and who hasn't, and can't have the lock, sets it all the same. That is said of
+/// the order of the tasks: what a reader of dconf's does meanwhile is no part of it.
 pub fn no_reader_is_lost()
     ensures { NoReaderIsLost }
 {}

@@ -1,6 +1,6 @@
 //! What is watched of a name on the way to a file.
 ghost use Rattle.std.specs.Prelude.{◌≡◌};
-ghost use Rattle.dconf_watches.specs.Names.{heard_as, is_busy, is_busy_in, is_dot, is_dots, is_missed, is_needed, keeps_profile, minds_much, unless, watch_at, watch_of, way_at, way_of};
+ghost use Rattle.dconf_watches.specs.Names.{heard_as, is_busy, is_busy_in, is_dot, is_dots, is_lenient, is_missed, is_needed, keeps_profile, minds_much, unless, watch_at, watch_of, way_at, way_of};
 
 use crate::event::Heard;
 
@@ -129,6 +129,14 @@ pub fn keeps_profile(who: u32) -> bool
     ensures { result ≡ keeps_profile who }
 {
     who == 2
+}
+
+/// Whether a store is opened past its bad files, by who opens it: of the same numbers, for all but the library's caller, who asks for that (`is_asked`), or
+/// for no more than the names of its files (`lists`).
+pub fn is_lenient(who: u32, is_asked: bool, lists: bool) -> bool
+    ensures { result ≡ is_lenient who is_asked lists }
+{
+    who != 0 || (is_asked || lists)
 }
 
 /// Whether much happens in a folder, which is not minded.

@@ -3,13 +3,15 @@ ghost use Rattle.std.specs.Prelude.{◌≡◌};
 ghost use Rattle.dconf_changesets.specs.Above.{shared_within};
 ghost use Rattle.dconf_changesets.specs.Asking.{asked_after, look_due, look_number};
 ghost use Rattle.dconf_changesets.specs.Differences.{differs};
+ghost use Rattle.dconf_changesets.specs.Fast.{fast_after, fast_number};
 ghost use Rattle.dconf_changesets.specs.Making.{change_after, change_number, is_unmade, waits_again};
 ghost use Rattle.dconf_changesets.specs.Rows.{effect_number, effect_of};
 ghost use Rattle.dconf_changesets.specs.Saying.{is_said, is_same_word};
 
 use dconf_changesets::{
-    Base, ChangeKnown, LookKnown, Said, Tried, asked_after, change_number, differs, effect_number,
-    effect_of, is_said, is_same_word, is_unmade, look_number, shared_within, waits_again,
+    Base, ChangeKnown, FastKnown, LookKnown, Said, Tried, asked_after, change_number, differs,
+    effect_number, effect_of, fast_number, is_said, is_same_word, is_unmade, look_number,
+    shared_within, waits_again,
 };
 
 /// What becomes of the row of a path in a set of changes where one is set, or reset: 0 it stays, 1 it goes, 2 it takes the change's value,
@@ -98,6 +100,15 @@ pub extern "C" fn dconfdb_changing_after(done: u32, is_so: bool, known: &ChangeK
     ensures { result ≡ change_number (change_after done is_so known.now) }
 {
     change_number(done, is_so, known)
+}
+
+/// What comes next of a change whose caller doesn't wait for it, once the first `done` tasks were done, or were not due: 1 it waits beside what waits
+/// already, 2 somebody is to write that, 3 what is new by it is told; 4 it is over, 5 it is refused.
+#[unsafe(no_mangle)]
+pub extern "C" fn dconfdb_fast_after(done: u32, known: &FastKnown) -> u32
+    ensures { result ≡ fast_number (fast_after done known.now) }
+{
+    fast_number(done, known)
 }
 
 /// Whether an edit that was tried to write is not made, so that whoever was told of it is told again.

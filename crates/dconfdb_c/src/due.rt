@@ -1,10 +1,10 @@
 //! When who rests is to wake, when who reads is to look at the files, and what is said of a fault.
 ghost use Rattle.std.specs.Prelude.{ℕ, ◌≡◌, ◌↔◌, ◌≤◌, ◌<◌, ◌+◌, ◌*◌, ◌⊎◌, IsTrue, false};
 ghost use Rattle.dconf_waiting.specs.Dues.{IsFirstOf};
-ghost use Rattle.dconf_waiting.specs.Faults.{failing_after, is_awaited, word_number, word_of};
+ghost use Rattle.dconf_waiting.specs.Faults.{failing_after, is_awaited, is_still_there, word_number, word_of};
 ghost use Rattle.dconf_waiting.specs.Fresh.{may_look, next_look, numbered};
 
-use dconf_waiting::{Failing, is_same_fault, next_look, sleep_until};
+use dconf_waiting::{Failing, FaultSeen, is_same_fault, next_look, sleep_until};
 
 /// How many milliseconds there are until the first of two moments, rounded up. False, and `wait` as
 /// it was, where neither is one.
@@ -39,19 +39,14 @@ pub extern "C" fn dconfdb_failing_met(
     failing.met(is_there, is_momentary, tries_again, now)
 }
 
-/// The same of a look at the files, that is repeated of itself or not: what mostly passes in a moment is awaited then, and all else is said at once.
+/// The same of a look at the files, that is repeated of itself or not: what mostly passes in a moment is awaited then, and all else is said at once. And of
+/// files that were written, and read for that: a look that failed isn't over by it.
 #[unsafe(no_mangle)]
-pub extern "C" fn dconfdb_failing_look(
-    failing: &mut Failing,
-    is_there: bool,
-    is_momentary: bool,
-    is_repeated: bool,
-    now: u64,
-) -> u32
-    ensures said { result ≡ word_number (word_of failing.old is_there is_momentary (is_awaited is_momentary is_repeated) now) }
-    ensures after { failing.new ≡ failing_after failing.old is_there is_momentary (is_awaited is_momentary is_repeated) now }
+pub extern "C" fn dconfdb_failing_look(failing: &mut Failing, seen: &FaultSeen, now: u64) -> u32
+    ensures said { result ≡ word_number (word_of failing.old (is_still_there seen.now) seen.now.is_momentary (is_awaited seen.now.is_momentary seen.now.is_repeated) now) }
+    ensures after { failing.new ≡ failing_after failing.old (is_still_there seen.now) seen.now.is_momentary (is_awaited seen.now.is_momentary seen.now.is_repeated) now }
 {
-    failing.met_looking(is_there, is_momentary, is_repeated, now)
+    failing.met_looking(seen, now)
 }
 
 /// When the next look is due, if this one is made; or 0. Of 0 who reads, of 1 who did and whose look failed; and of who is about to tell

@@ -1,10 +1,12 @@
 //! Which program a command line is for; and the words of `watch` and of `lint`.
 ghost use Rattle.std.specs.Prelude.{◌≡◌, false, true};
 ghost use Rattle.dconf_options.specs.Options.{option_after, options_end, said_number};
-ghost use Rattle.dconf_options.specs.Programs.{program_number, program_of};
+ghost use Rattle.dconf_options.specs.Placings.{placing_number, placing_of};
+ghost use Rattle.dconf_options.specs.Programs.{forgets, program_number, program_of};
 
 use dconf_options::{
-    Line, OptionsRead, option_after, options_end, program_number, program_of, said_number,
+    Line, OptionsRead, forgets, option_after, options_end, placing_number, placing_of,
+    program_number, program_of, said_number,
 };
 
 /// What is said of the next word, or at the end of all: 0 nothing, 1 a folder is given, 2 a schema, 3 a name, 4 the help is asked for; or why it is
@@ -32,11 +34,35 @@ pub extern "C" fn dconfdb_option(
     said_number(taken.said)
 }
 
-/// Which program a command line is for, by the program's name and the two words after it, each empty where there is none: 0 the proved one, 1 `watch`,
-/// 2 `lint`, 3 and 4 the help of these; run as `dconf`, 5 the same `watch`, 6 `blame`, 7 the proved one by that.
+/// What is said of an argument of `--schema`, by whether it has a `:`, the path behind that is a directory's, there is the schema before it, and that has
+/// a path: 0 it is taken, 1 there is no path, 2 no directory's, 3 no such schema, 4 it has a path of its own.
 #[unsafe(no_mangle)]
-pub extern "C" fn dconfdb_program_of(name: &[u8], first: &[u8], second: &[u8], line: &Line) -> u32
-    ensures { result ≡ program_number (program_of name.now first.now second.now line.now) }
+pub extern "C" fn dconfdb_placing(
+    has_path: bool,
+    is_directory: bool,
+    has_schema: bool,
+    is_fixed: bool,
+) -> u32
+    ensures { result ≡ placing_number (placing_of has_path is_directory has_schema is_fixed) }
 {
-    program_number(program_of(name, first, second, line))
+    placing_number(placing_of(has_path, is_directory, has_schema, is_fixed))
+}
+
+/// Which program a command line is for, by the program's name and the two words after it, each empty where there is none: 0 the proved one, 1 `watch`,
+/// 2 `lint`, 3 and 4 the help of these; run as `dconf`, 5 the same `watch`, 6 `blame`, 7 the proved one by that. And whether it is run without the
+/// variables that say where a store is (`has_none`).
+#[unsafe(no_mangle)]
+pub extern "C" fn dconfdb_program_of(
+    name: &[u8],
+    first: &[u8],
+    second: &[u8],
+    line: &Line,
+    has_none: &mut bool,
+) -> u32
+    ensures program { result ≡ program_number (program_of name.now first.now second.now line.now) }
+    ensures none { has_none.new ≡ forgets (program_of name.now first.now second.now line.now) line.now }
+{
+    let program = program_of(name, first, second, line);
+    *has_none = forgets(program, line);
+    program_number(program)
 }

@@ -1,7 +1,8 @@
 //! As what the files of a site are looked at, and what is found there.
 ghost use Rattle.std.specs.Prelude.{◌≡◌, ◌≢◌, ◌≤◌, false, if◌then◌else◌, map, true};
 ghost use Rattle.std.specs.List.{list_any};
-ghost use Rattle.dconf_roles.specs.Folders.{is_read, role_of, sources_in};
+ghost use Rattle.dconf_roles.specs.Asked.{beside, beside_number};
+ghost use Rattle.dconf_roles.specs.Folders.{is_read, looked_within, role_of, sources_in, within_number};
 ghost use Rattle.dconf_roles.specs.Findings.{finding_for, finding_number};
 ghost use Rattle.dconf_roles.specs.Machines.{machines_folder};
 ghost use Rattle.dconf_roles.specs.Nearness.{is_nearer, nearing_after};
@@ -14,8 +15,9 @@ ghost use Rattle.dconf_roles.specs.Slips.{is_slip};
 
 use crate::open::DconfdbText;
 use dconf_roles::{
-    EntryKnown, FindingKnown, Name, Nearing, entry_number, finding_number, is_nearer, is_over,
-    is_read, machines_folder, next_place, reading_number, role_of, sources_in, stem_len,
+    EntryKnown, FindingKnown, Name, Nearing, beside_number, entry_number, finding_number,
+    is_nearer, is_over, is_read, machines_folder, next_place, reading_number, role_of, sources_in,
+    stem_len, within_number,
 };
 use std::alloc::Global;
 
@@ -51,6 +53,24 @@ pub extern "C" fn dconfdb_read_as(
     reading_number(role, entry.is_one_read, size, text)
 }
 
+/// Within what of a site what is in the last of these folders is looked at, the first of which is in the root: 1 in all of it, unless `update` reads the
+/// folder; 2 in NAME.d, 3 in its `locks`.
+#[unsafe(no_mangle)]
+pub extern "C" fn dconfdb_within(folders: &[Name<'_>]) -> u32
+    ensures { result ≡ within_number (looked_within (map (λ f. f.text.now) folders.now)) }
+{
+    within_number(folders)
+}
+
+/// What a file that is asked for is beside the one before it, in the order of their paths: 0 the same, 1 one more of the same folder, 2 the first of its
+/// own.
+#[unsafe(no_mangle)]
+pub extern "C" fn dconfdb_file_after(is_same: bool, is_of_folder: bool) -> u32
+    ensures { result ≡ beside_number (beside is_same is_of_folder) }
+{
+    beside_number(is_same, is_of_folder)
+}
+
 /// The folder of the sources and databases that `update` takes if none is named, by the kind of store that the machine has.
 #[unsafe(no_mangle)]
 pub extern "C" fn dconfdb_machines_folder(is_dconfs: bool, folder: &mut DconfdbText<'_>)
@@ -64,7 +84,7 @@ pub extern "C" fn dconfdb_machines_folder(is_dconfs: bool, folder: &mut DconfdbT
 /// What is found of a key that is set, or of a lock, by what the schemas have: 0 nothing, 1 no schema has the key, 2 the locked key, 3 a key
 /// below the locked directory, 4 the value is of another type, 5 the key doesn't take it. Beside these other directories its own may be a slip. Of a
 /// database that a profile of that name names 6: it has no file. Of a key that is set 7: an earlier line sets it, too; of a lock of that path 8:
-/// nothing sets the key; and of a value in a source 9: it has a double.
+/// nothing sets the key; and of a text of a value 9: it has a double, and is one of a source; 10: it is no value.
 #[unsafe(no_mangle)]
 pub extern "C" fn dconfdb_finding(known: &FindingKnown, name: &[u8], others: &[Name<'_>]) -> u32
     ensures { result ≡ finding_number (finding_for known.now name.now (list_any (λ other. is_slip name.now other.text.now) others.now)) }

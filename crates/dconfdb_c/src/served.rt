@@ -6,7 +6,8 @@ ghost use Rattle.dconf_served.specs.Served.{served_after, served_number};
 use dconf_served::{ServedKnown, begins_number, served_number};
 
 /// What becomes of a call that changes settings, once it came (`done` is 0), or came in another thread than the main one (14), once it is read (1), after each try to write it (2), when it is told
-/// (3), at the service's end (4), when others are taken to be written (5), and once the stores were opened that may have its database (6); of a
+/// (3), at the service's end (4), when others are taken to be written (5), and once the stores were opened that may have its database (6), for one of which
+/// the file was read that is to be the profile of that alone (15); of a
 /// path in it, once that is read (9), and behind those before it (10); of an edit, when it was tried (12), and beside others of its change (13); and
 /// of the service, at its end (7), when it hasn't its name (8), and when it tells of a database (11): 0 it goes on, 1 it is acknowledged, 2 it
 /// failed, 3 nobody with these rights may write there, 4 it is odd, 5 too large, 6 too much waits, 7 too many databases are in use, 8 the service

@@ -44,7 +44,8 @@ pub extern "C" fn dconfdb_waiting_line(
 }
 
 /// How many microseconds it is waited, unless others have turns meanwhile: by who sets or syncs (0), at the program's end (1), and (else) for a lock
-/// that is wanted there for moments; and (3) until it is asked again whether others had turns.
+/// that is wanted there for moments; (3) until it is asked again whether others had turns; and (4) until the program's end asks again whether what it
+/// waits for is over.
 #[unsafe(no_mangle)]
 pub extern "C" fn dconfdb_patience_for(who: u32) -> u64
     ensures { result ≡ patience_for who }

@@ -3,13 +3,13 @@ ghost use Rattle.std.specs.Prelude.{◌≡◌, ◌≢◌};
 ghost use Rattle.dconf_watches.specs.Events.{asked_anew, heard_if, louder, meaning};
 ghost use Rattle.dconf_watches.specs.Flags.{flag_after, flag_number};
 ghost use Rattle.dconf_watches.specs.Inotify.{event_in, is_file_missed, seen_by};
-ghost use Rattle.dconf_watches.specs.Names.{keeps_profile, minds_much};
+ghost use Rattle.dconf_watches.specs.Names.{is_lenient, keeps_profile, minds_much};
 ghost use Rattle.dconf_watches.specs.Numbers.{IsWatchedName, heard_number, heard_of, name_watch_of, of_what};
 ghost use Rattle.dconf_watches.specs.Rounds.{after_number, after_round, begun, gone_through, rounds_of, sight_of};
 
 use dconf_watches::{
     Sight, WatchRounds, WatchedName, asked_anew_number, flag_number, heard_number, is_file_missed,
-    keeps_profile, minds_much, watched_name,
+    is_lenient, keeps_profile, minds_much, watched_name,
 };
 
 /// Whether who watches minds much that happens: 0 the library's caller, 1 the module, 2 libdconf, 3 the command, 4 the service.
@@ -26,6 +26,14 @@ pub extern "C" fn dconfdb_keeps_profile(who: u32) -> bool
     ensures { result ≡ keeps_profile who }
 {
     keeps_profile(who)
+}
+
+/// Whether a store is opened past its bad files, by the same: `is_asked` by the library's caller, or `lists`, as it is opened for the names of its files.
+#[unsafe(no_mangle)]
+pub extern "C" fn dconfdb_is_lenient(who: u32, is_asked: bool, lists: bool) -> bool
+    ensures { result ≡ is_lenient who is_asked lists }
+{
+    is_lenient(who, is_asked, lists)
 }
 
 /// What is watched of a name in that folder, which is no link; the root's path is empty. `is_last`: it is the path's last name. `mode` and
@@ -126,8 +134,8 @@ pub extern "C" fn dconfdb_heard(
     )
 }
 
-/// What is done next about the flag of dconf's readers: 1 its file is opened, 2 made longer, 3 set, 4 its name goes, 5 it is over. It begins with 0, and
-/// `could_be` says whether the last one could be done.
+/// What is done next about the flag of dconf's readers: 1 it is looked whether there may be a file, 2 the lock of the database's folder taken, 3 the file
+/// opened, 4 made longer, 5 set, 6 its name goes, 7 it is over. It begins with 0, and `could_be` says whether the last one could be done.
 #[unsafe(no_mangle)]
 pub extern "C" fn dconfdb_flag_after(done: u32, could_be: bool, is_in_turn: bool) -> u32
     ensures { result ≡ flag_number (flag_after done could_be is_in_turn) }

@@ -1,8 +1,9 @@
 //! What dconf's client does with changes: the rows of a set, what makes a difference to a database, where a key's newest word is found, who
 //! looks at the files, what becomes of a change whose caller waits for it, and what is told.
 use dconf_changesets::{
-    Base, ChangeKnown, Effect, LookKnown, Said, Tried, asked_after, change_number, differs,
-    effect_number, effect_of, is_said, is_unmade, look_number, shared_within, waits_again,
+    Base, ChangeKnown, Effect, FastKnown, LookKnown, Said, Tried, asked_after, change_number,
+    differs, effect_number, effect_of, fast_number, is_said, is_unmade, look_number, shared_within,
+    waits_again,
 };
 use std::test::Fail;
 
@@ -278,9 +279,38 @@ fn are_made() -> bool {
         && change_number(6, true, &closed) == 9
 }
 
+fn are_left_waiting() -> bool {
+    let plain = FastKnown {
+        is_refused: false,
+        is_empty: false,
+        is_news: false,
+    };
+    let news = FastKnown {
+        is_news: true,
+        ..plain
+    };
+    let empty = FastKnown {
+        is_empty: true,
+        ..news
+    };
+    let refused = FastKnown {
+        is_refused: true,
+        ..empty
+    };
+    fast_number(0, &plain) == 1
+        && fast_number(1, &plain) == 2
+        && fast_number(2, &plain) == 4
+        && fast_number(0, &news) == 1
+        && fast_number(2, &news) == 3
+        && fast_number(3, &news) == 4
+        && fast_number(0, &empty) == 4
+        && fast_number(0, &refused) == 5
+}
+
 #[test]
 fn changes_are_kept(rt: HostRuntime) -> Result<(), Fail> {
     assert!(rt; rows_go() && are_shared() && make_differences() && are_asked() && are_made());
+    assert!(rt; are_left_waiting());
     assert!(rt; look_where_it_is_due() && say_the_same() && tell_what_is_lost());
     Ok(())
 }

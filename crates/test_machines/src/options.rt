@@ -1,6 +1,7 @@
 //! Which program a command line is for; and the words of `watch` and of `lint`.
 use dconf_options::{
-    Line, OptionsRead, option_after, options_end, program_number, program_of, said_number,
+    Line, OptionsRead, forgets, option_after, options_end, placing_number, placing_of,
+    program_number, program_of, said_number,
 };
 use std::test::Fail;
 
@@ -82,10 +83,41 @@ const LINE: Line = Line {
     is_path: true,
     has_blame: true,
     is_noted: false,
+    counts: true,
 };
 
 fn program(name: &str, first: &str, second: &str, line: Line) -> u32 {
     program_number(program_of(name.as_bytes(), first.as_bytes(), second.as_bytes(), &line))
+}
+
+fn is_forgetting(name: &str, first: &str, line: Line) -> bool {
+    forgets(
+        program_of(name.as_bytes(), first.as_bytes(), b"/", &line),
+        &line,
+    )
+}
+
+/// By a program that has more rights the environment isn't asked.
+fn more_rights_have_no_environment() -> bool {
+    let more = Line {
+        is_noted: true,
+        counts: false,
+        ..LINE
+    };
+    program("dconf", "write", "/a", more) == 0
+        && is_forgetting("dconf", "write", more)
+        && is_forgetting("dconfdb", "read", more)
+        && !is_forgetting("dconfdb", "watch", more)
+        && !is_forgetting("dconf", "watch", more)
+        && !is_forgetting("dconfdb", "read", LINE)
+        && !is_forgetting(
+            "dconf",
+            "write",
+            Line {
+                is_noted: true,
+                ..LINE
+            },
+        )
 }
 
 fn our_name_runs_its_programs() -> bool {
@@ -132,12 +164,26 @@ fn dconfs_name_runs_its_programs() -> bool {
 #[test]
 fn programs_are_found(rt: HostRuntime) -> Result<(), Fail> {
     assert!(rt; our_name_runs_its_programs() && dconfs_name_runs_its_programs());
+    assert!(rt; more_rights_have_no_environment());
     Ok(())
+}
+
+/// An argument of `--schema`.
+fn placed(has_path: bool, is_directory: bool, has_schema: bool, is_fixed: bool) -> u32 {
+    placing_number(placing_of(has_path, is_directory, has_schema, is_fixed))
+}
+
+fn schemas_are_placed() -> bool {
+    placed(true, true, true, false) == 0
+        && placed(false, false, false, false) == 1
+        && placed(true, false, true, true) == 2
+        && placed(true, true, false, false) == 3
+        && placed(true, true, true, true) == 4
 }
 
 #[test]
 fn words_are_read(rt: HostRuntime) -> Result<(), Fail> {
     assert!(rt; watch_takes_its_words() && watch_refuses_the_others());
-    assert!(rt; lint_takes_its_words());
+    assert!(rt; lint_takes_its_words() && schemas_are_placed());
     Ok(())
 }

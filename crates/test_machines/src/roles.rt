@@ -1,7 +1,8 @@
 //! As what the files of a site are looked at, and what is found there.
 use dconf_roles::{
-    EntryKnown, FindingKnown, Name, Nearing, Role, entry_number, finding_number, is_nearer,
-    is_over, is_read, machines_folder, next_place, reading_number, role_of, sources_in, stem_len,
+    EntryKnown, FindingKnown, Name, Nearing, Role, beside_number, entry_number, finding_number,
+    is_nearer, is_over, is_read, machines_folder, next_place, reading_number, role_of, sources_in,
+    stem_len, within_number,
 };
 use std::alloc::{AllocError, Global};
 use std::test::Fail;
@@ -40,6 +41,35 @@ fn sources(outer: &str, inner: &str) -> usize {
         },
     ];
     sources_in(&folders)
+}
+
+/// Within what of a site what is in the inner of two folders is looked at.
+fn inside(outer: &str, inner: &str) -> u32 {
+    let folders = [
+        Name {
+            text: outer.as_bytes(),
+        },
+        Name {
+            text: inner.as_bytes(),
+        },
+    ];
+    within_number(&folders)
+}
+
+fn folders_are_within() -> bool {
+    inside("etc", "site") == 1
+        && inside("etc", "site.d") == 2
+        && inside("site.d", "locks") == 3
+        && inside("site.d", "old") == 1
+        && inside("site.d", ".git") == 1
+        && inside("etc", "profiles") == 1
+        && within_number(&[]) == 1
+}
+
+fn folders_are_taken_one_by_one() -> bool {
+    beside_number(false, false) == 2
+        && beside_number(false, true) == 1
+        && beside_number(true, true) == 0
 }
 
 fn folders_have_their_roles() -> bool {
@@ -105,6 +135,7 @@ fn databases_are_read() -> bool {
 #[test]
 fn sources_are_read_as_update_reads_them(rt: HostRuntime) -> Result<(), Fail> {
     assert!(rt; folders_have_their_roles() && files_have_their_roles());
+    assert!(rt; folders_are_within() && folders_are_taken_one_by_one());
     assert!(rt; sources_are_found());
     assert!(rt; texts_are_read() && databases_are_read());
     Ok(())
@@ -279,6 +310,7 @@ const FINE: FindingKnown = FindingKnown {
     is_made: false,
     is_unseen: false,
     is_among_profiles: false,
+    has_double: false,
 };
 
 const UNKNOWN: FindingKnown = FindingKnown {
@@ -377,7 +409,7 @@ fn databases_are_looked_for() -> bool {
         && named_in("site", false, true) == 0
 }
 
-/// Of a key that may be set already, 4, of a lock whose key may not be set, 5, or of a double, 6.
+/// Of a key that may be set already, 4, or of a lock whose key may not be set, 5.
 fn alone(what: u32, is_so: bool, path: &str) -> u32 {
     let known = FindingKnown {
         what,
@@ -400,14 +432,46 @@ fn what_is_set_is_judged() -> bool {
         && alone(5, false, "/a/") == 0
         && alone(5, true, "/a/k") == 0
         && finding_number(&wrong, "/a/k".as_bytes(), &[]) == 0
-        && alone(6, true, "/a/k") == 9
-        && alone(6, false, "/a/k") == 0
+}
+
+/// Of a text.
+fn read(known: &FindingKnown) -> u32 {
+    finding_number(&FindingKnown { what: 6, ..*known }, "/a/k".as_bytes(), &[])
+}
+
+fn texts_are_judged() -> bool {
+    let double = FindingKnown {
+        has_double: true,
+        ..FINE
+    };
+    let asked = FindingKnown {
+        is_system: false,
+        ..double
+    };
+    let none = FindingKnown {
+        has_value: false,
+        ..double
+    };
+    let missing = FindingKnown {
+        is_known: false,
+        ..FINE
+    };
+    let deep = FindingKnown {
+        is_taken: false,
+        ..FINE
+    };
+    read(&FINE) == 0
+        && read(&double) == 9
+        && read(&asked) == 0
+        && read(&none) == 10
+        && read(&missing) == 10
+        && read(&deep) == 10
 }
 
 #[test]
 fn what_schemas_lack_is_found(rt: HostRuntime) -> Result<(), Fail> {
     assert!(rt; values_are_judged() && names_are_judged() && databases_are_looked_for());
-    assert!(rt; what_is_set_is_judged());
+    assert!(rt; what_is_set_is_judged() && texts_are_judged());
     Ok(())
 }
 

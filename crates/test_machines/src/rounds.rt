@@ -157,6 +157,7 @@ fn looks_end() -> bool {
         is_to_settle: false,
         was_unseen: false,
         is_unseen: false,
+        is_reading: false,
     };
     let hidden = GlanceKnown {
         is_unseen: true,
@@ -178,6 +179,18 @@ fn looks_end() -> bool {
     let late = GlanceKnown {
         is_late: true,
         ..barred
+    };
+    let reading = GlanceKnown {
+        is_reading: true,
+        ..barred
+    };
+    let beside = GlanceKnown {
+        is_reading: true,
+        ..amid
+    };
+    let free = GlanceKnown {
+        is_reading: true,
+        ..same
     };
     let settling = GlanceKnown {
         is_to_settle: true,
@@ -231,6 +244,10 @@ fn looks_end() -> bool {
         && glance_number(8, &late) == 10
         && glance_number(8, &amid) == 4
         && glance_number(4, &amid) == 9
+        && glance_number(0, &reading) == 10
+        && glance_number(0, &beside) == 4
+        && glance_number(4, &beside) == 9
+        && glance_number(0, &free) == 1
 }
 
 fn notices_are_told() -> bool {

@@ -31,6 +31,7 @@ const PLAIN: ServedKnown = ServedKnown {
     is_unmade: false,
     is_service_db: false,
     is_behind: false,
+    has_profile: false,
 };
 
 const ODD: ServedKnown = ServedKnown {
@@ -236,6 +237,14 @@ fn each_edit_is_told_of() -> bool {
         && served_number(13, &PLAIN) == 11
 }
 
+fn a_good_profile_stays() -> bool {
+    let good = ServedKnown {
+        has_profile: true,
+        ..PLAIN
+    };
+    served_number(15, &good) == 14 && served_number(15, &PLAIN) == 0
+}
+
 fn no_service_db_is_served() -> bool {
     let other = ServedKnown {
         is_service_db: true,
@@ -285,5 +294,6 @@ fn calls_are_answered_once_they_are_written(rt: HostRuntime) -> Result<(), Fail>
     assert!(rt; what_came_first_is_first());
     assert!(rt; each_path_counts() && the_last_of_a_path_counts() && sites_are_not_told());
     assert!(rt; each_edit_is_told_of() && no_service_db_is_served() && it_serves_at_last());
+    assert!(rt; a_good_profile_stays());
     Ok(())
 }

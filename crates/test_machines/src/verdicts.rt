@@ -5,8 +5,8 @@ use dconf_verdicts::{
     standing_numbers, told_code, verdict_number,
 };
 use dconf_waiting::{
-    Failing, Patience, Progress, Tally, Waiter, WaitingEdit, fate_number, found, is_same_fault,
-    patience_for, put, settle,
+    Failing, FaultSeen, Patience, Progress, Tally, Waiter, WaitingEdit, fate_number, found,
+    is_same_fault, patience_for, put, settle,
 };
 use std::test::Fail;
 
@@ -331,7 +331,8 @@ fn waits_end() -> bool {
     let spans = patience_for(0) == 10_000_000
         && patience_for(1) == 5_000_000
         && patience_for(2) == 2_000_000
-        && patience_for(3) == 500_000;
+        && patience_for(3) == 500_000
+        && patience_for(4) == 5_000;
     let begun = spans && patience.goes_on(&progress, folder, 5) && patience.end == 10_000_005;
     let same = patience.goes_on(&progress, folder, 6) && patience.end == 10_000_005;
     let renewed = patience.goes_on(&progress, changed, 58_000_000);
@@ -345,6 +346,52 @@ fn waits_end() -> bool {
         && !patience.goes_on(&failed, changed, 6)
         && patience.goes_on(&resting, changed, 2_000_004)
         && !patience.goes_on(&resting, changed, 2_000_005)
+}
+
+/// A look has met a fault of a file, that is mostly so for a moment or not, or meets it no more.
+fn looked_at(is_met: bool, is_momentary: bool, is_repeated: bool) -> FaultSeen {
+    FaultSeen {
+        is_met,
+        is_of_look: false,
+        has_looked: true,
+        is_momentary,
+        is_repeated,
+    }
+}
+
+/// That a look failed is over by another look, and not by a write.
+fn failed_looks_last() -> bool {
+    let mut failing = Failing {
+        since: 0,
+        pause: 0,
+        again: 0,
+        due: 0,
+        tries: 0,
+        failed: 0,
+        is_there: false,
+        is_said: false,
+    };
+    let met = FaultSeen {
+        is_of_look: true,
+        ..looked_at(true, false, true)
+    };
+    let looked = FaultSeen {
+        is_met: false,
+        ..met
+    };
+    let written = FaultSeen {
+        has_looked: false,
+        ..looked
+    };
+    let of_file = FaultSeen {
+        is_of_look: false,
+        ..written
+    };
+    failing.met_looking(&met, 5) == 1
+        && failing.met_looking(&written, 6) == 2
+        && failing.met_looking(&looked, 7) == 3
+        && failing.met_looking(&met, 8) == 1
+        && failing.met_looking(&of_file, 9) == 3
 }
 
 /// What is said: 0 nothing, 1 the fault, 2 nothing, though it lasts, 3 that it is over.
@@ -383,10 +430,10 @@ fn faults_are_said() -> bool {
         && failing.met(true, false, false, 9) == 1
         && failing.met(true, false, true, 10) == 0
         && failing.met(false, false, true, 11) == 3
-        && failing.met_looking(true, true, true, 12) == 0
-        && failing.met_looking(true, false, true, 13) == 1
-        && failing.met_looking(false, false, true, 14) == 3
-        && failing.met_looking(true, true, false, 15) == 1
+        && failing.met_looking(&looked_at(true, true, true), 12) == 0
+        && failing.met_looking(&looked_at(true, false, true), 13) == 1
+        && failing.met_looking(&looked_at(false, false, true), 14) == 3
+        && failing.met_looking(&looked_at(true, true, false), 15) == 1
         && is_same_fault("user: closed".as_bytes(), "user: closed".as_bytes())
         && !is_same_fault("user: closed".as_bytes(), "user: cloned".as_bytes())
         && !is_same_fault("user".as_bytes(), "user: closed".as_bytes())
@@ -487,6 +534,7 @@ fn changes_wait(rt: HostRuntime) -> Result<(), Fail> {
             && lines_are_put_in_order()
             && waits_end()
             && faults_are_said()
+            && failed_looks_last()
     );
     Ok(())
 }

@@ -2,7 +2,8 @@
 use dconf_watches::{
     Event, Found, Heard, NameWatch, Sight, WatchRounds, Way, asked_anew_number, asked_of,
     asked_of_file, event_in, flag_number, found_by, heard_as, heard_number, is_busy, is_busy_in,
-    is_file_missed, is_missed, is_needed, keeps_profile, minds_much, seen_by, watch_at, way_at,
+    is_file_missed, is_lenient, is_missed, is_needed, keeps_profile, minds_much, seen_by, watch_at,
+    way_at,
 };
 use std::test::Fail;
 
@@ -169,13 +170,29 @@ fn rounds_are_counted(none: WatchRounds) -> bool {
 /// The name goes last, of what is set, and by who has the turn.
 fn readers_are_told() -> bool {
     flag_number(0, true, true) == 1
-        && flag_number(1, true, true) == 2
-        && flag_number(2, true, false) == 3
+        && flag_number(1, true, true) == 3
+        && flag_number(1, true, false) == 2
+        && flag_number(1, false, false) == 7
+        && flag_number(2, true, true) == 3
+        && flag_number(2, false, false) == 3
         && flag_number(3, true, true) == 4
-        && flag_number(3, true, false) == 5
-        && flag_number(3, false, true) == 5
-        && flag_number(1, false, true) == 5
-        && flag_number(4, true, true) == 5
+        && flag_number(4, true, false) == 5
+        && flag_number(5, true, true) == 6
+        && flag_number(5, true, false) == 7
+        && flag_number(5, false, true) == 7
+        && flag_number(3, false, true) == 7
+        && flag_number(6, true, true) == 7
+}
+
+/// Its caller says whether a bad file refuses a store; to all others none does.
+fn only_the_library_refuses() -> bool {
+    !is_lenient(0, false, false)
+        && is_lenient(0, true, false)
+        && is_lenient(0, false, true)
+        && is_lenient(1, false, false)
+        && is_lenient(2, false, false)
+        && is_lenient(3, false, false)
+        && is_lenient(4, false, false)
 }
 
 #[test]
@@ -198,6 +215,7 @@ fn names_are_watched_and_heard(rt: HostRuntime) -> Result<(), Fail> {
             && !keeps_profile(3)
             && !keeps_profile(4)
     );
+    assert!(rt; only_the_library_refuses());
     assert!(rt; rounds_are_counted(WatchRounds::none()) && readers_are_told());
     Ok(())
 }

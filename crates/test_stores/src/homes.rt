@@ -85,17 +85,18 @@ const HOMED: &str = "
 /// More than are looked at here.
 const MOST_LOOKS: usize = 9;
 
-/// A store of dconf's kind, of which $DCONF_PROFILE says that.
+/// A store of dconf's kind, of which $DCONF_PROFILE says that; with `!` behind it to a program that has more rights.
 fn place(profile: &str) -> Place<'_> {
     Place {
         folder: b"/c/dconf",
         named: b"",
-        profile: profile.as_bytes(),
+        profile: profile.trim_end_matches('!').as_bytes(),
         runtime: b"/r",
         data_dirs: b"/a:b:/d",
         user: b"7",
         is_given: false,
         is_dconfs: true,
+        counts: !profile.ends_with('!'),
     }
 }
 
@@ -148,6 +149,8 @@ const SOUGHT: &str = "
 gdm | /run/dconf/user/7 /etc/dconf/profile/gdm /a/dconf/profile/gdm none /d/dconf/profile/gdm 5 12=gdm
 a/b | /run/dconf/user/7 /etc/dconf/profile/a/b /a/dconf/profile/a/b none /d/dconf/profile/a/b 5 12=a/b
 /p | /run/dconf/user/7 /p 5 12=/p
+-- a program that has more rights
+gdm! | /run/dconf/user/7 /r/dconf/profile /etc/dconf/profile/user /usr/local/share//dconf/profile/user /usr/share//dconf/profile/user 3 00=
 ";
 
 /// What comes after a look at one: its number, its folder of $XDG_DATA_DIRS, what was found (0 it is there, 1 missing, 2 it can't be read by its own

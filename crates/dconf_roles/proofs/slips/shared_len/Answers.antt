@@ -1,4 +1,4 @@
-use Rattle.std.proofs.Common.{◌≡◌, arith, drop, length-drop}
+use Rattle.std.proofs.Common.{arith, drop, length-drop}
 use Rattle.std.specs.Prelude.{nat_eq}
 use Rattle.std.proofs.lemmas.List.Sums.{common_prefix_len-le}
 use Rattle.dconf_roles.proofs.slips.shared_len.Goals as goal
