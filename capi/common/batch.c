@@ -50,7 +50,7 @@ static bool try_to_write(const Batch *batch, DconfdbStore *store, const Turn *tu
 {
     if (turn->fault != 0)
         return refuse_lock(store, turn->fault, fault);
-    return locked_change(store, turn->lock, batch->asked, batch->made, batch->taken, fault);
+    return locked_change(store, turn->lock, batch->asked, batch->made, batch->taken, turn->who, fault);
 }
 
 /* What became of a write, as dconfdb_queue_answered has it, and which of what was taken is at fault. */

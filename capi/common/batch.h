@@ -11,6 +11,7 @@
 typedef struct {
     const FolderLock *lock; /* NULL: there is none, as the store has no user's database */
     int fault;              /* errno; 0: it is held */
+    const Awaits *who;      /* who hears in it that all is made; NULL: nobody does */
 } Turn;
 
 /* The edits of all changes, the oldest first, and what becomes of each. */

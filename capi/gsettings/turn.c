@@ -92,9 +92,9 @@ Turn turn_take(DconfdbBackend *self, Wait **at, bool is_worker, gint64 end)
     while ((wait->task = dconfdb_writer_after(DCONFDB_WRITER_LINE, wait->task, yes, &wait->known)) < DCONFDB_LINE_HAD)
         yes = carry_out(self, wait, end);
     if (wait->task == DCONFDB_LINE_HAD)
-        return (Turn){&wait->lock, wait->fault};
+        return (Turn){&wait->lock, wait->fault, NULL};
     meet_others(self, wait);
-    return (Turn){NULL, EWOULDBLOCK};
+    return (Turn){NULL, EWOULDBLOCK, NULL};
 }
 
 /* Who waits in line is woken, but for what is said of that. */

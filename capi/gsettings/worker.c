@@ -155,7 +155,7 @@ static void carry_out(DconfdbBackend *self, uint32_t task, DconfdbRound *known, 
 bool takes_turn(DconfdbBackend *self)
 {
     DconfdbRound known = know_all(self);
-    Turn turn = {NULL, 0};
+    Turn turn = {NULL, 0, NULL};
     uint32_t task = DCONFDB_ROUND_BEGINS;
     while ((task = dconfdb_round_after(task, &known)) < DCONFDB_ROUND_RESTS)
         carry_out(self, task, &known, &turn);

@@ -102,7 +102,7 @@ static void give_own(OwnTurn *own)
 {
     if (own->turn.lock)
         turn_give(own->at);
-    own->turn = (Turn){NULL, EWOULDBLOCK};
+    own->turn = (Turn){NULL, EWOULDBLOCK, NULL};
 }
 
 static void write_alone(DconfdbBackend *self, OwnTurn *own)

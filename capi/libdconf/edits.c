@@ -42,7 +42,7 @@ DconfdbNewEdit known_by_rights(const DconfdbEdit *edit, bool is_open, const Dcon
 
 DconfdbNewEdit *known_of(const Edits *self, bool is_open, const DconfdbSnapshot *now)
 {
-    DconfdbNewEdit *known = g_new0(DconfdbNewEdit, self->edits->len);
+    DconfdbNewEdit *known = g_new0(DconfdbNewEdit, self->edits->len + 1); /* one more: the calls want a place also where there is none */
     for (guint at = 0; at < self->edits->len; at++) {
         const DconfdbEdit *edit = edit_at(self, at);
         known[at] = known_by_rights(edit, is_open, now);

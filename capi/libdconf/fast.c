@@ -151,7 +151,8 @@ static bool is_redundant(Engine *self, const DconfdbSnapshot *now, const Dconfdb
 /* `lock` is held. What becomes of the changes beside what waits. */
 static DconfdbFast known_beside(Engine *self, bool has_user, const DconfdbSnapshot *now, const Edits *edits, DConfChangeset *changes)
 {
-    g_autofree DconfdbNewEdit *known = g_new0(DconfdbNewEdit, edits->edits->len);
+    /* One more: the calls want a place also where there is none. */
+    g_autofree DconfdbNewEdit *known = g_new0(DconfdbNewEdit, edits->edits->len + 1);
     for (guint at = 0; at < edits->edits->len; at++) {
         const DconfdbEdit *edit = edit_at(edits, at);
         g_autoptr(GVariant) value = NULL;

@@ -36,7 +36,8 @@ void end_writing(Engine *self)
 /* Waits for the turn to write, before anybody who reads is kept from the files. False: that fault. */
 bool turn_begin(Engine *self, DconfdbStore *store, FolderLock *lock, Turn *turn)
 {
-    *turn = (Turn){lock, folder_lock(dconfdb_store_folder(store), (int)(dconfdb_patience_for(DCONFDB_PATIENCE_ASKED) / MILLISECOND), lock)};
+    *turn = (Turn){.lock = lock,
+                   .fault = folder_lock(dconfdb_store_folder(store), (int)(dconfdb_patience_for(DCONFDB_PATIENCE_ASKED) / MILLISECOND), lock)};
     if (turn->fault != 0)
         return false;
     engine_begin_write(self);
@@ -59,7 +60,7 @@ static gboolean put(Engine *self, const Edits *edits, DconfdbError *fault)
         return FALSE;
     if (!turn_begin(self, store, &lock, &turn))
         return refuse_lock(store, turn.fault, fault);
-    gboolean is_done = locked_change(store, turn.lock, edit_at(edits, 0), NULL, edits->edits->len, fault);
+    gboolean is_done = locked_change(store, turn.lock, edit_at(edits, 0), NULL, edits->edits->len, NULL, fault);
     turn_end(self, &lock);
     return is_done;
 }

@@ -103,7 +103,7 @@ static bool go_through(Course *it, const DconfdbCourse *known)
 }
 
 static bool change(DconfdbStore *store, const FolderLock *lock, const DconfdbSnapshot *expected, const DconfdbEdit *edits, const Made *made,
-                   size_t count, DconfdbError *error)
+                   size_t count, const Awaits *who, DconfdbError *error)
 {
     Asking asking;
     bool has_user = store->user_file != NULL;
@@ -113,6 +113,7 @@ static bool change(DconfdbStore *store, const FolderLock *lock, const DconfdbSna
     bool done = asking_begin(&asking, edits, made, count) || refuse_memory(error);
     if (done) {
         asking.expected = expected;
+        asking.who = who;
         done = go_through(&it, &known);
         asking_free(&asking);
     }
@@ -120,14 +121,14 @@ static bool change(DconfdbStore *store, const FolderLock *lock, const DconfdbSna
     return done;
 }
 
-bool locked_change(DconfdbStore *store, const FolderLock *lock, const DconfdbEdit *edits, const Made *made, size_t count,
+bool locked_change(DconfdbStore *store, const FolderLock *lock, const DconfdbEdit *edits, const Made *made, size_t count, const Awaits *who,
                    DconfdbError *error)
 {
-    return change(store, lock, NULL, edits, made, count, error);
+    return change(store, lock, NULL, edits, made, count, who, error);
 }
 
 bool dconfdb_store_change(DconfdbStore *store, const DconfdbSnapshot *expected, const DconfdbEdit *edits, size_t count,
                           DconfdbError *error)
 {
-    return change(store, NULL, expected, edits, NULL, count, error);
+    return change(store, NULL, expected, edits, NULL, count, NULL, error);
 }

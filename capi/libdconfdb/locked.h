@@ -16,9 +16,15 @@ typedef struct {
     size_t change;
 } Made;
 
+/* Who hears that a change is made, in the turn, as soon as nothing can undo that, and before others know from its notes. */
+typedef struct {
+    void (*hears)(void *it);
+    void *it;
+} Awaits;
+
 /* dconfdb_store_change, while the lock of the store's folder is held. The oldest edit comes first, and those of one change side by
- * side: a change is left out, whole, where others have set one of its keys since. NULL: all are made now. */
-bool locked_change(DconfdbStore *store, const FolderLock *lock, const DconfdbEdit *edits, const Made *made, size_t count,
+ * side: a change is left out, whole, where others have set one of its keys since. NULL: all are made now; `who`: nobody hears before it returns. */
+bool locked_change(DconfdbStore *store, const FolderLock *lock, const DconfdbEdit *edits, const Made *made, size_t count, const Awaits *who,
                    DconfdbError *error);
 
 /* Whether another thread is amid a change: the newest snapshot is what the user's file was when its turn began, and until the change

@@ -36,6 +36,7 @@ bool asking_begin(Asking *asking, const DconfdbEdit *edits, const Made *made, si
     asking->seen = NULL;
     asking->latest = 0;
     asking->expected = NULL;
+    asking->who = NULL;
     asking->changes = room_for(asking, count);
     if (!asking->changes)
         return false;

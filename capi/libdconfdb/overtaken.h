@@ -37,6 +37,7 @@ typedef struct {
     DconfdbSeen *seen;
     uint64_t latest; /* of what was noted, the latest time; or 0 */
     const DconfdbSnapshot *expected; /* NULL: whatever is seen */
+    const Awaits *who;               /* NULL: nobody hears of it yet */
     AskedRoom few[FEW_EDITS];        /* the block, where it is enough */
 } Asking;
 

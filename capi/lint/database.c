@@ -97,7 +97,9 @@ void check_database(const Lint *lint, const char *file, FileBytes *bytes)
     Saved saved = {0, 0, DCONFDB_MENDED_WHOLE, false};
     Place at = {file, 0};
     uint32_t telling = DCONFDB_TELLING_NOTHING;
-    uint32_t number = dconfdb_open(&layers[0], false, bytes->at, bytes->len, true, true, &layers[1], &broken, &telling), opened = number;
+    static const uint8_t none[1]; /* of an empty file */
+    const uint8_t *from = bytes->at ? bytes->at : none;
+    uint32_t number = dconfdb_open(&layers[0], false, from, bytes->len, true, true, &layers[1], &broken, &telling), opened = number;
     if (number != DCONFDB_OK && repair(bytes, &mended, &saved) == DCONFDB_OK && mended.at)
         opened = dconfdb_open(&layers[0], false, mended.at, mended.len, true, false, &layers[1], &nothing, &telling);
     if (saved.is_told)

@@ -13,11 +13,18 @@ static bool has_line(const char *path, const char *line)
     return g_file_get_contents(path, &text, NULL, NULL) && strcmp(text, line) == 0;
 }
 
+/* The user's runtime folder. One that isn't absolute is none, as for the flags, and what GLib has without any stands for it. */
+static const char *runtime_of(const Service *service)
+{
+    const char *known = service->place.runtime, *runtime = known && *known ? known : g_get_user_runtime_dir();
+    return g_path_is_absolute(runtime) ? runtime : g_get_user_cache_dir();
+}
+
 /* A profile of one line, in a file of the user's own, since a store is of a profile that is a file. It is watched, and stays as it is. */
-static char *profile_of_name(const char *name, DconfdbError *error)
+static char *profile_of_name(const Service *service, const char *name, DconfdbError *error)
 {
     g_autoptr(GError) fault = NULL;
-    g_autofree char *folder = g_build_filename(g_get_user_runtime_dir(), "dconfdb", "service", NULL);
+    g_autofree char *folder = g_build_filename(runtime_of(service), "dconfdb", "service", NULL);
     g_autofree char *line = g_strdup_printf("user-db:%s\n", name);
     g_autofree char *path = g_build_filename(folder, name, NULL);
     const DconfdbServed known = {.has_profile = has_line(path, line)};
@@ -32,7 +39,7 @@ static char *profile_of_name(const char *name, DconfdbError *error)
 /* The store that has this database alone, whatever the profile is. */
 static DconfdbStore *open_alone(const Service *service, const char *name, DconfdbError *error)
 {
-    g_autofree char *profile = profile_of_name(name, error);
+    g_autofree char *profile = profile_of_name(service, name, error);
     StorePlace place = service->place;
     place.profile = profile;
     return profile ? place_open(&place, DCONFDB_WATCHER_SERVICE, error) : NULL;

@@ -18,7 +18,9 @@ typedef struct {
     Batch batch;
     DconfdbSnapshot *then; /* what was there once they were written */
     GTree *last;           /* the last edit of each path */
-    bool is_done;
+    bool has_turn, is_done;
+    bool is_known; /* what came of it */
+    bool is_over;  /* .. so that all are answered */
     bool ends;     /* the service ended when that was known */
     uint32_t said; /* of the fault by which nothing could be written */
     DconfdbError refusal, fault;
@@ -60,7 +62,7 @@ static uint32_t served_of(const Run *run, const Change *change)
                            .is_normal = change->is_normal,
                            .has_edits = change->edits->len > 0,
                            .is_written = run->is_done,
-                           .is_closed = run->batch.is_closed,
+                           .is_closed = run->batch.queue.is_closed,
                            .ends = run->ends};
     return dconfdb_served_after(DCONFDB_SERVED_TRIED, &known);
 }
@@ -72,13 +74,20 @@ static char *tag_of(const Change *change)
     return g_strdup_printf("%s:%s:%" G_GUINT64_FORMAT, own, writer->name, change->number);
 }
 
+/* g_variant_new("(s)", ..) would read the format each time. */
+static GVariant *words_of(const char *tag)
+{
+    GVariant *word = g_variant_new_string(tag);
+    return g_variant_new_tuple(&word, 1);
+}
+
 static void answer(const Run *run, Change *change, const char *tag)
 {
     const Service *service = run->writer->service;
     GDBusMessage *call = g_steal_pointer(&change->call);
     uint32_t served = served_of(run, change);
     if (served == DCONFDB_SERVED_ACKNOWLEDGED)
-        call_answer(service, call, g_variant_new("(s)", tag));
+        call_answer(service, call, words_of(tag));
     else
         call_refuse(service, call, served, served == DCONFDB_SERVED_CLOSED ? run->refusal.text : run->fault.text);
 }
@@ -103,9 +112,9 @@ static GPtrArray *made_of(const Run *run, const Change *change, GPtrArray *left_
 }
 
 /* Dconf's readers are to see what is there before anybody is answered or told. */
-static void answer_all(const Run *run, bool has_turn)
+static void answer_all(const Run *run)
 {
-    flag_readers(run->writer, has_turn);
+    flag_readers(run->writer, run->has_turn);
     for (const GList *at = run->first; at; at = at->next) {
         Change *change = at->data;
         g_autofree char *tag = tag_of(change);
@@ -210,41 +219,59 @@ static void end_try(Service *service, bool is_over)
         change_free(g_queue_pop_head_link(&over)->data);
 }
 
-/* `turn` of the writer is held, and that between programs, or a fault of it. */
-static void write_in(Run *run, const Turn *turn)
+/* What came of it: all are answered, or none. */
+static void know(Run *run, bool is_done)
 {
     Service *service = run->writer->service;
-    DconfdbError none = DCONFDB_ERROR_INIT;
-    run->refusal = run->fault = none;
-    run->batch = batch_of(run->first, run->count);
-    run->is_done = batch_write(&run->batch, run->writer->store, turn, &run->refusal, &run->fault);
-    run->said = dconfdb_failing_met(&service->failing, !run->is_done, is_momentary(&run->fault), true, (uint64_t)g_get_monotonic_time());
+    if (run->is_known)
+        return;
+    run->is_known = true;
+    run->is_done = is_done;
+    run->said = dconfdb_failing_met(&service->failing, !is_done, is_momentary(&run->fault), true, (uint64_t)g_get_monotonic_time());
+    run->is_over = is_settled(service, run);
+    if (run->is_over)
+        answer_all(run);
 }
 
-static void give(FolderLock *lock, const Turn *turn)
+/* It is made, and is noted next: who waits for the answer needn't wait for that. */
+static void hear_made(void *it)
 {
-    if (turn->fault == 0)
+    know(it, true);
+}
+
+/* `turn` of the writer is held, and that between programs, or a fault of it. */
+static void write_in(Run *run, const FolderLock *lock, int fault)
+{
+    DconfdbError none = DCONFDB_ERROR_INIT;
+    const Awaits who = {hear_made, run};
+    const Turn turn = {lock, fault, &who};
+    run->has_turn = fault == 0;
+    run->refusal = run->fault = none;
+    run->batch = batch_of(run->first, run->count);
+    know(run, batch_write(&run->batch, run->writer->store, &turn, &run->refusal, &run->fault));
+}
+
+static void give(FolderLock *lock, int fault)
+{
+    if (fault == 0)
         folder_unlock(lock);
 }
 
-/* Whether they are answered: all are, or none. Each waits for its answer; others may have their turn before it is known who is told of what. */
-static bool write_run(Run *run, FolderLock *lock, const Turn *turn)
+/* Whether they are answered. Each waits for its answer; others may have their turn before it is known who is told of what. */
+static bool write_run(Run *run, FolderLock *lock, int fault)
 {
     Writer *writer = run->writer;
     read_all(run);
     writer_writes(writer);
     g_mutex_lock(&writer->turn);
-    write_in(run, turn);
-    bool is_over = is_settled(writer->service, run);
-    if (is_over)
-        answer_all(run, turn->fault == 0);
-    give(lock, turn);
-    if (is_over)
+    write_in(run, lock, fault);
+    give(lock, fault);
+    if (run->is_over)
         tell_all(run);
     g_mutex_unlock(&writer->turn);
     batch_end(&run->batch);
     writer_has_written(writer);
-    return is_over;
+    return run->is_over;
 }
 
 /* Reads what waits already, which may take a while: as long as others may have their turns. */
@@ -265,11 +292,11 @@ static void try(Service *service)
     FolderLock lock;
     Run run;
     read_ahead(service);
-    Turn turn = {&lock, folder_lock(service->place.folder, WITHOUT_END, &lock)};
+    int fault = folder_lock(service->place.folder, WITHOUT_END, &lock);
     if (begin_try(service, &run))
-        end_try(service, write_run(&run, &lock, &turn));
+        end_try(service, write_run(&run, &lock, fault));
     else
-        give(&lock, &turn);
+        give(&lock, fault);
 }
 
 /* ---- the thread */

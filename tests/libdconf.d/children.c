@@ -64,7 +64,8 @@ int main(int count, char **words)
     if (child == 0)
         be_child(turn[0]);
     g_usleep(300000);
-    close(lock);
+    if (flock(lock, LOCK_UN) != 0) /* the child has the file, too */
+        return 1;
     dconf_client_sync(client);
     if (write(turn[1], "", 1) != 1 || !ends_well(child))
         return 1;

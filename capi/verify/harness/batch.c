@@ -157,8 +157,9 @@ bool refuse_lock(const DconfdbStore *at, int fault, DconfdbError *error)
     return fails(error);
 }
 
-bool locked_change(DconfdbStore *at, const FolderLock *by, const DconfdbEdit *asked, const Made *made, size_t count, DconfdbError *error)
+bool locked_change(DconfdbStore *at, const FolderLock *by, const DconfdbEdit *asked, const Made *made, size_t count, const Awaits *who, DconfdbError *error)
 {
+    CHECK(who == turn.who, "step: who hears of it is handed on");
     CHECK(at == store && by == turn.lock && turn.fault == 0, "order: nothing is written without the lock");
     CHECK(asked == batch.asked && count == was_taken && count > 0, "step: those are written that were taken since the last write");
     CHECK(made == batch.made, "step: with their moments");

@@ -57,7 +57,7 @@ void dconfdb_queue_answered(DconfdbQueue *queue, DconfdbQueued *edits, size_t co
 int batch_tells(void)
 {
     static const FolderLock lock = {3, 4, NULL};
-    const Turn turn = {&lock, 0};
+    const Turn turn = {&lock, 0, NULL};
     static char lent[1];
     DconfdbError refusal, fault;
     batch.count = 1;

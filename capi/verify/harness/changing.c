@@ -7,6 +7,7 @@
 static Order *order_room_now;
 static bool is_written, is_well;
 static unsigned noted;
+static bool has_heard;
 
 /* ---- what is asked */
 
@@ -242,10 +243,20 @@ void store_after(DconfdbStore *at, uint32_t what, bool yes, uint64_t number)
         store.known.noted = number;
 }
 
+/* Who waits for the change hears of it before it is noted, once. */
+static void hears(void *of)
+{
+    CHECK(of == &it && noted == 0 && !has_heard, "order: who waits hears first");
+    CHECK(it.turn.outcome == DCONFDB_TURN_MADE || it.turn.outcome == DCONFDB_TURN_SAME, "answer: of what is made");
+    has_heard = true;
+}
+
 /* harness changing_note: unwind 8, with machines.c, quick */
 int changing_note_(void)
 {
+    static const Awaits who = {hears, &it};
     set_up();
+    asking.who = any_bool() ? &who : NULL;
     it.order = &store.order;
     it.turn.outcome = any_u32();
     it.turn.fault = any_bool() ? 0 : any_bool() ? 1 : DCONFDB_TURN_NOTHING;
@@ -261,6 +272,9 @@ int changing_note_(void)
     uint64_t before = store.known.noted;
     int fault = changing_note(&it);
     CHECK(fault == 0, "answer: a note that can't be is no fault");
+    CHECK(has_heard || !asking.who || !(it.turn.outcome == DCONFDB_TURN_MADE || it.turn.outcome == DCONFDB_TURN_SAME), "answer: who waits hears of what is made");
+    if (has_heard && noted == 1)
+        REACHED("it is heard, and noted then");
     CHECK(noted <= 1 && (is_written || store.known.noted == before), "step: one note, at most");
     CHECK(it.turn.outcome != DCONFDB_TURN_KEPT || it.turn.fault == DCONFDB_TURN_NOTHING || store.known.noted == before, "answer: what was not made has no time");
     if (noted == 1 && is_new_noted() && asking.count == 2)

@@ -67,7 +67,12 @@ bool batch_write(Batch *batch, DconfdbStore *store, const Turn *turn, DconfdbErr
     written_for = oldest->writer;
     is_tried = true;
     is_written = turn->fault == 0 && any_bool();
-    batch->is_closed = any_bool();
+    batch->queue.is_closed = any_bool();
+    CHECK(turn->who && turn->who->hears, "step: who waits is to hear of it");
+    if (is_written && any_bool()) {
+        turn->who->hears(turn->who->it);
+        REACHED("it is heard of in its turn");
+    }
     return is_written;
 }
 

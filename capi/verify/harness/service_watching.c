@@ -17,7 +17,7 @@ static bool is_old_open = true, is_new_open, is_compared, has_new_files;
 static unsigned answered, steps;
 static int descriptor;
 static bool has_fd, has_timeout, is_idle;
-static bool is_by_ears, is_silent; /* inotify is heard by epoll's; and isn't, for now */
+static bool is_by_ears; /* inotify is heard by epoll's */
 
 uint32_t dconfdb_look_due(uint32_t looker, const DconfdbLookKnown *known)
 {
@@ -200,15 +200,12 @@ enum { EARS = 9 };
 
 int epoll_ctl(int ears, int what, int file, struct epoll_event *event)
 {
-    CHECK(event && (what == EPOLL_CTL_ADD || what == EPOLL_CTL_MOD), "memory: what is asked for is there");
-    CHECK(what == EPOLL_CTL_ADD ? file == descriptor && !is_by_ears && event->events == EPOLLIN : file == (is_by_ears ? descriptor : -1),
-          "descriptor: inotify's, which is added once");
-    bool is_done = ears == EARS && (what == EPOLL_CTL_ADD ? any_bool() : is_by_ears);
-    if (is_done) {
-        is_by_ears = true;
-        is_silent = event->events == 0;
-    }
-    return is_done ? 0 : -1;
+    CHECK(what == EPOLL_CTL_DEL || (what == EPOLL_CTL_ADD && event && event->events == EPOLLIN), "memory: what is asked for is there");
+    CHECK(file == descriptor && is_by_ears == (what == EPOLL_CTL_DEL), "descriptor: inotify's, which is there once");
+    if (ears != EARS || any_bool())
+        return -1;
+    is_by_ears = what == EPOLL_CTL_ADD;
+    return 0;
 }
 
 /* ---- sources, of which one at a time waits */
@@ -232,15 +229,18 @@ guint g_timeout_add(guint milliseconds, GSourceFunc call, gpointer data)
 guint g_idle_add_full(gint priority, GSourceFunc call, gpointer data, GDestroyNotify frees)
 {
     (void)priority;
-    CHECK(call == go_on_later && data == &writer && !frees, "step: the main thread looks");
+    CHECK((call == go_on_later || call == hear_itself) && data == &writer && !frees, "step: the main thread looks, or listens");
     is_idle = true;
     return 3;
 }
 
 gboolean g_source_remove(guint source)
 {
-    CHECK(source == 2 && has_timeout, "memory: what is removed is had");
-    has_timeout = false;
+    CHECK(source == 2 ? has_timeout : source == 1 && has_fd, "memory: what is removed is had");
+    if (source == 2)
+        has_timeout = false;
+    else
+        has_fd = false;
     return TRUE;
 }
 
@@ -306,11 +306,13 @@ int service_go_on(void)
         REACHED("it rests");
     if (writer.is_to_look)
         REACHED("something is written");
+    bool was_by_ears = is_by_ears;
     writer_writes(&writer);
-    CHECK(is_silent == is_by_ears, "answer: who writes wakes nobody here");
-    if (is_silent)
-        REACHED("nobody is woken");
+    if (was_by_ears && !is_by_ears)
+        REACHED("who writes wakes nobody");
     writer_has_written(&writer);
-    CHECK(!is_silent, "answer: what happened is heard behind the write");
+    CHECK(is_by_ears == was_by_ears || (is_idle && writer.heard == -1), "answer: what happened is heard behind the write");
+    if (was_by_ears && !is_by_ears)
+        hear_itself(&writer);
     return 0;
 }

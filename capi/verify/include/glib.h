@@ -167,7 +167,9 @@ ENDS(GError, g_error_free)
 
 /* ---- files */
 
+const char *g_get_user_cache_dir(void);
 const char *g_get_user_runtime_dir(void);
+gboolean g_path_is_absolute(const char *path);
 
 typedef enum { G_FILE_TEST_IS_DIR = 1 << 2 } GFileTest;
 gboolean g_file_test(const char *name, GFileTest test);
