@@ -6,6 +6,7 @@
 #include "threads.h"
 #include "tried.h"
 
+#include <sched.h>
 #include <string.h>
 
 enum { MILLISECOND = 1000 }; /* in microseconds */
@@ -111,7 +112,7 @@ static GPtrArray *made_of(const Run *run, const Change *change, GPtrArray *left_
     return made;
 }
 
-/* Dconf's readers are to see what is there before anybody is answered or told. */
+/* Dconf's readers are to see what is there before anybody is answered or told. GDBus's thread, which sends the answers, may wait for this processor. */
 static void answer_all(const Run *run)
 {
     flag_readers(run->writer, run->has_turn);
@@ -120,6 +121,7 @@ static void answer_all(const Run *run)
         g_autofree char *tag = tag_of(change);
         answer(run, change, tag);
     }
+    sched_yield();
 }
 
 static void tell_all(Run *run)
