@@ -139,7 +139,7 @@ static void carry_out_alone(DconfdbBackend *self, uint32_t task, DconfdbRound *k
 void store_write_alone(DconfdbBackend *self, gint64 end)
 {
     DconfdbRound known = {.again = 0};
-    OwnTurn own = {.turn = {NULL, EWOULDBLOCK}};
+    OwnTurn own = {.turn = {NULL, EWOULDBLOCK, NULL}};
     own.at = &own.other;
     uint32_t task = DCONFDB_ROUND_BEGINS;
     g_mutex_lock(&self->lock);

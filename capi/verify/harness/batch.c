@@ -195,7 +195,7 @@ static void set_up(void)
     for (size_t i = 0; i < QUEUE_EDITS; i++)
         queued[i] = (DconfdbQueued){0, any_bool(), any_bool(), any_bool()};
     was_taken = batch.taken;
-    turn = (Turn){&lock, any_bool() ? 0 : any_fault()};
+    turn = (Turn){&lock, any_bool() ? 0 : any_fault(), NULL};
 }
 
 /* harness batch_write_taken: unwind 4, quick */
