@@ -1,5 +1,6 @@
 -- What is watched of a name on the way to a file, and where the path goes on.
-use Rattle.std.specs.Prelude.{ℕ, List, Bool, true, false, not, ◌&&◌, ◌||◌, codes, length, ◌==◌, if◌then◌else◌}
+use Rattle.std.specs.Prelude.{ℕ, List, Bool, true, false, not, ◌&&◌, ◌||◌, codes, length, eqb, ◌==◌, if◌then◌else◌}
+use Rattle.std.specs.List.{ends_with, starts_with}
 use Rattle.std.specs.Str.{bytes_eq}
 use Rattle.dconf_watches.specs.declared.name.Found.{Found}
 use Rattle.dconf_watches.specs.declared.name.Found.TheVariants.{Missing, Link, Folder, Unseen}
@@ -20,11 +21,15 @@ keeps_profile who = who == 2
 abbrev pub is_lenient : ℕ → Bool → Bool → Bool
 is_lenient who asked lists = not (who == 0) || (asked || lists)
 
--- much happens in /etc: only who minds that waits there
-abbrev pub is_busy : Bool → List ℕ → Bool
-is_busy minds folder = not minds && bytes_eq folder (codes "/etc")
+-- dconf's readers have their flags there, of which some come and go with each set
+abbrev pub has_flags : List ℕ → Bool
+has_flags folder = starts_with eqb folder (codes "/run/user/") && ends_with eqb folder (codes "/dconf")
 
--- the same of a folder of that name in another one; the root's path is empty
+-- much happens in /etc beside a name on the way, and beside a file where the flags are: only who minds that waits there
+abbrev pub is_busy : Bool → Bool → List ℕ → Bool
+is_busy minds last folder = not minds && (if last then has_flags folder else bytes_eq folder (codes "/etc"))
+
+-- of a folder of that name in another one, that it is /etc; the root's path is empty
 abbrev pub is_busy_in : Bool → List ℕ → List ℕ → Bool
 is_busy_in minds folder name = not minds && (length folder == 0 && bytes_eq name (codes "etc"))
 
@@ -33,11 +38,11 @@ abbrev pub unless : Bool → NameWatch → NameWatch
 unless busy watch = if busy then NameWatch.Nothing else watch
 
 -- the last name of a path
-abbrev pub watch_of_last : Found → NameWatch
-watch_of_last Missing = NameWatch.Awaited
-watch_of_last Link = NameWatch.Awaited
-watch_of_last Unseen = NameWatch.Awaited
-watch_of_last found = NameWatch.Own
+abbrev pub watch_of_last : Found → Bool → NameWatch
+watch_of_last Missing busy_above = unless busy_above NameWatch.Awaited
+watch_of_last Link busy_above = NameWatch.Awaited
+watch_of_last Unseen busy_above = NameWatch.Awaited
+watch_of_last found busy_above = NameWatch.Own
 
 -- one on the way: what is no folder and no link is waited for otherwise
 abbrev pub watch_on_the_way : Found → Bool → Bool → NameWatch
@@ -46,7 +51,7 @@ watch_on_the_way Folder busy_above busy = unless busy NameWatch.Itself
 watch_on_the_way found busy_above busy = unless busy_above NameWatch.Passage
 
 abbrev pub watch_of : Found → Bool → Bool → Bool → NameWatch
-watch_of found last busy_above busy = if last then watch_of_last found else watch_on_the_way found busy_above busy
+watch_of found last busy_above busy = if last then watch_of_last found busy_above else watch_on_the_way found busy_above busy
 
 -- A folder above the files may be closed to us: then it isn't known when it is moved.
 abbrev pub is_needed : NameWatch → Bool

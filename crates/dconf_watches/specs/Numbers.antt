@@ -52,7 +52,7 @@ abbrev pub role_of : Bool → Heard
 role_of is_profile = if is_profile then Heard.Path else Heard.File
 
 abbrev pub watched_so : Bool → List ℕ → List ℕ → Bool → Found → NameWatch
-watched_so minds folder name last found = watch_at name (watch_of found last (is_busy minds folder) (is_busy_in minds folder name))
+watched_so minds folder name last found = watch_at name (watch_of found last (is_busy minds last folder) (is_busy_in minds folder name))
 
 -- a name on the way, at which a file of that mode stands, and which has so many names, if that can be seen, after so many links
 pub record IsWatchedName (it : WatchedName) (minds : Bool) (folder name : List ℕ) (last is_unseen : Bool) (mode links followed : ℕ) (is_profile : Bool) : Type 0 where

@@ -28,8 +28,8 @@ pub use name::{
 pub use numbers::{WatchedName, asked_anew_number, heard_number, watched_name};
 pub use rounds::{AfterRound, Sight, WatchRounds};
 
-/// Where a path ends, what comes to that name is watched, and so is each link. Only in a folder in which much happens, and which is not
-/// minded, is a missing name not waited for.
+/// Where a path ends, what comes to that name is watched, and so is each link. Only in a folder in which much happens, /etc or that of the flags of dconf's
+/// readers, and which is not minded, is a missing name not waited for.
 pub fn the_end_is_watched()
     ensures { TheEndIsWatched }
 {}

@@ -1,6 +1,6 @@
 //! What is watched of a name on the way to a file.
 ghost use Rattle.std.specs.Prelude.{◌≡◌};
-ghost use Rattle.dconf_watches.specs.Names.{heard_as, is_busy, is_busy_in, is_dot, is_dots, is_lenient, is_missed, is_needed, keeps_profile, minds_much, unless, watch_at, watch_of, way_at, way_of};
+ghost use Rattle.dconf_watches.specs.Names.{has_flags, heard_as, is_busy, is_busy_in, is_dot, is_dots, is_lenient, is_missed, is_needed, keeps_profile, minds_much, unless, watch_at, watch_of, way_at, way_of};
 
 use crate::event::Heard;
 
@@ -54,7 +54,7 @@ pub fn watch_of(found: Found, is_last: bool, is_busy_above: bool, is_busy: bool)
     ensures { result ≡ watch_of found is_last is_busy_above is_busy }
 {
     match (found, is_last) {
-        (Found::Missing, true) => NameWatch::Awaited,
+        (Found::Missing, true) => unless(is_busy_above, NameWatch::Awaited),
         (Found::Link, true) => NameWatch::Awaited,
         (Found::Unseen, true) => NameWatch::Awaited,
         (_, true) => NameWatch::Own,
@@ -139,14 +139,26 @@ pub fn is_lenient(who: u32, is_asked: bool, lists: bool) -> bool
     who != 0 || (is_asked || lists)
 }
 
-/// Whether much happens in a folder, which is not minded.
-pub fn is_busy(minds: bool, folder: &[u8]) -> bool
-    ensures { result ≡ is_busy minds folder.now }
+/// Whether much happens in a folder, beside the path's last name or one on the way, which is not minded: in /etc, and in that of the flags of dconf's
+/// readers, `/run/user/UID/dconf`.
+pub fn is_busy(minds: bool, is_last: bool, folder: &[u8]) -> bool
+    ensures { result ≡ is_busy minds is_last folder.now }
 {
-    !minds && folder == "/etc".as_bytes()
+    !minds
+        && if is_last {
+            has_flags(folder)
+        } else {
+            folder == "/etc".as_bytes()
+        }
 }
 
-/// The same of the folder of that name in another one. The root's path is empty.
+fn has_flags(folder: &[u8]) -> bool
+    ensures { result ≡ has_flags folder.now }
+{
+    folder.starts_with(b"/run/user/") && folder.ends_with(b"/dconf")
+}
+
+/// The same of the folder of that name in another one, which may be /etc. The root's path is empty.
 pub fn is_busy_in(minds: bool, folder: &[u8], name: &[u8]) -> bool
     ensures { result ≡ is_busy_in minds folder.now name.now }
 {

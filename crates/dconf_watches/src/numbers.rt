@@ -85,7 +85,7 @@ fn watched_so(minds: bool, folder: &[u8], name: &[u8], is_last: bool, found: Fou
     let watch = watch_of(
         found,
         is_last,
-        is_busy(minds, folder),
+        is_busy(minds, is_last, folder),
         is_busy_in(minds, folder, name),
     );
     watch_at(name, watch)

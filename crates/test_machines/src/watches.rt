@@ -3,7 +3,7 @@ use dconf_watches::{
     Event, Found, Heard, NameWatch, Sight, WatchRounds, Way, asked_anew_number, asked_of,
     asked_of_file, event_in, flag_number, found_by, heard_as, heard_number, is_busy, is_busy_in,
     is_file_missed, is_lenient, is_missed, is_needed, keeps_profile, minds_much, seen_by, watch_at,
-    way_at,
+    watch_of, way_at,
 };
 use std::test::Fail;
 
@@ -126,9 +126,20 @@ fn all_that_is_heard_is_asked_for() -> bool {
 fn names_are_gone_through() -> bool {
     let etc = "etc".as_bytes();
     let busy = "/etc".as_bytes();
-    is_busy(false, busy)
-        && !is_busy(true, busy)
-        && !is_busy(false, etc)
+    let flags = "/run/user/1000/dconf".as_bytes();
+    is_busy(false, false, busy)
+        && !is_busy(true, false, busy)
+        && !is_busy(false, false, etc)
+        && !is_busy(false, true, busy)
+        && is_busy(false, true, flags)
+        && !is_busy(true, true, flags)
+        && !is_busy(false, false, flags)
+        && !is_busy(false, true, "/run/user/1000".as_bytes())
+        && matches!(
+            watch_of(Found::Missing, true, true, false),
+            NameWatch::Nothing
+        )
+        && matches!(watch_of(Found::File, true, true, false), NameWatch::Own)
         && is_busy_in(false, "".as_bytes(), etc)
         && !is_busy_in(false, "/a".as_bytes(), etc)
         && matches!(way_at(".".as_bytes(), Way::Ends), Way::Stays)
