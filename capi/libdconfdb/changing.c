@@ -165,10 +165,10 @@ static uint32_t note(const Changing *it, const DconfdbSnapshot *now, uint32_t as
 }
 
 /* Nothing that comes after this changes it. */
-static void tell_who_waits(const Asking *asking, const DconfdbEnding *ending)
+static void tell_who_waits(const Asking *asking, const DconfdbEnding *ending, DconfdbSnapshot *newest)
 {
     if (asking->who && ending->told == DCONFDB_TOLD_NOTHING)
-        asking->who->hears(asking->who->it);
+        asking->who->hears(asking->who->it, newest);
 }
 
 /* What others are to know of it. */
@@ -177,8 +177,8 @@ int changing_note(Changing *it)
     DconfdbStore *store = it->edited->store;
     DconfdbEnding ending = {.is_there = false};
     dconfdb_ending(it->turn.outcome, it->turn.fault, store->known.is_unsettled, it->replacing.is_aside, &ending);
-    tell_who_waits(it->edited->asking, &ending);
-    const DconfdbSnapshot *now = ending.newest == DCONFDB_NEWEST_NEWER ? it->edited->newer : store->now;
+    DconfdbSnapshot *now = ending.newest == DCONFDB_NEWEST_NEWER ? it->edited->newer : store->now;
+    tell_who_waits(it->edited->asking, &ending, now);
     uint32_t ask = dconfdb_making_after(true, false, false, DCONFDB_MAKING_ENDED, found(ending.is_there));
     while (ask < DCONFDB_MAKING_NOTED)
         ask = dconfdb_making_after(true, false, false, ask, note(it, now, ask));

@@ -16,9 +16,10 @@ typedef struct {
     size_t change;
 } Made;
 
-/* Who hears that a change is made, in the turn, as soon as nothing can undo that, and before others know from its notes. */
+/* Who hears that a change is made, in the turn, as soon as nothing can undo that, and before others know from its notes: with the settings that are the
+ * newest by it, which are lent. */
 typedef struct {
-    void (*hears)(void *it);
+    void (*hears)(void *it, DconfdbSnapshot *newest);
     void *it;
 } Awaits;
 

@@ -1,6 +1,9 @@
 /* What comes waits to be written, in the order in which it comes: by the main thread, or, of a database that is in use, by GDBus's own. */
 #include "service.h"
 
+/* Of a change that may be read in GDBus's own thread: what comes behind it waits meanwhile. */
+static const size_t FEW_BYTES = 4096;
+
 /* `lock` is held. */
 static void add(Service *service, Change *change)
 {
@@ -47,19 +50,33 @@ static bool may_wait(const Service *service, const Writer *writer, GDBusMessage 
     return dconfdb_served_after(DCONFDB_SERVED_PASSES, &known) == DCONFDB_SERVED_GOES_ON;
 }
 
-bool service_takes(Service *service, const char *name, GDBusMessage *call)
+/* Adds it, or NULL where the main thread is to take it. It has `reading` then, if that could be had. `lock` is held. */
+static Change *admit(Service *service, Writer *writer, GDBusMessage *call, bool *reads)
 {
-    g_mutex_lock(&service->lock);
-    Writer *writer = service->ends ? NULL : g_hash_table_lookup(service->writers, name); /* at the end there soon is none */
-    bool takes = may_wait(service, writer, call);
-    if (takes)
-        add(service, change_new(writer, call));
+    Change *change = may_wait(service, writer, call) ? change_new(writer, call) : NULL;
+    *reads = change && change->size <= FEW_BYTES && g_mutex_trylock(&service->reading);
+    if (change)
+        add(service, change);
     else
         service->passing++;
+    return change;
+}
+
+/* A small change is read here, while the other thread wakes and takes its turn: nobody else reads it, nor does it go, as long as `reading` is held. */
+bool service_takes(Service *service, const char *name, GDBusMessage *call)
+{
+    bool reads;
+    g_mutex_lock(&service->lock);
+    Writer *writer = service->ends ? NULL : g_hash_table_lookup(service->writers, name); /* at the end there soon is none */
+    Change *change = admit(service, writer, call, &reads);
     g_mutex_unlock(&service->lock);
-    if (takes)
+    if (change)
         g_cond_signal(&service->comes);
-    return takes;
+    if (reads) {
+        change_read(change);
+        g_mutex_unlock(&service->reading);
+    }
+    return change != NULL;
 }
 
 void service_has_passed(Service *service)

@@ -32,6 +32,8 @@ typedef struct {
     bool had_name, is_ending, has_failed;
     guint owner;
 
+    GMutex reading; /* held while a change is read, which GDBus's thread may do while the other takes its turn; taken before `lock`, or tried */
+
     pthread_t thread;
     bool has_thread;
     DconfdbFailing failing; /* the thread's: a fault by which nothing can be written */
@@ -71,7 +73,7 @@ typedef struct {
 /* It has the call, which came. */
 Change *change_new(Writer *writer, GDBusMessage *call);
 
-/* Once: its edits, unless its bytes are odd. */
+/* Once: its edits, unless its bytes are odd. The service's `reading` is held. */
 void change_read(Change *change);
 void change_free(Change *change);
 
@@ -137,8 +139,9 @@ void newest_end(Newest *newest);
 /* Tells a change that is made after those before, with its tag: the paths of which another value is seen by it. Its edits are in `made`. */
 void tell_change(Writer *writer, Newest *newest, const GPtrArray *made, const char *tag);
 
-/* Tells without a tag what is otherwise than all that was told before, and these paths. `newest` may be NULL. */
-void tell_others(Writer *writer, const Newest *newest, const GPtrArray *left_out);
+/* Tells without a tag what is otherwise, in the newest settings, than all that was told before, and these paths. `newest`: of what was made since, of which
+ * dconf's readers know already; or NULL. */
+void tell_others(Writer *writer, const Newest *newest, const GPtrArray *left_out, DconfdbSnapshot *now);
 
 /* ---- the thread that writes (writes.c) */
 

@@ -34,17 +34,16 @@ static size_t prefix_of(const GPtrArray *paths, size_t *size)
     return len;
 }
 
+/* What each path has behind the prefix, which is all that is said where they aren't named. */
 static GVariant *rests_of(const GPtrArray *paths, size_t prefix, bool are_named)
 {
-    GVariantBuilder rests;
-    g_variant_builder_init(&rests, G_VARIANT_TYPE("as"));
-    if (!are_named)
-        g_variant_builder_add(&rests, "s", "");
-    for (guint at = 0; are_named && at < paths->len; at++) {
+    guint count = are_named ? paths->len : 1;
+    g_autofree GVariant **rests = g_new(GVariant *, count);
+    for (guint at = 0; at < count; at++) {
         const char *path = g_ptr_array_index(paths, at);
-        g_variant_builder_add_value(&rests, g_variant_new_take_string(g_strndup(path + prefix, sendable(path) - prefix)));
+        rests[at] = g_variant_new_take_string(g_strndup(path + prefix, are_named ? sendable(path) - prefix : 0));
     }
-    return g_variant_builder_end(&rests);
+    return g_variant_new_array(G_VARIANT_TYPE_STRING, rests, count);
 }
 
 static void notify(const Writer *writer, const GPtrArray *paths, const char *tag)
@@ -52,10 +51,12 @@ static void notify(const Writer *writer, const GPtrArray *paths, const char *tag
     size_t size = 0, len = prefix_of(paths, &size);
     const DconfdbServed known = {.size = size};
     bool are_named = dconfdb_served_after(DCONFDB_SERVED_TOLD, &known) == DCONFDB_SERVED_GOES_ON;
-    g_autofree char *prefix = g_strndup(g_ptr_array_index(paths, 0), len);
-    GVariant *words = g_variant_new("(s@ass)", prefix, rests_of(paths, len, are_named), tag);
+    char *prefix = g_strndup(g_ptr_array_index(paths, 0), len);
+    /* g_variant_new() would read the format each time. */
+    GVariant *words[] = {g_variant_new_take_string(prefix), rests_of(paths, len, are_named), g_variant_new_string(tag)};
+    GVariant *notice = g_variant_new_tuple(words, G_N_ELEMENTS(words));
     /* It fails where the bus is gone. */
-    g_dbus_connection_emit_signal(writer->service->bus, NULL, writer->object, "ca.desrt.dconf.Writer", "Notify", words, NULL);
+    g_dbus_connection_emit_signal(writer->service->bus, NULL, writer->object, "ca.desrt.dconf.Writer", "Notify", notice, NULL);
 }
 
 /* ---- keys that are edited */
@@ -240,12 +241,12 @@ static gboolean ask_after(gpointer path, gpointer edit, gpointer keys)
     return FALSE;
 }
 
-void tell_others(Writer *writer, const Newest *newest, const GPtrArray *left_out)
+void tell_others(Writer *writer, const Newest *newest, const GPtrArray *left_out, DconfdbSnapshot *after)
 {
-    DconfdbSnapshot *after = dconfdb_store_snapshot(writer->store), *before = own_of(writer->told), *now = own_of(after);
+    DconfdbSnapshot *before = own_of(writer->told), *now = own_of(after);
     g_autoptr(GArray) keys = g_array_new(FALSE, FALSE, sizeof(SeenKey));
     g_autoptr(GPtrArray) paths = g_ptr_array_new();
-    DconfdbTelling telling = {.is_other = after != writer->told, .has_edits = newest || left_out, .is_of_files = true};
+    DconfdbTelling telling = {.is_other = after != writer->told, .has_edits = newest || left_out, .is_of_files = !newest};
     if (newest)
         g_tree_foreach(newest->edits, ask_after, keys);
     for (guint at = 0; left_out && at < left_out->len; at++)
@@ -259,5 +260,5 @@ void tell_others(Writer *writer, const Newest *newest, const GPtrArray *left_out
     dconfdb_snapshot_unref(before);
     dconfdb_snapshot_unref(now);
     dconfdb_snapshot_unref(writer->told);
-    writer->told = after;
+    writer->told = dconfdb_snapshot_ref(after);
 }

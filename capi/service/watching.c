@@ -47,8 +47,10 @@ static void read_files(Writer *writer, uint32_t task, Looking *it)
 /* Tells what is new: after a look that failed nothing is. */
 static void hand_out(Writer *writer, Looking *it)
 {
+    DconfdbSnapshot *now = dconfdb_store_snapshot(writer->store);
     it->before = dconfdb_snapshot_ref(writer->told);
-    tell_others(writer, NULL, NULL);
+    tell_others(writer, NULL, NULL, now);
+    dconfdb_snapshot_unref(now);
     it->known.is_other = it->before != writer->told;
     it->known.waits = service_has_waiting(writer->service);
 }

@@ -17,7 +17,7 @@ typedef struct {
     const GList *first; /* of the changes */
     size_t count;       /* of their edits */
     Batch batch;
-    DconfdbSnapshot *then; /* what was there once they were written */
+    const DconfdbSnapshot *then; /* what was there once they were written */
     GTree *last;           /* the last edit of each path */
     bool has_turn, is_done;
     bool is_known; /* what came of it */
@@ -29,11 +29,19 @@ typedef struct {
 
 /* ---- what is written */
 
+/* GDBus's thread may be reading it. */
+static void read_change(Service *service, Change *change)
+{
+    g_mutex_lock(&service->reading);
+    change_read(change);
+    g_mutex_unlock(&service->reading);
+}
+
 static void read_all(Run *run)
 {
     for (const GList *at = run->first; at; at = at->next) {
         Change *change = at->data;
-        change_read(change);
+        read_change(run->writer->service, change);
         change->first = run->count;
         run->count += change->edits->len;
     }
@@ -112,7 +120,7 @@ static GPtrArray *made_of(const Run *run, const Change *change, GPtrArray *left_
     return made;
 }
 
-/* Dconf's readers are to see what is there before anybody is answered or told. GDBus's thread, which sends the answers, may wait for this processor. */
+/* Dconf's readers are to see what is there before anybody is answered or told. */
 static void answer_all(const Run *run)
 {
     flag_readers(run->writer, run->has_turn);
@@ -121,15 +129,14 @@ static void answer_all(const Run *run)
         g_autofree char *tag = tag_of(change);
         answer(run, change, tag);
     }
-    sched_yield();
 }
 
-static void tell_all(Run *run)
+static void tell_all(Run *run, DconfdbSnapshot *now)
 {
     Newest newest;
     g_autoptr(GPtrArray) left_out = g_ptr_array_new();
     newest_begin(&newest);
-    run->then = dconfdb_store_snapshot(run->writer->store);
+    run->then = now;
     run->last = tried_last(&run->batch);
     for (const GList *at = run->first; at; at = at->next) {
         const Change *change = at->data;
@@ -137,9 +144,8 @@ static void tell_all(Run *run)
         g_autoptr(GPtrArray) made = made_of(run, change, left_out);
         tell_change(run->writer, &newest, made, tag);
     }
-    tell_others(run->writer, &newest, left_out);
+    tell_others(run->writer, &newest, left_out, now);
     newest_end(&newest);
-    dconfdb_snapshot_unref(run->then);
     g_tree_unref(run->last);
 }
 
@@ -221,8 +227,8 @@ static void end_try(Service *service, bool is_over)
         change_free(g_queue_pop_head_link(&over)->data);
 }
 
-/* What came of it: all are answered, or none. */
-static void know(Run *run, bool is_done)
+/* What came of it, and the newest settings: all are answered and told, or none. GDBus's thread, which sends that, may wait for this processor. */
+static void know(Run *run, bool is_done, DconfdbSnapshot *now)
 {
     Service *service = run->writer->service;
     if (run->is_known)
@@ -231,26 +237,34 @@ static void know(Run *run, bool is_done)
     run->is_done = is_done;
     run->said = dconfdb_failing_met(&service->failing, !is_done, is_momentary(&run->fault), true, (uint64_t)g_get_monotonic_time());
     run->is_over = is_settled(service, run);
-    if (run->is_over)
-        answer_all(run);
+    if (!run->is_over)
+        return;
+    answer_all(run);
+    sched_yield();
+    tell_all(run, now);
+    sched_yield();
 }
 
-/* It is made, and is noted next: who waits for the answer needn't wait for that. */
-static void hear_made(void *it)
+/* It is made, and is noted next: who waits for the answer, or is told, needn't wait for that. */
+static void hear_made(void *it, DconfdbSnapshot *newest)
 {
-    know(it, true);
+    know(it, true, newest);
 }
 
 /* `turn` of the writer is held, and that between programs, or a fault of it. */
 static void write_in(Run *run, const FolderLock *lock, int fault)
 {
     DconfdbError none = DCONFDB_ERROR_INIT;
+    DconfdbStore *store = run->writer->store;
     const Awaits who = {hear_made, run};
     const Turn turn = {lock, fault, &who};
     run->has_turn = fault == 0;
     run->refusal = run->fault = none;
     run->batch = batch_of(run->first, run->count);
-    know(run, batch_write(&run->batch, run->writer->store, &turn, &run->refusal, &run->fault));
+    bool is_done = batch_write(&run->batch, store, &turn, &run->refusal, &run->fault);
+    DconfdbSnapshot *now = dconfdb_store_snapshot(store);
+    know(run, is_done, now);
+    dconfdb_snapshot_unref(now);
 }
 
 static void give(FolderLock *lock, int fault)
@@ -259,7 +273,7 @@ static void give(FolderLock *lock, int fault)
         folder_unlock(lock);
 }
 
-/* Whether they are answered. Each waits for its answer; others may have their turn before it is known who is told of what. */
+/* Whether they are answered, and told. */
 static bool write_run(Run *run, FolderLock *lock, int fault)
 {
     Writer *writer = run->writer;
@@ -268,8 +282,6 @@ static bool write_run(Run *run, FolderLock *lock, int fault)
     g_mutex_lock(&writer->turn);
     write_in(run, lock, fault);
     give(lock, fault);
-    if (run->is_over)
-        tell_all(run);
     g_mutex_unlock(&writer->turn);
     batch_end(&run->batch);
     writer_has_written(writer);
@@ -285,7 +297,7 @@ static void read_ahead(Service *service)
         g_ptr_array_add(changes, at->data);
     g_mutex_unlock(&service->lock);
     for (guint at = 0; at < changes->len; at++)
-        change_read(g_ptr_array_index(changes, at));
+        read_change(service, g_ptr_array_index(changes, at));
 }
 
 /* Nothing is answered before it is on the disk, or can't get there. What came until it has the turn is written, too. */

@@ -2,7 +2,7 @@
 import re
 
 TOKEN = re.compile(r'/\*.*?\*/|//[^\n]*|"(?:\\.|[^"\\])*"|\'(?:\\.|[^\'\\])*\'|[{}]|\b(?:break|continue|goto)\b|\breturn\b(?P<value>[^;]*);'
-                   r'|\bg_autoptr\((?P<type>\w+)\) (?P<name>\w+)|\bg_autofree [\w ]+\*(?P<text>\w+)', re.S)
+                   r'|\bg_autoptr\((?P<type>\w+)\) (?P<name>\w+)|\bg_autofree [\w ]+\*+(?P<text>\w+)', re.S)
 
 
 def ends_of(blocks):

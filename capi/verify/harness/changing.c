@@ -244,9 +244,10 @@ void store_after(DconfdbStore *at, uint32_t what, bool yes, uint64_t number)
 }
 
 /* Who waits for the change hears of it before it is noted, once. */
-static void hears(void *of)
+static void hears(void *of, DconfdbSnapshot *newest)
 {
     CHECK(of == &it && noted == 0 && !has_heard, "order: who waits hears first");
+    CHECK(newest == (is_new_noted() ? edited.newer : store.now), "answer: what is the newest by it");
     CHECK(it.turn.outcome == DCONFDB_TURN_MADE || it.turn.outcome == DCONFDB_TURN_SAME, "answer: of what is made");
     has_heard = true;
 }

@@ -65,6 +65,10 @@ int takes_or_passes(void)
         CHECK(service.waiting.tail == &changes[2]->link, "order: what comes waits behind what came before");
         CHECK(changes[2]->number == count && one_writer.count == count + 1, "answer: its number is the next one");
         REACHED("it is taken");
+        if (changes[2]->is_read)
+            REACHED("it is read at once");
+        else
+            REACHED("it is large, or another is read");
     } else {
         service_has_passed(&service);
         CHECK(service.passing == passing, "answer: the main thread has taken it");

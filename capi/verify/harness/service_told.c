@@ -22,12 +22,11 @@ static int *had_of(const DconfdbSnapshot *snapshot)
     return (const char *)(const void *)snapshot == &old_told ? &had_old : &had_new;
 }
 
-DconfdbSnapshot *dconfdb_store_snapshot(DconfdbStore *store)
+DconfdbSnapshot *dconfdb_snapshot_ref(DconfdbSnapshot *snapshot)
 {
-    CHECK((char *)(void *)store == &a_store, "memory: a store");
-    bool is_new = any_bool();
-    ++*(is_new ? &had_new : &had_old);
-    return (DconfdbSnapshot *)(void *)(is_new ? &new_told : &old_told);
+    CHECK(*had_of(snapshot) > 0, "memory: what is had once more is had");
+    ++*had_of(snapshot);
+    return snapshot;
 }
 
 /* It is the caller's. */
@@ -132,9 +131,9 @@ uint32_t dconfdb_path_kind(const uint8_t *text, size_t len, uint32_t wanted, boo
 uint32_t tell_next_list(DconfdbTelling *telling)
 {
     bool is_silent = !telling->is_other && !telling->has_edits;
-    CHECK(telling->is_of_files && !telling->has_rights && !telling->has_faults && !telling->is_first && !telling->ends, "answer: what is told");
+    CHECK(!telling->has_rights && !telling->has_faults && !telling->is_first && !telling->ends, "answer: what is told");
     telling->list = is_silent || telling->list >= DCONFDB_TELL_VALUES ? DCONFDB_TELL_OVER
-        : telling->list < DCONFDB_TELL_CATCH_UP                       ? DCONFDB_TELL_CATCH_UP
+        : telling->list < DCONFDB_TELL_CATCH_UP && telling->is_of_files ? DCONFDB_TELL_CATCH_UP
                                                                       : DCONFDB_TELL_VALUES;
     return telling->list;
 }
@@ -264,8 +263,12 @@ int service_tell_others(void)
     if (any_bool())
         put(newest.edits, &an_edit);
     bool is_amid = any_bool();
-    tell_others(&writer, is_amid ? &newest : NULL, is_amid ? &left_out : NULL);
-    CHECK(flagged == (is_amid || (char *)(void *)writer.told == &new_told), "step: dconf's readers look, once, where the file is another, or an edit is told");
+    DconfdbSnapshot *now = (DconfdbSnapshot *)(void *)(any_bool() ? &new_told : &old_told);
+    ++*had_of(now);
+    tell_others(&writer, is_amid ? &newest : NULL, is_amid ? &left_out : NULL, now);
+    CHECK(writer.told == now, "answer: what was told is the newest");
+    CHECK(flagged == (!is_amid && (char *)(void *)now == &new_told), "step: dconf's readers look, once, where others made the file another");
+    dconfdb_snapshot_unref(now);
     if (notified == 1 && flagged == 1 && !is_amid)
         REACHED("what others changed is told");
     all_is_given_back();
@@ -297,9 +300,6 @@ size_t dconfdb_shared_within(const uint8_t *path, size_t path_len, size_t most, 
     return len;
 }
 
-void g_variant_builder_init(GVariantBuilder *builder, const GVariantType *type) { (void)type; builder->count = 0; }
-void g_variant_builder_add(GVariantBuilder *builder, const char *format, ...) { (void)format; builder->count++; }
-
 /* It takes the text. */
 GVariant *g_variant_new_take_string(char *text)
 {
@@ -307,17 +307,23 @@ GVariant *g_variant_new_take_string(char *text)
     return NULL;
 }
 
-void g_variant_builder_add_value(GVariantBuilder *builder, GVariant *value) { (void)value; builder->count++; }
-
-GVariant *g_variant_builder_end(GVariantBuilder *builder)
+GVariant *g_variant_new_string(const char *text)
 {
-    rests = builder->count;
+    CHECK(text, "memory: a text that is there");
     return NULL;
 }
 
-GVariant *g_variant_new(const char *format, ...)
+GVariant *g_variant_new_array(const GVariantType *type, GVariant *const *values, gsize count)
 {
-    (void)format;
+    (void)type;
+    CHECK(__CPROVER_r_ok(values, count * sizeof *values), "memory: texts that are there");
+    rests = (unsigned)count;
+    return NULL;
+}
+
+GVariant *g_variant_new_tuple(GVariant *const *values, gsize count)
+{
+    CHECK(count == 3 && __CPROVER_r_ok(values, count * sizeof *values), "memory: words that are there");
     return NULL;
 }
 

@@ -70,7 +70,9 @@ bool batch_write(Batch *batch, DconfdbStore *store, const Turn *turn, DconfdbErr
     batch->queue.is_closed = any_bool();
     CHECK(turn->who && turn->who->hears, "step: who waits is to hear of it");
     if (is_written && any_bool()) {
-        turn->who->hears(turn->who->it);
+        has_then = true;
+        turn->who->hears(turn->who->it, (DconfdbSnapshot *)(void *)a_snapshot);
+        has_then = false;
         REACHED("it is heard of in its turn");
     }
     return is_written;
@@ -185,7 +187,6 @@ void tell_change(Writer *writer, Newest *newest, const GPtrArray *made, const ch
     (void)newest;
     bool is = false;
     CHECK(writer == written_for && is_held(&writer->turn) && __CPROVER_r_ok(tag, 1), "order: who is told is told before others look");
-    CHECK(!has_turn, "order: others may have their turn meanwhile");
     for (guint i = 0; i < made->len; i++)
         CHECK(is_written && made->pdata[i] == &an_edit, "answer: what is told is made");
     for (int i = 0; !is && i < CHANGES; i++) {
@@ -195,9 +196,10 @@ void tell_change(Writer *writer, Newest *newest, const GPtrArray *made, const ch
     CHECK(is, "order: who made it is answered before others are told");
 }
 
-void tell_others(Writer *writer, const Newest *newest, const GPtrArray *left_out)
+void tell_others(Writer *writer, const Newest *newest, const GPtrArray *left_out, DconfdbSnapshot *now)
 {
     CHECK(writer == written_for && newest && is_held(&writer->turn), "order: what others changed is told after it");
+    CHECK(has_then && now == (DconfdbSnapshot *)(void *)a_snapshot, "memory: the newest settings, which are had");
     for (guint i = 0; i < left_out->len; i++)
         CHECK(__CPROVER_r_ok(left_out->pdata[i], 1), "memory: a path that is there");
 }

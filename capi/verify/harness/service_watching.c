@@ -102,14 +102,20 @@ void dconfdb_snapshot_unref(DconfdbSnapshot *snapshot)
     --*had_of(snapshot);
 }
 
-void tell_others(Writer *at, const Newest *newest, const GPtrArray *left_out)
+DconfdbSnapshot *dconfdb_store_snapshot(DconfdbStore *store)
+{
+    CHECK(store == writer.store && is_held(&writer.turn), "order: nobody writes meanwhile");
+    bool is_new = any_bool();
+    ++*(is_new ? &had_new : &had_old);
+    return (DconfdbSnapshot *)(void *)(is_new ? &new_told : &old_told);
+}
+
+void tell_others(Writer *at, const Newest *newest, const GPtrArray *left_out, DconfdbSnapshot *now)
 {
     CHECK(at == &writer && !newest && !left_out && is_held(&writer.turn), "order: who is told is told while nobody writes");
-    if (!any_bool())
-        return;
+    CHECK(*had_of(now) > 0, "memory: the newest settings, which are had");
     dconfdb_snapshot_unref(writer.told);
-    writer.told = (DconfdbSnapshot *)(void *)&new_told;
-    had_new++;
+    writer.told = dconfdb_snapshot_ref(now);
 }
 
 void heed_others(DconfdbStore *store, const DconfdbSnapshot *before, const DconfdbSnapshot *after)

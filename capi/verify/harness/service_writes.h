@@ -40,16 +40,20 @@ static void comes(int at)
     has_come[at] = true;
 }
 
-void change_read(Change *change)
+static void reads(Change *change)
 {
-    CHECK(!change->is_read || change->call, "memory: a change that is there");
-    CHECK(none_is_held(), "order: what takes a while is done while nobody is kept from anything");
-    if (change->is_read)
-        return;
     change->is_read = true;
     change->is_normal = any_bool();
     change->edits->len = any_bool() ? 1 : 0;
     change->unfit->len = any_bool() ? 1 : 0;
+}
+
+void change_read(Change *change)
+{
+    CHECK(!change->is_read || change->call, "memory: a change that is there");
+    CHECK(is_held(&service.reading) && !is_held(&service.lock) && !is_held(&change->writer->turn), "order: one thread reads, and keeps nobody from anything else");
+    if (!change->is_read)
+        reads(change);
 }
 
 static void waits_in(GQueue *queue, int at)
@@ -67,7 +71,7 @@ static void set_up(void)
     service.has_thread = true;
     if (any_bool()) {
         waits_in(&service.taken, 0);
-        change_read(changes[0]);
+        reads(changes[0]);
     } else {
         waits_in(&service.waiting, 0);
     }

@@ -14,14 +14,15 @@ typedef struct GBytes GBytes;
 typedef struct GVariant GVariant;
 typedef struct GVariantType GVariantType;
 typedef struct { GVariant *of; guint at; } GVariantIter;
-typedef struct { guint count; } GVariantBuilder;
 #define G_VARIANT_TYPE(type) ((const GVariantType *)(type))
+#define G_VARIANT_TYPE_STRING G_VARIANT_TYPE("s")
 void g_bytes_unref(GBytes *bytes);
 GVariant *g_variant_new(const char *format, ...);
 GVariant *g_variant_new_from_bytes(const GVariantType *type, GBytes *bytes, gboolean is_trusted);
 GVariant *g_variant_new_string(const char *text);
 GVariant *g_variant_new_take_string(char *text);
 GVariant *g_variant_new_tuple(GVariant *const *words, gsize count);
+GVariant *g_variant_new_array(const GVariantType *type, GVariant *const *values, gsize count);
 GVariant *g_variant_ref(GVariant *value);
 GVariant *g_variant_ref_sink(GVariant *value);
 void g_variant_unref(GVariant *value);
@@ -38,10 +39,6 @@ GVariant *g_variant_get_variant(GVariant *value);
 const char *g_variant_get_type_string(GVariant *value);
 gsize g_variant_iter_init(GVariantIter *iter, GVariant *value);
 GVariant *g_variant_iter_next_value(GVariantIter *iter);
-void g_variant_builder_init(GVariantBuilder *builder, const GVariantType *type);
-void g_variant_builder_add(GVariantBuilder *builder, const char *format, ...);
-void g_variant_builder_add_value(GVariantBuilder *builder, GVariant *value);
-GVariant *g_variant_builder_end(GVariantBuilder *builder);
 ENDS(GBytes, g_bytes_unref)
 ENDS(GVariant, g_variant_unref)
 
