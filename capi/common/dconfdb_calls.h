@@ -602,6 +602,12 @@ uint32_t dconfdb_beside(uint32_t purpose, const DconfdbFileStamp *old, const Dco
  * asked of again until more does. */
 bool dconfdb_known_after(const DconfdbFileStamp *old, const DconfdbFileStamp *now, bool may_be_read, DconfdbFileStamp *known);
 
+/* Whether both are one file, whatever changed of it. */
+bool dconfdb_is_one_file(const DconfdbFileStamp *one, const DconfdbFileStamp *other);
+
+/* The state of a file that was made, once it was given its name, by what has that name now: as that says, if it is the file; else as it was. */
+void dconfdb_placed(const DconfdbFileStamp *named, DconfdbFileStamp *made);
+
 /* Which file of a store is read. */
 enum {
     DCONFDB_SIZE_MACHINE, /* it says in one word which kind of store the machine has */
@@ -1023,7 +1029,7 @@ typedef struct {
 
 /* Its tasks. */
 enum {
-    DCONFDB_TAKING_OPEN_FOLDER = 1, /* close what is open, and open the folder */
+    DCONFDB_TAKING_OPEN_FOLDER = 1, /* close what is open, and open the folder; EAGAIN: another thread is having children of fork() heeded */
     DCONFDB_TAKING_MAKE_FOLDER,     /* make it: it is missing */
     DCONFDB_TAKING_OPEN,            /* open what has the lock's name there, and look at it */
     DCONFDB_TAKING_LOOK_ABOVE,      /* bring the folder's own name to the disk, and look at it */
@@ -1390,6 +1396,7 @@ typedef struct {
     bool was_unseen;     /* one of those files couldn't be looked at when the profile was read, */
     bool is_unseen;      /* or can't be now */
     bool is_reading;     /* who looks reads a value: it waits for nobody */
+    bool is_first;       /* nothing was handed out before */
 } DconfdbGlance;
 
 /* The task that is due after that one. */
@@ -1507,6 +1514,7 @@ typedef struct {
     bool has_rights;  /* it may be otherwise what may be written */
     bool is_of_files; /* what is told stands in files, of which somebody else tells, too */
     bool has_faults;  /* there are faults to be told */
+    bool is_unseen;   /* there is nothing that is the newest: no store is open, or nobody is told what is in it */
 } DconfdbTelling;
 
 /* What is done with a path, or which list comes next. */
@@ -1921,7 +1929,7 @@ enum {
     DCONFDB_CHANGING_FAILED   /* over, for another fault */
 };
 
-/* What is known; but for the first two, and whether there is a store, from when all is written that was asked for before. */
+/* What is known; but for the first four from when all is written that was asked for before. */
 typedef struct {
     bool is_empty;      /* it asks for nothing */
     bool is_refused;    /* it sets a key that may not be written */
@@ -2162,6 +2170,7 @@ typedef struct {
     bool has_blame; /* the program `blame` may be run */
     bool is_noted;  /* the environment asks that changes are noted */
     bool counts;    /* the environment does: the program hasn't more rights than whoever started it */
+    bool is_at_home; /* dconfdb_place asks for the user's home to know where the folder is */
 } DconfdbCommandLine;
 
 /* Which program it is for. */
@@ -2177,9 +2186,9 @@ enum {
 };
 
 /* By the program's name and the two words after it, each empty where there is none. `has_none`: it is run without the variables that say where a store is, as
- * to the proved program each counts that it has. */
+ * to the proved program each counts that it has. `is_homeless`: the proved program is run by the one that asks the system for the user's home. */
 uint32_t dconfdb_program_of(const uint8_t *name, size_t name_len, const uint8_t *first, size_t first_len, const uint8_t *second, size_t second_len,
-                            const DconfdbCommandLine *line, bool *has_none);
+                            const DconfdbCommandLine *line, bool *has_none, bool *is_homeless);
 
 /* What the words before say; {0} at first, but for the program. Nobody else writes it. */
 typedef struct {

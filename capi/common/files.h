@@ -30,10 +30,11 @@ FileState file_state_of(const struct stat *found);
 /* The state of a name. A missing file is not an error. */
 int file_look(const char *name, FileState *state);
 
-/* Whether both are of one file, whatever changed of it. */
-static inline bool file_is_one(const FileState *one, const FileState *other)
+/* Whether both are of one file, as the proved call has it. */
+static inline bool are_of_one_file(const struct stat *one, const struct stat *other)
 {
-    return one->is_there && other->is_there && one->device == other->device && one->inode == other->inode;
+    const FileState first = file_state_of(one), second = file_state_of(other);
+    return dconfdb_is_one_file(&first, &second);
 }
 
 /* Nanoseconds since 1970, by the clock by which a file's times are noted. */

@@ -74,27 +74,27 @@ static void heed_forks(void)
     unheeded = pthread_atfork(before_fork, after_fork, after_fork_in_child);
 }
 
-/* One thread at a time: what is registered twice would wait for itself as somebody forks. Another has the answer that there was. */
-static void heed_forks_again(void)
+/* One thread at a time: what is registered twice would wait for itself as somebody forks. To another it is as if somebody forked. */
+static int heed_forks_again(void)
 {
     int process = (int)getpid(), before = asking;
     if (before == process || !atomic_compare_exchange_strong(&asking, &before, process))
-        return;
+        return EAGAIN;
     if (unheeded != 0)
         heed_forks();
     asking = 0;
+    return unheeded;
 }
 
-/* Where no memory was left for it, it is tried again: a lock that a child keeps would be nobody's. Gives 0, or errno. */
+/* Where no memory was left for it, it is tried again: a lock that a child keeps would be nobody's. Gives 0, or errno: EAGAIN while another thread
+ * tries it. */
 static int heed_all_forks(void)
 {
     static pthread_once_t once = PTHREAD_ONCE_INIT;
     if (unheeded == 0)
         return 0;
     pthread_once(&once, heed_forks);
-    if (unheeded != 0)
-        heed_forks_again();
-    return unheeded;
+    return unheeded != 0 ? heed_forks_again() : 0;
 }
 
 /* Lists what was opened since that was the number of the forks. False: a child that was made meanwhile may have it, unlisted. It is harmless

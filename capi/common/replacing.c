@@ -29,7 +29,7 @@ static DconfdbOldFile old_file(const struct stat *old, const FileState *read)
                             .is_there = true,
                             .is_regular = S_ISREG(old->st_mode),
                             .is_link = S_ISLNK(old->st_mode),
-                            .is_read = file_is_one(&state, read)};
+                            .is_read = dconfdb_is_one_file(&state, read)};
 }
 
 /* What stands there. What is kept aside may not even be readable, nor a link that leads somewhere. */
@@ -215,15 +215,13 @@ int replacing_set_aside(Replacing *it, size_t *cannot)
     return (int)is.fault;
 }
 
-/* The new file has the name: its time is that of this. Where another one has it by now, that is not looked at. */
+/* The new file has the name: its time is that of this. */
 static void is_placed(const Replacing *it, FileState *state)
 {
     struct stat found;
-    if (fstatat(it->folder, it->name, &found, AT_SYMLINK_NOFOLLOW) != 0)
-        return;
-    FileState placed = file_state_of(&found);
-    if (file_is_one(&placed, state))
-        *state = placed;
+    bool is_there = fstatat(it->folder, it->name, &found, AT_SYMLINK_NOFOLLOW) == 0;
+    const FileState named = is_there ? file_state_of(&found) : (FileState){.is_there = false};
+    dconfdb_placed(&named, state);
 }
 
 int replacing_exchange(Replacing *it, FileState *state)

@@ -19,12 +19,6 @@ static inline DconfdbStood file_stood(const struct stat *found, int fault)
     return stood;
 }
 
-/* Whether both are of one file, whatever changed of it. */
-static inline bool are_of_one_file(const struct stat *one, const struct stat *other)
-{
-    return one->st_dev == other->st_dev && one->st_ino == other->st_ino;
-}
-
 /* The errno that is told, by a purpose of which that alone counts: 0 if it is no fault. */
 static inline int file_fault(uint32_t purpose, int fault)
 {

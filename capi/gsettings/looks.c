@@ -143,8 +143,9 @@ static void hand_out(DconfdbBackend *self, Looking *it)
 {
     const Notice *notice = it->notice;
     renew(self, it->notice);
-    it->known.is_other = notice->before && notice->before != notice->after;
-    it->known.waits = it->known.is_other && store_has_waiting(self);
+    it->known.is_first = !notice->before;
+    it->known.is_other = notice->before != notice->after;
+    it->known.waits = store_has_waiting(self);
 }
 
 /* `turn` is held. Somebody may wait for that; and another program may have written it, and not brought it to the disk. */

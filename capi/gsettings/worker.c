@@ -71,12 +71,11 @@ void know_what_waits(const DconfdbBackend *self, DconfdbRound *known)
     known->waits = waiting_is_any(&self->waiting);
 }
 
-/* Where not all is watched a look comes before a write anyway. */
 void know_before_write(const DconfdbBackend *self, DconfdbRound *known)
 {
     know_what_waits(self, known);
     known->is_watched = g_atomic_int_get(&self->is_watching);
-    known->asks = known->is_watched && waiting_asks(&self->waiting);
+    known->asks = waiting_asks(&self->waiting);
 }
 
 /* Also for who waits at the program's end. */

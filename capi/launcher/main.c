@@ -43,17 +43,28 @@ static const char *word_at(int count, char **words, int at)
     return at < count ? words[at] : "";
 }
 
-/* Which program the words are for, and whether it has none of the variables of a store, as the proved call has it. */
-static uint32_t program_of(int count, char **words, bool *has_none)
+/* Whether the store may be in the home that the system has for the user. */
+static bool is_at_home(void)
+{
+    const DconfdbEnvironment environment = environment_now();
+    const DconfdbBytes nothing = DCONFDB_NOTHING;
+    DconfdbPath path = DCONFDB_NO_PATH;
+    return dconfdb_place(&environment, DCONFDB_GIVEN_BY_NOBODY, nothing.at, nothing.len, DCONFDB_WANT_FOLDER, false, nothing.at, nothing.len, &path)
+        == DCONFDB_ASK_HOME;
+}
+
+/* Which program the words are for, and with which environment, as the proved call has it. */
+static uint32_t program_of(int count, char **words, bool *has_none, bool *is_homeless)
 {
     const char *name = word_at(count, words, 0), *first = word_at(count, words, 1), *second = word_at(count, words, 2);
     const DconfdbCommandLine line = {.count = (uint64_t)count,
                                      .is_path = is_path(second),
                                      .has_blame = access(blamer, X_OK) == 0,
                                      .is_noted = getenv("DCONF_BLAME") != NULL,
-                                     .counts = environment_counts()};
+                                     .counts = environment_counts(),
+                                     .is_at_home = is_at_home()};
     return dconfdb_program_of((const uint8_t *)name, strlen(name), (const uint8_t *)first, strlen(first), (const uint8_t *)second, strlen(second), &line,
-                              has_none);
+                              has_none, is_homeless);
 }
 
 /* Becomes the program by dconfdb-blame, or returns. */
@@ -75,16 +86,6 @@ static void forget_environment(void)
         unsetenv(variables[i]);
 }
 
-/* The proved program, by what has to be asked to know where a store is that nobody names. */
-static const char *proved_program(void)
-{
-    const DconfdbEnvironment environment = environment_now();
-    const DconfdbBytes nothing = DCONFDB_NOTHING;
-    DconfdbPath path = DCONFDB_NO_PATH;
-    uint32_t what = dconfdb_place(&environment, DCONFDB_GIVEN_BY_NOBODY, nothing.at, nothing.len, DCONFDB_WANT_FOLDER, false, nothing.at, nothing.len, &path);
-    return what == DCONFDB_ASK_HOME ? homeless : proved;
-}
-
 /* Returns if it can't be run. */
 static int run(const char *file, char **words)
 {
@@ -103,16 +104,17 @@ static int run_other(uint32_t program, char **words)
 int main(int count, char **words)
 {
     char help[] = "--help", *helped[] = {NULL, help, NULL};
-    bool has_none = false;
-    uint32_t program = program_of(count, words, &has_none);
+    bool has_none = false, is_homeless = false;
+    uint32_t program = program_of(count, words, &has_none, &is_homeless);
+    const char *file = is_homeless ? homeless : proved;
     if (has_none)
         forget_environment();
     switch (program) {
     case DCONFDB_PROGRAM_PROVED:
-        return run(proved_program(), words);
+        return run(file, words);
     case DCONFDB_PROGRAM_NOTED:
-        run_noted(proved_program(), count, words); /* what can't be noted is run all the same */
-        return run(proved_program(), words);
+        run_noted(file, count, words); /* what can't be noted is run all the same */
+        return run(file, words);
     case DCONFDB_PROGRAM_WATCH_HELP:
     case DCONFDB_PROGRAM_LINT_HELP:
         return run_other(program, helped);

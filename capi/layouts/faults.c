@@ -113,14 +113,14 @@ static void finds_seen(void)
 
 enum { TAKEN_PATHS = 0, TELL_LIST = 8, TELL_FLAGS = 12, TELL_IS_FIRST = 12, TELL_ENDS = 13, TELL_IS_OTHER = 14, TELL_HAS_EDITS = 15, TELL_IS_FOUND = 16,
        TELL_HAS_PATH = 17, TELL_IS_LISTENED = 18, TELL_IS_BETWEEN = 19, TELL_HAS_RIGHTS = 20, TELL_IS_OF_FILES = 21, TELL_HAS_FAULTS = 22,
-       TELLING = 24 };
+       TELL_IS_UNSEEN = 23, TELLING = 24 };
 
 static uint32_t told_by(size_t taken_paths, uint32_t list, unsigned fields)
 {
     _Alignas(16) uint8_t known[TELLING] = {0};
     memcpy(known, &taken_paths, WORD);
     memcpy(known + TELL_LIST, &list, NUMBER);
-    for (int i = 0; i < TELL_HAS_FAULTS + 1 - TELL_FLAGS; i++)
+    for (int i = 0; i < TELL_IS_UNSEEN + 1 - TELL_FLAGS; i++)
         known[TELL_FLAGS + i] = fields >> i & 1;
     return dconfdb_tell_next(known);
 }
@@ -133,7 +133,7 @@ static bool is_told(size_t taken_paths, unsigned fields, uint32_t next)
 static void finds_telling(void)
 {
     enum { FIRST = 1, PROGRAM_ENDS = 2, OTHER = 4, HAS_EDITS = 8, FOUND = 16, HERE = 32, LISTENED = 64, HEARD = FOUND | HERE | LISTENED };
-    enum { BETWEEN = 128, RIGHTS = 256, OF_FILES = 512, FAULTS = 1024 };
+    enum { BETWEEN = 128, RIGHTS = 256, OF_FILES = 512, FAULTS = 1024, UNSEEN = 2048 };
     is_so(is_told(0, OTHER | HEARD, 1) && is_told(255, OTHER | HEARD, 2) && is_told(0, HAS_EDITS | HEARD, 1), "DconfdbTelling");
     is_so(is_told(0, HEARD, 0) && is_told(0, OTHER | HEARD | FIRST, 0) && is_told(0, OTHER | HEARD | PROGRAM_ENDS, 0), "DconfdbTelling");
     is_so(is_told(0, OTHER | HERE | LISTENED, 4) && is_told(1, OTHER | FOUND | HERE, 0) && is_told(1, OTHER | FOUND | LISTENED, 3),
@@ -141,6 +141,7 @@ static void finds_telling(void)
     is_so(told_by(0, 0, OTHER | BETWEEN | RIGHTS) == 6 && told_by(0, 0, OTHER | BETWEEN) == 7 && told_by(0, 6, OTHER | BETWEEN | RIGHTS) == 7,
           "DconfdbTelling");
     is_so(told_by(0, 7, OTHER | BETWEEN) == 10 && told_by(0, 0, BETWEEN | RIGHTS) == 10, "DconfdbTelling");
+    is_so(told_by(0, 0, OTHER | BETWEEN | RIGHTS | UNSEEN) == 10, "DconfdbTelling");
     is_so(told_by(0, 0, OTHER | BETWEEN | OF_FILES) == 5 && told_by(0, 0, BETWEEN | FAULTS) == 8 && told_by(0, 0, BETWEEN | FAULTS | PROGRAM_ENDS) == 9,
           "DconfdbTelling");
     lies("DconfdbTelling", "taken", TAKEN_PATHS, WORD);
@@ -156,6 +157,7 @@ static void finds_telling(void)
     lies("DconfdbTelling", "has_rights", TELL_HAS_RIGHTS, FLAG);
     lies("DconfdbTelling", "is_of_files", TELL_IS_OF_FILES, FLAG);
     lies("DconfdbTelling", "has_faults", TELL_HAS_FAULTS, FLAG);
+    lies("DconfdbTelling", "is_unseen", TELL_IS_UNSEEN, FLAG);
     printf("TAKES(DconfdbTelling, %d);\n", TELLING);
 }
 

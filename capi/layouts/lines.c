@@ -10,7 +10,7 @@ uint32_t dconfdb_read_as(const void *entry, const void *folders, size_t count, c
                          size_t *sources, size_t *stem, bool *is_source);
 uint32_t dconfdb_option(void *read, bool is_end, const char *word, size_t len, size_t *from);
 uint32_t dconfdb_program_of(const char *name, size_t name_len, const char *first, size_t first_len, const char *second, size_t second_len,
-                            const void *line, bool *has_none);
+                            const void *line, bool *has_none, bool *is_homeless);
 uint32_t dconfdb_finding(const void *known, const char *directory, size_t directory_len, const void *others, size_t count);
 
 /* Of two lines, the first names the group of the second's key. */
@@ -150,29 +150,29 @@ static void finds_words(void)
 /* What else is known of a line. */
 typedef struct {
     uint64_t count;
-    bool flags[4];
+    bool flags[5];
 } Known;
 
-static uint32_t program_known(const char *name, const char *first, const char *second, const Known *line, bool *has_none)
+static uint32_t program_known(const char *name, const char *first, const char *second, const Known *line, bool *has_none, bool *is_homeless)
 {
-    return dconfdb_program_of(name, strlen(name), first, strlen(first), second, strlen(second), line, has_none);
+    return dconfdb_program_of(name, strlen(name), first, strlen(first), second, strlen(second), line, has_none, is_homeless);
 }
 
 /* The program of three words, the last of them a path or not. */
 static uint32_t program_of(const char *name, const char *first, const char *second, uint64_t count, bool is_path, bool has_blame, bool is_noted)
 {
-    const Known line = {count, {is_path, has_blame, is_noted, true}};
-    bool has_none = true;
-    uint32_t program = program_known(name, first, second, &line, &has_none);
-    return has_none ? UINT32_MAX : program;
+    const Known line = {count, {is_path, has_blame, is_noted, true, false}};
+    bool has_none = true, is_homeless = true;
+    uint32_t program = program_known(name, first, second, &line, &has_none, &is_homeless);
+    return has_none || is_homeless ? UINT32_MAX : program;
 }
 
-/* Where the environment doesn't count. */
-static bool is_bare(uint64_t count)
+/* Where the environment doesn't count, or the store may be in the user's home. */
+static bool is_bare(uint64_t count, bool counts, bool is_at_home)
 {
-    const Known line = {count, {true, true, true, false}};
-    bool has_none = false;
-    return program_known("dconf", "load", "", &line, &has_none) == 0 && has_none;
+    const Known line = {count, {true, true, true, counts, is_at_home}};
+    bool has_none = counts, is_homeless = false;
+    return program_known("dconf", "read", "", &line, &has_none, &is_homeless) == 0 && has_none == !counts && is_homeless;
 }
 
 static void finds_line(void)
@@ -181,12 +181,13 @@ static void finds_line(void)
     is_so(program_of("dconf", "watch", "/", 3, true, false, false) == 5 && program_of("dconf", "watch", "/", 3, false, true, true) == 0, "DconfdbCommandLine");
     is_so(program_of("dconf", "blame", "", 2, false, true, false) == 6 && program_of("dconf", "blame", "", 2, true, false, true) == 0, "DconfdbCommandLine");
     is_so(program_of("dconf", "load", "", 2, false, false, true) == 7 && program_of("dconf", "load", "", 2, true, true, false) == 0, "DconfdbCommandLine");
-    is_so(is_bare(2), "DconfdbCommandLine");
+    is_so(is_bare(2, false, false) && is_bare(2, true, true), "DconfdbCommandLine");
     lies("DconfdbCommandLine", "count", 0, WORD);
     lies("DconfdbCommandLine", "is_path", 8, FLAG);
     lies("DconfdbCommandLine", "has_blame", 9, FLAG);
     lies("DconfdbCommandLine", "is_noted", 10, FLAG);
     lies("DconfdbCommandLine", "counts", 11, FLAG);
+    lies("DconfdbCommandLine", "is_at_home", 12, FLAG);
     printf("TAKES(DconfdbCommandLine, %d);\n", 16);
 }
 

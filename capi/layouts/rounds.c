@@ -154,14 +154,15 @@ static void finds_sync(void)
 
 enum { GLANCE_FIRST = 0, GLANCE_SECOND = 4, GLANCE_FLAGS = 8, GLANCE_IS_OPEN = 8, GLANCE_KEEPS_PROFILE = 9, GLANCE_IS_DONE = 10,
        GLANCE_IS_SHOWN = 11, GLANCE_IS_OTHER = 12, GLANCE_WAITS = 13, GLANCE_HAS_SAME_FILES = 14, GLANCE_IS_BARRED = 15, GLANCE_IS_AMID = 16,
-       GLANCE_IS_LATE = 17, GLANCE_IS_TO_SETTLE = 18, GLANCE_WAS_UNSEEN = 19, GLANCE_IS_UNSEEN = 20, GLANCE_IS_READING = 21, GLANCE = 24 };
+       GLANCE_IS_LATE = 17, GLANCE_IS_TO_SETTLE = 18, GLANCE_WAS_UNSEEN = 19, GLANCE_IS_UNSEEN = 20, GLANCE_IS_READING = 21, GLANCE_IS_FIRST = 22,
+       GLANCE = 24 };
 
 static bool is_next(uint32_t task, uint32_t first, uint32_t second, unsigned fields, uint32_t next)
 {
     _Alignas(16) uint8_t known[GLANCE] = {0};
     memcpy(known + GLANCE_FIRST, &first, NUMBER);
     memcpy(known + GLANCE_SECOND, &second, NUMBER);
-    for (int i = 0; i < GLANCE_IS_READING + 1 - GLANCE_FLAGS; i++)
+    for (int i = 0; i < GLANCE_IS_FIRST + 1 - GLANCE_FLAGS; i++)
         known[GLANCE_FLAGS + i] = fields >> i & 1;
     return dconfdb_glance_after(task, known) == next;
 }
@@ -169,12 +170,13 @@ static bool is_next(uint32_t task, uint32_t first, uint32_t second, unsigned fie
 static void finds_glance(void)
 {
     enum { IS_OPEN = 1, KEEPS = 2, IS_DONE = 4, IS_SHOWN = 8, IS_OTHER = 16, SETS_WAIT = 32, SAME_FILES = 64, BARRED = 128, AMID = 256, LATE = 512,
-           SETTLES = 1024, WAS_UNSEEN = 2048, IS_UNSEEN = 4096, READS = 8192 };
+           SETTLES = 1024, WAS_UNSEEN = 2048, IS_UNSEEN = 4096, READS = 8192, NONE_BEFORE = 16384 };
     is_so(is_next(0, 0, 0, 0, 2) && is_next(0, 0, 0, IS_OPEN, 1) && is_next(0, 2, 0, IS_OPEN, 3), "DconfdbGlance");
     is_so(is_next(0, 2, 1, IS_OPEN | KEEPS, 1) && is_next(0, 0, 0, KEEPS, 2), "DconfdbGlance");
     is_so(is_next(0, 2, 1, IS_OPEN, 2) && is_next(1, 0, 0, IS_OPEN | IS_DONE, 4), "DconfdbGlance");
     is_so(is_next(1, 0, 0, IS_OPEN | IS_DONE | IS_SHOWN, 9) && is_next(1, 0, 0, IS_OPEN | IS_SHOWN, 4), "DconfdbGlance");
     is_so(is_next(4, 0, 0, IS_OTHER, 10) && is_next(4, 0, 0, SETS_WAIT, 10) && is_next(4, 0, 0, IS_OTHER | SETS_WAIT, 5), "DconfdbGlance");
+    is_so(is_next(4, 0, 0, IS_OTHER | SETS_WAIT | NONE_BEFORE, 10), "DconfdbGlance");
     is_so(is_next(5, 2, 0, IS_OPEN | IS_DONE, 6) && is_next(5, 2, 0, IS_OPEN | IS_DONE | SAME_FILES, 9), "DconfdbGlance");
     is_so(is_next(6, 0, 0, IS_DONE | SETTLES, 7) && is_next(6, 0, 0, SETTLES, 10), "DconfdbGlance");
     is_so(is_next(0, 0, 0, BARRED, 8) && is_next(0, 0, 0, BARRED | LATE, 10) && is_next(0, 0, 0, BARRED | AMID, 4) && is_next(0, 0, 0, AMID, 2), "DconfdbGlance");
@@ -196,6 +198,7 @@ static void finds_glance(void)
     lies("DconfdbGlance", "was_unseen", GLANCE_WAS_UNSEEN, FLAG);
     lies("DconfdbGlance", "is_unseen", GLANCE_IS_UNSEEN, FLAG);
     lies("DconfdbGlance", "is_reading", GLANCE_IS_READING, FLAG);
+    lies("DconfdbGlance", "is_first", GLANCE_IS_FIRST, FLAG);
     printf("TAKES(DconfdbGlance, %d);\n", GLANCE);
 }
 

@@ -96,7 +96,8 @@ static void hand_out(Engine *self, Looking *it)
 {
     g_mutex_lock(&self->lock);
     it->after = self->store ? dconfdb_store_snapshot(self->store) : NULL;
-    it->known.is_other = it->before && it->before != it->after;
+    it->known.is_first = !it->before;
+    it->known.is_other = it->before != it->after;
     it->known.waits = self->waiting || self->flying;
     g_mutex_unlock(&self->lock);
 }

@@ -207,7 +207,7 @@ void notice_others(Engine *self)
                      self->writing ? dconf_changeset_ref(self->writing) : NULL};
     self->told = others.now ? dconfdb_snapshot_ref(others.now) : NULL;
     g_mutex_unlock(&self->lock);
-    DconfdbTelling telling = {.is_first = false, .is_other = others.now && others.before != others.now, .has_rights = true};
+    DconfdbTelling telling = {.is_other = others.before != others.now, .is_unseen = !others.now, .has_rights = true};
     while (tell_next_list(&telling) != DCONFDB_TELL_OVER)
         tell_list(&teller, &others, others.before, others.now, &telling);
     g_clear_pointer(&others.own, dconf_changeset_unref);

@@ -204,6 +204,7 @@ gboolean engine_change_sync(Engine *engine, DConfChangeset *changes, gchar **tag
     self.known.is_empty = dconf_changeset_is_empty(changes);
     self.known.is_refused = !self.known.is_empty && is_refused(&self);
     self.known.has_store = engine_store(engine, &self.fault);
+    self.known.has_user = engine_has_user(engine);
     gboolean is_done = answer(make(&self), &self.fault, error);
     if (is_done && tag)
         *tag = self.tag ? g_steal_pointer(&self.tag) : g_strdup("");

@@ -119,19 +119,17 @@ static bool say_of(DconfdbError *error, uint32_t number, const DconfdbSentence *
 }
 
 /* Each sentence has a form. */
-static bool say(DconfdbError *error, const DconfdbFaultMet *met, const DconfdbSentence *it, const Named *of)
+static bool say_by_form(DconfdbError *error, const DconfdbFaultMet *met, const DconfdbSentence *it, const Named *of)
 {
     DconfdbErrorCode code = (DconfdbErrorCode)it->code;
     Place place = it->is_placed ? of->place : nowhere;
     int fault = (int)it->errnum;
     const char *name = of->names[it->names];
     switch (it->says) {
-    case DCONFDB_SAYS_NOTHING: return true;
-    case DCONFDB_SAYS_ALREADY: return false;
     case DCONFDB_SAYS_SYSTEM: return refuse(error, code, fault, place, "%s: %s", name, words_of(fault).text);
     case DCONFDB_SAYS_EITHER:
     case DCONFDB_SAYS_UNSETTLED:
-    case DCONFDB_SAYS_UNSYNCED: refuse(error, code, fault, place, "%s: %s: %s", name, phrases[it->says], words_of(fault).text); break;
+    case DCONFDB_SAYS_UNSYNCED: return refuse(error, code, fault, place, "%s: %s: %s", name, phrases[it->says], words_of(fault).text);
     case DCONFDB_SAYS_BUSY: return refuse(error, code, fault, place, "%s: others have been changing it for %u ms", name, (unsigned)met->wait);
     case DCONFDB_SAYS_NUMBER: return refuse(error, code, fault, place, "%s: fault %u", name, (unsigned)met->number);
     case DCONFDB_SAYS_NO_MEMORY:
@@ -143,6 +141,13 @@ static bool say(DconfdbError *error, const DconfdbFaultMet *met, const DconfdbSe
     case DCONFDB_SAYS_NO_KIND: return refuse(error, code, fault, place, "%s: %s", name, phrases[it->says]);
     default: return say_of(error, met->number, it, of);
     }
+}
+
+static bool say(DconfdbError *error, const DconfdbFaultMet *met, const DconfdbSentence *it, const Named *of)
+{
+    if (it->says == DCONFDB_SAYS_NOTHING || it->says == DCONFDB_SAYS_ALREADY)
+        return it->says == DCONFDB_SAYS_NOTHING;
+    say_by_form(error, met, it, of);
     if (error)
         error->outcome = (DconfdbOutcome)it->outcome;
     return false;

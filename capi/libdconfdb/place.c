@@ -121,7 +121,7 @@ static bool find_kind(Asked *asked, bool *is_dconfs)
 static bool has_kind(Asked *asked, StorePlace *place, DconfdbError *error)
 {
     return find_kind(asked, &place->is_dconfs) ||
-           refuse_place(error, DCONFDB_FAULT_OF_KIND, asked->fault, machine_file, (Place){.line = asked->fault == 0});
+           refuse_place(error, DCONFDB_FAULT_OF_KIND, asked->fault, machine_file, (Place){.line = 1});
 }
 
 bool place_kind(bool *is_dconfs, const char **file, int *fault)

@@ -89,6 +89,16 @@ uint32_t dconfdb_standing(uint32_t purpose, const DconfdbStood *stood, uint32_t 
     return standing_given(purpose, stood, fault);
 }
 
+bool dconfdb_is_one_file(const DconfdbFileStamp *one, const DconfdbFileStamp *other)
+{
+    return is_one_file_given(one, other);
+}
+
+void dconfdb_placed(const DconfdbFileStamp *named, DconfdbFileStamp *made)
+{
+    placed_given(named, made);
+}
+
 uint32_t dconfdb_settling_after(uint32_t task, bool yes, const DconfdbSettling *known)
 {
     return settling_given(task, yes, known);

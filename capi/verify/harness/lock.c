@@ -40,7 +40,12 @@ int pthread_atfork(void (*before)(void), void (*after)(void), void (*child)(void
     return is_heeded ? 0 : ENOMEM;
 }
 
-/* ---- folders.c is checked by itself */
+/* ---- files.c and folders.c are checked by themselves */
+
+FileState file_state_of(const struct stat *found)
+{
+    return (FileState){.device = found->st_dev, .inode = found->st_ino, .is_there = true};
+}
 
 int folder_open(const char *name, int *opened)
 {
@@ -185,7 +190,9 @@ static void is_listed_then(Kind kind)
 static void is_well_done(uint32_t task, const Awaited *it)
 {
     if (task == DCONFDB_TAKING_OPEN_FOLDER) {
-        CHECK(is_heeded || (it->taking.task == DCONFDB_TAKING_NOT_HAD && it->taking.fault == ENOMEM), "answer: where children of fork() can't be heeded nothing is locked");
+        bool has_failed = it->taking.task == DCONFDB_TAKING_NOT_HAD && it->taking.fault == (asking == getpid() ? EAGAIN : ENOMEM);
+        CHECK(is_heeded || has_failed || (asking == getpid() && it->taking.task == DCONFDB_TAKING_OPEN_FOLDER),
+              "answer: where children of fork() can't be heeded nothing is locked, and where another thread asks for it all is tried again");
         CHECK(unheeded == (is_heeded ? 0 : ENOMEM), "answer: whether they are is known");
     }
     if (task == DCONFDB_TAKING_OPEN && was_done(OPENAT)) {

@@ -159,7 +159,7 @@ int exchange(void)
     uint32_t answer = dconfdb_fault_answer(DCONFDB_CALL_PLACE, (uint32_t)fault, &renamed);
     CHECK(count_of[UNLINKAT] == 0 || answer != DCONFDB_ANSWER_UNSURE, "step: nothing is removed that may be the old file");
     CHECK(fault == 0 || count_of[RENAMEAT2] != 2 || (count_of[UNLINKAT] == 1) == renamed.goes, "step: what is surely the new file's is removed");
-    CHECK(file_is_one(&before, &state), "answer: the state is of the new file");
+    CHECK(dconfdb_is_one_file(&before, &state), "answer: the state is of the new file");
     CHECK(count_of[FSTATAT] == 0 || (fault == 0 && when_of[FSTATAT] > when_of[RENAMEAT2] && last[FSTATAT].name == name), "order: its state is of after");
     if (fault == 0)
         REACHED("they changed places");
@@ -177,7 +177,7 @@ int rename_(void)
     CHECK(count_of[RENAMEAT] == 1 && when_of[RENAMEAT] == 1 && call->file == folder && call->name == it.new_name && call->other == name, "step: NAME.new becomes NAME, by one call");
     CHECK(calls == 1 + count_of[FSTATAT] && count_of[FSTATAT] == (fault == 0), "step: and then it is looked at, and nothing else");
     CHECK(fault == call->fault, "answer: the fault of the rename");
-    CHECK(file_is_one(&before, &state), "answer: the state is of the new file");
+    CHECK(dconfdb_is_one_file(&before, &state), "answer: the state is of the new file");
     REACHED("a rename");
     end();
     return 0;

@@ -200,6 +200,20 @@ static void compare_rounds(void)
     }
 }
 
+/* Of files that differ in each of what tells them apart, and in what doesn't. */
+static void compare_files(void)
+{
+    for (uint32_t i = 0; i < 256; i++) {
+        const DconfdbFileStamp one = {.device = 1, .inode = 1, .size = 1, .is_there = i & 1};
+        const DconfdbFileStamp other = {.device = i >> 1 & 1, .inode = i >> 2 & 1, .size = i >> 3 & 1, .touched = {i >> 4 & 1, i >> 5 & 1}, .is_there = i & 64};
+        DconfdbFileStamp made = one, given = one;
+        dconfdb_placed(&other, &made);
+        placed_given(&other, &given);
+        if (dconfdb_is_one_file(&one, &other) != is_one_file_given(&one, &other) || made.size != given.size || made.touched.seconds != given.touched.seconds)
+            fail("placed", "another file than is given");
+    }
+}
+
 static void compare_looks(void)
 {
     for (uint32_t i = 0; i < 128; i++) {
@@ -219,4 +233,5 @@ void compare_answers(void)
     compare_served();
     compare_rounds();
     compare_looks();
+    compare_files();
 }

@@ -244,16 +244,32 @@ static inline void taking_made(DconfdbTaking *taking, uint32_t fault)
         taking_failed(taking, fault);
 }
 
-static inline void taking_listed(DconfdbTaking *taking, uint32_t fault)
+static inline void taking_forked(DconfdbTaking *taking)
 {
-    if (fault == 0) {
-        taking->task = DCONFDB_TAKING_LOCK;
-    } else if (taking->forks + 1 < MOST_FORKS) {
+    if (taking->forks + 1 < MOST_FORKS) {
         taking->forks++;
         taking->task = DCONFDB_TAKING_OPEN_FOLDER;
     } else {
         taking_over(taking, DCONFDB_TAKING_NOT_HAD, DCONFDB_TRIED_LOCK, 11);
     }
+}
+
+static inline void taking_listed(DconfdbTaking *taking, uint32_t fault)
+{
+    if (fault == 0)
+        taking->task = DCONFDB_TAKING_LOCK;
+    else
+        taking_forked(taking);
+}
+
+static inline void taking_in_folder(DconfdbTaking *taking, uint32_t fault)
+{
+    if (fault == 0)
+        taking_opens(taking, 0);
+    else if (fault == 11)
+        taking_forked(taking);
+    else
+        taking_failed(taking, fault);
 }
 
 static inline void taking_opened(DconfdbTaking *taking, const DconfdbStood *stood)
@@ -285,7 +301,7 @@ static inline void taking_given(DconfdbTaking *taking, const DconfdbStood *stood
 {
     uint32_t fault = stood->fault;
     switch (taking->task) {
-    case DCONFDB_TAKING_OPEN_FOLDER: fault == 0 ? taking_opens(taking, 0) : taking_failed(taking, fault); break;
+    case DCONFDB_TAKING_OPEN_FOLDER: taking_in_folder(taking, fault); break;
     case DCONFDB_TAKING_MAKE_FOLDER:
         if (fault != 0) {
             taking_over(taking, DCONFDB_TAKING_NOT_HAD, DCONFDB_TRIED_LOCK_FILE, fault);
@@ -324,6 +340,17 @@ static inline void taking_given(DconfdbTaking *taking, const DconfdbStood *stood
 }
 
 /* ---- the others */
+
+static inline bool is_one_file_given(const DconfdbFileStamp *one, const DconfdbFileStamp *other)
+{
+    return one->is_there && other->is_there && one->device == other->device && one->inode == other->inode;
+}
+
+static inline void placed_given(const DconfdbFileStamp *named, DconfdbFileStamp *made)
+{
+    if (is_one_file_given(made, named))
+        *made = *named;
+}
 
 /* What is asked of whether the user's file is on the disk. */
 static inline uint32_t settling_given(uint32_t task, bool yes, const DconfdbSettling *known)

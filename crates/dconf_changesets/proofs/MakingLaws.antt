@@ -5,7 +5,7 @@ use Rattle.dconf_changesets.specs.declared.making.ChangeKnown.{ChangeKnown}
 use Rattle.dconf_changesets.specs.declared.making.ChangeTask.{ChangeTask}
 use Rattle.dconf_changesets.specs.declared.making.ChangeTask.TheVariants.{Before, Settle, Put, Others, Tell, GiveUp, Made, Refused, Failed}
 use Rattle.dconf_changesets.specs.declared.making.Tried.{Tried}
-use Rattle.dconf_changesets.specs.Making.{Answers, IsSo, IsToldInOrder, MadeMeansOnTheDisk, OthersAreToldFirst, WhatIsLostIsToldAgain, closed_by, fails_by, given_up, has_place, is_made, is_said, is_unmade, puts, refuses, said_at_last}
+use Rattle.dconf_changesets.specs.Making.{Answers, IsSo, IsToldInOrder, MadeMeansOnTheDisk, OthersAreToldFirst, WhatIsLostIsToldAgain, closed_by, fails_by, given_up, has_place, is_made, is_said, is_unmade, puts, refuses, said_at_last, stopped_by}
 
 abbrev answers : Bool → Bool → Bool → Answers
 answers before settled put = record { before = before; settled = settled; put = put }
@@ -25,7 +25,7 @@ known is_empty is_refused has_store has_user is_there is_left is_news is_watched
 
 abbrev said_of : ChangeKnown → Answers → ChangeTask
 said_of k a =
-    if k.is_empty then Made else if refuses k then Refused else if not a.before then fails_by k else
+    if k.is_empty then Made else if refuses k then Refused else if not a.before then stopped_by k else
     if not (has_place k) then closed_by k else if is_made a k then Made else fails_by k
 
 -- what is known, and what the tasks answer
@@ -33,11 +33,10 @@ said_by : (e r h u t l n w v b s p : Bool) →
     said_at_last (answers b s p) (known e r h u t l n w v) ≡ said_of (known e r h u t l n w v) (answers b s p)
 said_by true r h u t l n w v b s p = refl
 said_by false true true u t l n w v b s p = refl
-said_by false r false u t l n w true false s p = refl
-said_by false r false u t l n w false false s p = refl
+said_by false r false u t l n w v false s p = refl
 said_by false r false u t l n w v true s p = refl
-said_by false false true u t l n w true false s p = refl
-said_by false false true u t l n w false false s p = refl
+said_by false false true true t l n w v false s p = refl
+said_by false false true false t l n w v false s p = refl
 said_by false false true false t l n w v true s p = refl
 said_by false false true true false false false w v true s p = refl
 said_by false false true true false false true false v true s p = refl
@@ -72,10 +71,14 @@ abbrev is_tell : ChangeTask → Bool
 is_tell Tell = true
 is_tell _ = false
 
--- how a change fails, or finds no place
+-- how a change fails, is stopped, or finds no place
 fails : (is_barred : Bool) → is_tell (if is_barred then Refused else Failed) ≡ false
 fails true = refl
 fails false = refl
+
+stops : (place has_store : Bool) → is_tell (if place then Failed else if has_store then Refused else Failed) ≡ false
+stops true has_store = refl
+stops false has_store = fails has_store
 
 gives_up : (place has_store refused : Bool) →
     is_tell (if place then (if refused then Refused else Failed) else if has_store then Refused else Failed) ≡ false
@@ -125,7 +128,7 @@ untold Failed f e = let bad : Failed ≡ Tell = e in cc
 
 in_order : (task : ChangeTask) (is_so : Bool) (k : ChangeKnown) → IsToldInOrder task is_so k
 in_order Before false k = record {
-  new = λ e. absurd (untold (fails_by k) (fails k.is_barred) e);
+  new = λ e. absurd (untold (stopped_by k) (stops (has_place k) k.has_store) e);
   own = λ e. refl;
   over = λ e. refl;
 }

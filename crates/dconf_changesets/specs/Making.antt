@@ -24,6 +24,10 @@ begins_with k = if k.is_empty then Made else if refuses k then Refused else Befo
 abbrev pub fails_by : ChangeKnown → ChangeTask
 fails_by k = if k.is_barred then Refused else Failed
 
+-- What was asked for before is not written: a key of that may be locked, which is nothing that is said of this one.
+abbrev pub stopped_by : ChangeKnown → ChangeTask
+stopped_by k = if has_place k then Failed else closed_by k
+
 -- there is no place for it, or it failed
 abbrev pub given_up : ChangeKnown → ChangeTask
 given_up k = if has_place k then fails_by k else closed_by k
@@ -38,7 +42,7 @@ tells k = k.is_news && k.is_watched
 -- once the first tasks were done, or were not due; and by the answer to the last one
 abbrev pub change_after : ℕ → Bool → ChangeKnown → ChangeTask
 change_after done is_so k =
-    if nat_lt done 1 then begins_with k else if done == 1 && not is_so then fails_by k else if done == 6 then given_up k else
+    if nat_lt done 1 then begins_with k else if done == 1 && not is_so then stopped_by k else if done == 6 then given_up k else
     if (done == 3 && not is_so) || (nat_lt done 2 && not (has_place k)) then GiveUp else
     if nat_lt done 2 && k.is_there then Settle else if nat_lt done 3 && puts done is_so k then Put else
     if nat_lt done 4 then Others else if nat_lt done 5 && tells k then Tell else Made
@@ -92,12 +96,12 @@ said_at_last a k = goes_on 5 a k (change_after 0 true k)
 abbrev pub is_made : Answers → ChangeKnown → Bool
 is_made a k = has_place k && ((k.is_there && a.settled) || (not k.is_left || a.put))
 
--- It is made exactly if all of it is on the disk, after what was asked for before it; and else dconf says why: it is refused where a key may
--- not be written, or nothing may.
+-- It is made exactly if all of it is on the disk, after what was asked for before it; and else dconf says why: it is refused where a key of it
+-- may not be written, or nothing may.
 abbrev pub MadeMeansOnTheDisk : Type 0
 MadeMeansOnTheDisk =
     (a : Answers) (k : ChangeKnown) →
-    said_at_last a k ≡ (if k.is_empty then Made else if refuses k then Refused else if not a.before then fails_by k else
+    said_at_last a k ≡ (if k.is_empty then Made else if refuses k then Refused else if not a.before then stopped_by k else
     if not (has_place k) then closed_by k else if is_made a k then Made else fails_by k)
 
 -- what the change says is there, or was never put

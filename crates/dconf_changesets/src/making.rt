@@ -1,6 +1,6 @@
 //! What becomes of a change whose caller waits for it.
 ghost use Rattle.std.specs.Prelude.{◌≡◌};
-ghost use Rattle.dconf_changesets.specs.Making.{begins_with, change_after, change_number, closed_by, fails_by, given_up, has_place, is_unmade, puts, tells, waits_again};
+ghost use Rattle.dconf_changesets.specs.Making.{begins_with, change_after, change_number, closed_by, fails_by, given_up, has_place, is_unmade, puts, stopped_by, tells, waits_again};
 
 /// What comes next, in this order.
 #[derive(Clone, Copy)]
@@ -25,7 +25,7 @@ pub enum ChangeTask {
     Failed,
 }
 
-/// What is known; but for the first two, and whether there is a store, from when all is written that was asked for before.
+/// What is known; but for the first four from when all is written that was asked for before.
 #[repr(C)]
 #[derive(Clone, Copy)]
 pub struct ChangeKnown {
@@ -57,7 +57,7 @@ pub fn change_after(done: u32, is_so: bool, known: &ChangeKnown) -> ChangeTask
         return begins_with(known);
     }
     if done == 1 && !is_so {
-        return fails_by(known);
+        return stopped_by(known);
     }
     if done == 6 {
         return given_up(known);
@@ -134,6 +134,16 @@ fn closed_by(known: &ChangeKnown) -> ChangeTask
         return ChangeTask::Refused;
     }
     ChangeTask::Failed
+}
+
+/// What is said where what was asked for before is not written: why that isn't is nothing that is said of this one.
+fn stopped_by(known: &ChangeKnown) -> ChangeTask
+    ensures { result ≡ stopped_by known.now }
+{
+    if has_place(known) {
+        return ChangeTask::Failed;
+    }
+    closed_by(known)
 }
 
 /// What is said of a change that was given up: there is no place for it, or it failed.

@@ -1,5 +1,5 @@
 -- What a program is told of a fault: which sentence, with which code and errno, and which file that names.
-use Rattle.std.specs.Prelude.{ℕ, Bool, true, false, ◌&&◌, ◌||◌, if◌then◌else◌, ◌==◌, nat_le}
+use Rattle.std.specs.Prelude.{ℕ, Bool, true, false, not, ◌&&◌, ◌||◌, if◌then◌else◌, ◌==◌, nat_le}
 use Rattle.dconf_verdicts.specs.declared.told.Told.{Told}
 use Rattle.dconf_verdicts.specs.declared.told.Told.TheVariants as told
 use Rattle.dconf_verdicts.specs.Errnos.{file_told, lock_told}
@@ -159,9 +159,16 @@ named_for Edits says f = if f.has_edit then 3 else users_name f
 named_for Expected says f = 3
 named_for what says f = 0
 
-abbrev pub is_placed : Says → Bool
-is_placed NoMemory = false
-is_placed says = true
+-- the fault of a file that can't be read is none of a line
+abbrev pub has_lines : FaultOf → Bool
+has_lines Kind = true
+has_lines what = false
+
+abbrev pub is_placed : Says → FaultOf → Bool
+is_placed NoMemory of = false
+is_placed System of = not (has_lines of)
+is_placed TooBig of = not (has_lines of)
+is_placed says of = true
 
 abbrev pub says_number : Says → ℕ
 says_number Nothing = 0
@@ -197,5 +204,5 @@ sentence_of f = record {
   errno = errno_of (says_of f) f;
   outcome = outcome_of (says_of f) f;
   names = named_for (fault_of f.of) (says_of f) f;
-  is_placed = is_placed (says_of f);
+  is_placed = is_placed (says_of f) (fault_of f.of);
 }

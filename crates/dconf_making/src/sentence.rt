@@ -128,7 +128,7 @@ pub fn sentence_of(met: &FaultMet) -> Sentence
         errno: errno_of(says, met),
         outcome: outcome_of(says, met),
         names: named_for(of, says, met),
-        is_placed: is_placed(says),
+        is_placed: is_placed(says, of),
     }
 }
 
@@ -372,11 +372,15 @@ fn users_name(met: &FaultMet) -> u32
     if met.has_user { 0 } else { 2 }
 }
 
-/// Of no memory it isn't told where it was lacking.
-fn is_placed(says: Says) -> bool
-    ensures { result ≡ is_placed says }
+/// Of no memory it isn't told where it was lacking; and what is in the one line of the machine's file is not known if that can't be read.
+fn is_placed(says: Says, of: FaultOf) -> bool
+    ensures { result ≡ is_placed says of }
 {
-    !matches!(says, Says::NoMemory)
+    match says {
+        Says::NoMemory => false,
+        Says::System | Says::TooBig => !matches!(of, FaultOf::Kind),
+        _ => true,
+    }
 }
 
 /// The same in numbers, in this order.

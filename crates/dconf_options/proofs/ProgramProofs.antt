@@ -1,8 +1,8 @@
 -- What holds of the program that a command line is for.
 use Rattle.std.proofs.Common.{ℕ, List, ◌≡◌, ◌≢◌, ◌<◌, Bool, true, false, refl, nat_lt, arith}
-use Rattle.std.specs.Prelude.{codes, ◌&&◌, ◌==◌, if◌then◌else◌}
+use Rattle.std.specs.Prelude.{codes, not, ◌&&◌, ◌||◌, ◌==◌, if◌then◌else◌}
 use Rattle.std.specs.Str.{bytes_eq}
-use Rattle.dconf_options.specs.Programs.{OneProgramRuns, changes, dconfs_program, helped, is_dconf, is_proved, own_program, program_of}
+use Rattle.dconf_options.specs.Programs.{OneProgramRuns, asks_home, changes, dconfs_program, forgets, helped, is_dconf, is_proved, own_program, program_of}
 use Rattle.dconf_options.specs.declared.programs.Line.{Line}
 use Rattle.dconf_options.specs.declared.programs.Program.{Program}
 
@@ -109,11 +109,20 @@ other name first second k w b l h =
     (dconfs_proved (k.count == 3) (bytes_eq first (codes "watch")) k.is_path (k.count == 2) (bytes_eq first (codes "blame")) k.has_blame (k.counts && k.is_noted) (changes first) w b)
     (own_proved (bytes_eq first (codes "watch")) (bytes_eq first (codes "lint")) w l) h
 
+-- ---- who has none of the variables
+
+bare : (is at counts : Bool) → is && not counts ≡ true → is && (at || not counts) ≡ true
+bare true at true e = absurd (let bad : false ≡ true = e in cc)
+bare true true false e = refl
+bare true false false e = refl
+bare false at counts e = absurd (let bad : false ≡ true = e in cc)
+
 pub one_program_runs : OneProgramRuns
 one_program_runs name first second k =
     record {
       noted = λ n. noted name first second k (unasked k.counts k.is_noted n);
       uncounted = λ c. noted name first second k (unheard k.counts k.is_noted c);
+      bare = bare (is_proved (program_of name first second k)) k.is_at_home k.counts;
       none = none name first second k;
       other = other name first second k;
     }

@@ -63,6 +63,10 @@ is_proved DconfBlame = false
 abbrev pub forgets : Program → Line → Bool
 forgets program k = is_proved program && not k.counts
 
+-- The proved one can't ask the system for the user's home, and another does so before: where the store may be in it, as it is where no variable counts.
+abbrev pub asks_home : Program → Line → Bool
+asks_home program k = is_proved program && (k.is_at_home || not k.counts)
+
 -- ---- the law
 
 pub record IsRunByOne (name first second : List ℕ) (k : Line) : Type 0 where
@@ -70,6 +74,8 @@ pub record IsRunByOne (name first second : List ℕ) (k : Line) : Type 0 where
   pub noted : k.is_noted ≡ false → program_of name first second k ≢ Noted
   -- by an environment that counts
   pub uncounted : k.counts ≡ false → program_of name first second k ≢ Noted
+  -- and who has none of the variables is told of the home
+  pub bare : forgets (program_of name first second k) k ≡ true → asks_home (program_of name first second k) k ≡ true
   -- and what has no word, or a word of neither, is the proved program's
   pub none : k.count < 2 → program_of name first second k ≡ Proved
   pub other : bytes_eq first (codes "watch") ≡ false → bytes_eq first (codes "blame") ≡ false → bytes_eq first (codes "lint") ≡ false →

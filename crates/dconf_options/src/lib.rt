@@ -14,14 +14,14 @@ mod words;
 
 pub use options::{OptionsRead, Said, Taken, option_after, options_end, said_number};
 pub use placing::{Placing, placing_number, placing_of};
-pub use programs::{Line, Program, forgets, program_number, program_of};
+pub use programs::{Line, Program, asks_home, forgets, program_number, program_of};
 
 /// `--store FOLDER` is `--store=FOLDER`, a word behind `--` is a name, and one that begins as an option never is; and `watch` has one name.
 pub fn no_word_is_lost()
     ensures { NoWordIsLost }
 {}
 
-/// Nobody is noted who didn't ask for it, by an environment that counts. What is for neither `watch` nor `lint`, nor, of dconf, for `blame`, and asks for no help is the proved
+/// Nobody is noted who didn't ask for it, by an environment that counts; and who is run without an environment is told of the user's home. What is for neither `watch` nor `lint`, nor, of dconf, for `blame`, and asks for no help is the proved
 /// program's.
 pub fn one_program_runs()
     ensures { OneProgramRuns }

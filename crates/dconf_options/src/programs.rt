@@ -1,6 +1,6 @@
 //! Which program a command line is for.
 ghost use Rattle.std.specs.Prelude.{◌≡◌};
-ghost use Rattle.dconf_options.specs.Programs.{changes, dconfs_program, forgets, helped, is_dconf, is_proved, own_program, program_number, program_of};
+ghost use Rattle.dconf_options.specs.Programs.{asks_home, changes, dconfs_program, forgets, helped, is_dconf, is_proved, own_program, program_number, program_of};
 
 /// A program, and what it is handed.
 #[derive(Clone, Copy)]
@@ -34,6 +34,8 @@ pub struct Line {
     pub is_noted: bool,
     /// The environment counts: the program hasn't more rights than whoever started it.
     pub counts: bool,
+    /// By the environment the store may be in the home that the system has for the user.
+    pub is_at_home: bool,
 }
 
 /// By the program's name and the two words after it, each empty where there is none.
@@ -57,6 +59,13 @@ pub fn forgets(program: Program, line: &Line) -> bool
     ensures { result ≡ forgets program line.now }
 {
     is_proved(program) && !line.counts
+}
+
+/// Whether the program is the proved one that asks the system for that home first: without the variables of a store nothing else says where it is.
+pub fn asks_home(program: Program, line: &Line) -> bool
+    ensures { result ≡ asks_home program line.now }
+{
+    is_proved(program) && (line.is_at_home || !line.counts)
 }
 
 fn is_proved(program: Program) -> bool

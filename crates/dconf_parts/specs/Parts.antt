@@ -72,6 +72,10 @@ known_as old now = record old { touched = now.touched }
 abbrev pub known_after : FileStamp → FileStamp → Bool → FileStamp
 known_after old now may = if may then known_as old now else old
 
+-- once it was made and given its name, a file is as what has that name, if that is the file
+abbrev pub placed : FileStamp → FileStamp → FileStamp
+placed made named = if is_one_file made named then named else made
+
 abbrev pub purpose_of : ℕ → Purpose
 purpose_of n = if n == 0 then Keep else if n == 1 then Take else if n == 2 then Tell else Try
 
@@ -97,5 +101,7 @@ pub record WhatIsKeptIsTheSame : Type 0 where
   -- a file that is known otherwise is the one that was read exactly if it was so before; and it is asked of no more
   pub known : (old now : FileStamp) (s : DconfdbPartSeen) → s.is_held ≡ true → said_of (known_as old now) now s ≡ said_of old now s
   pub settled : (old now : FileStamp) → is_same_time (known_as old now).touched now.touched ≡ true
+  -- what is known of a new file is of that file, whatever has its name
+  pub placed : (made named : FileStamp) → made.is_there ≡ true → is_one_file made (placed made named) ≡ true
   -- and no file is kept that is said to be another one
   pub one : (old now : FileStamp) (s : DconfdbPartSeen) → beside Take old now s ≡ Same → is_other (said_of old now s) ≡ false

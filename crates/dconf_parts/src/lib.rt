@@ -12,7 +12,9 @@ mod parts;
 mod several;
 mod sizes;
 
-pub use parts::{DconfdbPartSeen, Likeness, Purpose, beside, beside_number, known_after};
+pub use parts::{
+    DconfdbPartSeen, Likeness, Purpose, beside, beside_number, is_one_file, known_after, placed,
+};
 pub use several::{among, among_number};
 pub use sizes::{Kind, is_mapped, largest, largest_number};
 

@@ -1,7 +1,7 @@
 //! What was made of a file, beside what the file is now.
 ghost use Rattle.std.specs.Prelude.{◌≡◌};
 ghost use Rattle.dconf_files.specs.Stamps.{is_same_time};
-ghost use Rattle.dconf_parts.specs.Parts.{as_tried, beside, beside_number, by_stat, has_same_fault, is_as_read, is_one_file, known_after, known_as, newest, purpose_of, read, same_if};
+ghost use Rattle.dconf_parts.specs.Parts.{as_tried, beside, beside_number, by_stat, has_same_fault, is_as_read, is_one_file, known_after, known_as, newest, placed, purpose_of, read, same_if};
 
 use dconf_files::{FileStamp, FileTime, Sameness, same_file};
 
@@ -161,8 +161,20 @@ fn has_same_fault(seen: &DconfdbPartSeen) -> bool
     seen.code == seen.read_code && seen.errnum == seen.read_errnum
 }
 
+/// The state of a file that was made, once it was given its name: of what has that name now, if that is the file. Another one may have it by now, or
+/// none; then it is as it was made.
+pub fn placed(made: &FileStamp, named: &FileStamp) -> FileStamp
+    ensures { result ≡ placed made.now named.now }
+{
+    if is_one_file(made, named) {
+        *named
+    } else {
+        *made
+    }
+}
+
 /// Whether both are one file, whatever changed of it.
-fn is_one_file(old: &FileStamp, now: &FileStamp) -> bool
+pub fn is_one_file(old: &FileStamp, now: &FileStamp) -> bool
     ensures { result ≡ is_one_file old.now now.now }
 {
     old.is_there && now.is_there && old.device == now.device && old.inode == now.inode

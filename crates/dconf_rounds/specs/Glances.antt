@@ -28,8 +28,9 @@ begins_with k = if refreshes k then Refresh else if opens k then Open else OpenA
 abbrev pub hands : GlanceKnown → Bool
 hands k = not (k.is_done && (k.is_shown && refreshes k))
 
+-- own changes wait, and what was there when they were set is another by now
 abbrev pub heeds : GlanceKnown → Bool
-heeds k = k.is_other && k.waits
+heeds k = not k.is_first && (k.is_other && k.waits)
 
 -- a store was opened, and its files may be others than those that are watched
 abbrev pub watches_anew : GlanceKnown → Bool

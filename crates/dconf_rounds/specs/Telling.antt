@@ -6,9 +6,13 @@ use Rattle.dconf_rounds.specs.declared.telling.TellKnown.{TellKnown}
 use Rattle.dconf_rounds.specs.declared.telling.Telling.{Telling}
 use Rattle.dconf_rounds.specs.declared.telling.Telling.TheVariants.{Nothing, Take, TellAndTake, Tell, All, CatchUp, Rights, Values, Warn, Print, Over}
 
+-- there is something that is the newest, and is another than before
+abbrev pub is_news : TellKnown → Bool
+is_news k = k.is_other && not k.is_unseen
+
 -- nobody has seen anything before, or the program ends, or nothing can be seen otherwise
 abbrev pub is_silent : TellKnown → Bool
-is_silent k = k.is_first || (k.ends || not (k.is_other || k.has_edits))
+is_silent k = k.is_first || (k.ends || not (is_news k || k.has_edits))
 
 -- whoever else tells of the files looks at them first; what may be written is told before what is seen; and faults are told whoever is told of that
 abbrev pub list_after : TellKnown → Telling

@@ -60,6 +60,8 @@ pub struct GlanceKnown {
     pub is_unseen: bool,
     /// Who looks reads a value.
     pub is_reading: bool,
+    /// Nothing was handed out before.
+    pub is_first: bool,
 }
 
 /// What comes next, once the first `done` tasks were done, or were not due.
@@ -173,10 +175,11 @@ fn hands(known: &GlanceKnown) -> bool
     !(known.is_done && (known.is_shown && refreshes(known)))
 }
 
+/// Whether own changes wait, and others changed what was there when they were set: not if nothing was.
 fn heeds(known: &GlanceKnown) -> bool
     ensures { result ≡ heeds known.now }
 {
-    known.is_other && known.waits
+    !known.is_first && (known.is_other && known.waits)
 }
 
 /// What waits counts as there only by files that were read.

@@ -1,7 +1,7 @@
 //! Who is told that something is seen otherwise than before, list by list, and path by path.
 ghost use Rattle.std.specs.Prelude.{◌≡◌};
 ghost use Rattle.dconf_seen.specs.Reading.{known_word};
-ghost use Rattle.dconf_rounds.specs.Telling.{is_silent, list_after, passes_over, tell_next, telling_number};
+ghost use Rattle.dconf_rounds.specs.Telling.{is_news, is_silent, list_after, passes_over, tell_next, telling_number};
 
 use dconf_seen::{Known, found_by, found_number};
 
@@ -65,6 +65,8 @@ pub struct TellKnown {
     pub is_of_files: bool,
     /// There are faults to be told.
     pub has_faults: bool,
+    /// There is nothing that is the newest: no store is open, or nobody is told what is in it.
+    pub is_unseen: bool,
 }
 
 /// What comes next.
@@ -139,10 +141,17 @@ pub fn telling_number(known: &TellKnown) -> u32
     }
 }
 
+/// Whether there is something that is the newest, and is another than before.
+fn is_news(known: &TellKnown) -> bool
+    ensures { result ≡ is_news known.now }
+{
+    known.is_other && !known.is_unseen
+}
+
 fn is_silent(known: &TellKnown) -> bool
     ensures { result ≡ is_silent known.now }
 {
-    known.is_first || (known.ends || !(known.is_other || known.has_edits))
+    known.is_first || (known.ends || !(is_news(known) || known.has_edits))
 }
 
 /// Whether a value of another type was passed over when a setting was read: who asks for any type finds it elsewhere. What is seen of the key

@@ -8,7 +8,7 @@ use Rattle.dconf_verdicts.specs.declared.standing.Standing.TheVariants as standi
 use Rattle.dconf_verdicts.specs.declared.standing.Purpose.TheVariants.{Look, OpenLock, HoldLock}
 use Rattle.dconf_verdicts.specs.Standings.{standing_of}
 use Rattle.dconf_waits.specs.declared.taking.TakingRecord.{TakingRecord}
-use Rattle.dconf_waits.specs.Takings.{above_seen, begun, by_names, by_old, by_removal, failed, file_made, folder_made, folder_opened, is_for_others, listed, locked, moved, opened_anew, over, taken, to}
+use Rattle.dconf_waits.specs.Takings.{above_seen, begun, by_names, by_old, by_removal, failed, file_made, folder_made, folder_opened, forked, is_for_others, listed, locked, moved, opened_anew, over, taken, to}
 use Rattle.dconf_waits.specs.TakingLaws.{Begins, EachTryEnds, EndsIn, is_over}
 
 -- ---- what is left
@@ -98,13 +98,22 @@ later_falls t k next a b c is =
     (λ (x : ℕ). x < 16000 * again_left t.is_again + (1450 * (9 - t.forks) + (1450 * made_left t.has_made + (14 * (99 - t.openings) + (13 - k))))) (sym is)
     (less_place (again_left t.is_again) (9 - t.forks) (made_left t.has_made) (99 - t.openings) (13 - k) (13 - next) (omega (arith, a, b, c))))
 
+forked_falls : (t : TakingRecord) (o p : ℕ)
+    → Falls (16000 * again_left t.is_again + (1450 * (9 - t.forks) + (1450 * made_left t.has_made + (14 * o + p)))) (forked t)
+forked_falls t o p =
+    by_test (nat_lt t.forks 9) _ (record t { task = 1; forks = t.forks + 1 }) (over t 15 1 11)
+    (λ is. (let fewer : t.forks < 9 = ltb-true t.forks 9 is in
+    goes_to _ 1 (record t { task = 1; forks = t.forks + 1 }) refl (omega arith) (omega arith)
+    (less_forked (again_left t.is_again) (9 - t.forks) (9 - (t.forks + 1)) (made_left t.has_made) o p (omega (arith, fewer)))))
+    (λ is. inl refl)
+
 -- ---- the tasks
 
 opened_falls : (t : TakingRecord) (fault : ℕ) → Falls (left_at 1 t) (folder_opened t fault)
 opened_falls t fault =
-    by_test (fault == 0) _ (record t { task = 3; openings = 0 }) (failed t fault)
+    by_test (fault == 0) _ (record t { task = 3; openings = 0 }) _
     (λ is. goes_to _ 3 (record t { task = 3; openings = 0 }) refl (omega arith) (omega arith) (less_open (again_left t.is_again) (9 - t.forks) (made_left t.has_made) 100 99 12 10 (omega arith) (omega arith)))
-    (λ is. failed_falls t fault 100 12)
+    (λ is. by_test (fault == 11) _ (forked t) (failed t fault) (λ is. forked_falls t 100 12) (λ is. failed_falls t fault 100 12))
 
 folder_falls : (t : TakingRecord) (fault : ℕ) → Falls (left_at 2 t) (folder_made t fault)
 folder_falls t fault =
@@ -148,12 +157,8 @@ file_falls t k fault a b e =
 
 listed_falls : (t : TakingRecord) (fault : ℕ) → Falls (left_at 8 t) (listed t fault)
 listed_falls t fault =
-    by_test (fault == 0) _ (to t 9) _ (λ h. later_falls t 8 9 (omega arith) (omega arith) (omega arith) refl)
-    (λ h. by_test (nat_lt t.forks 9) _ (record t { task = 1; forks = t.forks + 1 }) (over t 15 1 11)
-    (λ is. (let fewer : t.forks < 9 = ltb-true t.forks 9 is in
-    goes_to _ 1 (record t { task = 1; forks = t.forks + 1 }) refl (omega arith) (omega arith)
-    (less_forked (again_left t.is_again) (9 - t.forks) (9 - (t.forks + 1)) (made_left t.has_made) (99 - t.openings) 5 (omega (arith, fewer)))))
-    (λ is. inl refl))
+    by_test (fault == 0) _ (to t 9) (forked t) (λ h. later_falls t 8 9 (omega arith) (omega arith) (omega arith) refl)
+    (λ h. forked_falls t (99 - t.openings) 5)
 
 locked_falls : (t : TakingRecord) (fault : ℕ) → Falls (left_at 9 t) (locked t fault)
 locked_falls t fault = by_test (fault == 0) _ (to t 10) (over t 14 1 fault) (λ h. later_falls t 9 10 (omega arith) (omega arith) (omega arith) refl) (λ h. inl refl)

@@ -32,9 +32,13 @@ moved t = if t.is_again then over t 15 2 0 else record (begun t) { is_again = tr
 
 -- ---- the tasks
 
--- 1: the folder is opened
+-- Another thread forked meanwhile: all is opened anew, so often, and then it counts as taken by that (EAGAIN).
+abbrev pub forked : TakingRecord → TakingRecord
+forked t = if nat_lt t.forks 9 then record t { task = 1; forks = t.forks + 1 } else over t 15 1 11
+
+-- 1: the folder is opened, or another thread is about to have forks heeded (EAGAIN), which is as if it forked
 abbrev pub folder_opened : TakingRecord → ℕ → TakingRecord
-folder_opened t fault = if fault == 0 then record t { task = 3; openings = 0 } else failed t fault
+folder_opened t fault = if fault == 0 then record t { task = 3; openings = 0 } else if fault == 11 then forked t else failed t fault
 
 -- 2: it is made
 abbrev pub folder_made : TakingRecord → ℕ → TakingRecord
@@ -65,9 +69,9 @@ file_made t fault =
     if fault == 0 then to t 8 else if fault == 17 then opened_anew t else
     if t.task == 5 then to t 6 else if t.task == 6 then to t 7 else failed t fault
 
--- 8: it is listed for who forks, or another thread forked meanwhile: so often, and then it counts as taken by that (EAGAIN)
+-- 8: it is listed for who forks, or another thread forked meanwhile
 abbrev pub listed : TakingRecord → ℕ → TakingRecord
-listed t fault = if fault == 0 then to t 9 else if nat_lt t.forks 9 then record t { task = 1; forks = t.forks + 1 } else over t 15 1 11
+listed t fault = if fault == 0 then to t 9 else forked t
 
 -- 9: it is locked. Where others have it, it stays open for the next try.
 abbrev pub locked : TakingRecord → ℕ → TakingRecord

@@ -1,13 +1,13 @@
 //! A try to take the lock of a folder: what is done next.
 ghost use Rattle.std.specs.Prelude.{◌≡◌, false};
-ghost use Rattle.dconf_waits.specs.Takings.{above_seen, begun, by_names, by_old, by_removal, failed, file_made, folder_made, folder_opened, is_for_others, listed, locked, moved, opened_anew, over, taken, to};
+ghost use Rattle.dconf_waits.specs.Takings.{above_seen, begun, by_names, by_old, by_removal, failed, file_made, folder_made, folder_opened, forked, is_for_others, listed, locked, moved, opened_anew, over, taken, to};
 ghost use Rattle.dconf_verdicts.specs.declared.standing.Purpose.TheVariants.{HoldLock, Look, OpenLock};
 ghost use Rattle.dconf_verdicts.specs.Standings.{standing_of};
 
 use dconf_files::lock_bits;
 use dconf_verdicts::{Purpose, Seen, Standing, standing_of};
 
-/// How often the file is opened anew, as others made it meanwhile, but for the last time; and how often as another thread forked.
+/// How often the file is opened anew, as others made it meanwhile, but for the last time; and how often as another thread forked, or had forks heeded.
 const BEFORE_LAST_OPENING: u32 = 99;
 
 const BEFORE_LAST_FORK: u32 = 9;
@@ -22,7 +22,7 @@ const EAGAIN: u32 = 11;
 const EEXIST: u32 = 17;
 
 // The tasks, which the caller carries out:
-/// to open the folder, after what was opened before is closed;
+/// to open the folder, after what was opened before is closed, unless another thread is about to have forks heeded (EAGAIN);
 const OPEN_FOLDER: u32 = 1;
 /// to make it;
 const MAKE_FOLDER: u32 = 2;
@@ -115,14 +115,14 @@ impl TakingRecord {
     fn folder_opened(self, errno: u32) -> TakingRecord
         ensures { result ≡ folder_opened self errno }
     {
-        if errno == 0 {
-            TakingRecord {
+        match errno {
+            0 => TakingRecord {
                 task: OPEN_OLD,
                 openings: 0,
                 ..self
-            }
-        } else {
-            self.failed(errno)
+            },
+            EAGAIN => self.forked(),
+            errno => self.failed(errno),
         }
     }
 
@@ -194,8 +194,15 @@ impl TakingRecord {
         ensures { result ≡ listed self errno }
     {
         if errno == 0 {
-            return self.to(LOCK);
+            self.to(LOCK)
+        } else {
+            self.forked()
         }
+    }
+
+    fn forked(self) -> TakingRecord
+        ensures { result ≡ forked self }
+    {
         if self.forks < BEFORE_LAST_FORK {
             TakingRecord {
                 task: OPEN_FOLDER,

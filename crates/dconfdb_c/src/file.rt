@@ -2,12 +2,14 @@
 ghost use Rattle.std.specs.Prelude.{◌≡◌};
 ghost use Rattle.dconf_files.specs.Handings.{handed_after, handing_number, handing_value, what_of};
 ghost use Rattle.dconf_files.specs.Stamps.{sameness_number, sameness_of};
-ghost use Rattle.dconf_parts.specs.Parts.{beside, beside_number, known_after, purpose_of};
+ghost use Rattle.dconf_parts.specs.Parts.{beside, beside_number, is_one_file, known_after, placed, purpose_of};
 ghost use Rattle.dconf_parts.specs.Several.{among, sameness_from};
 ghost use Rattle.dconf_parts.specs.Sizes.{is_mapped, kind_of, largest};
 
 use dconf_files::{FileStamp, MadeFile, handing_numbers, sameness_number};
-use dconf_parts::{DconfdbPartSeen, among_number, beside_number, known_after, largest_number};
+use dconf_parts::{
+    DconfdbPartSeen, among_number, beside_number, is_one_file, known_after, largest_number, placed,
+};
 
 /// Whether a file is the one that was read from that moment on: 0 it is, 1 it is another one or has
 /// changed, 2 it may have. `is_held`: it has been open or mapped since.
@@ -59,6 +61,22 @@ pub extern "C" fn dconfdb_known_after(
 {
     *known = known_after(old, now, may_be_read);
     may_be_read
+}
+
+/// Whether both are one file, whatever changed of it.
+#[unsafe(no_mangle)]
+pub extern "C" fn dconfdb_is_one_file(one: &FileStamp, other: &FileStamp) -> bool
+    ensures { result ≡ is_one_file one.now other.now }
+{
+    is_one_file(one, other)
+}
+
+/// The state of a file that was made, once it was given its name, by what has that name now.
+#[unsafe(no_mangle)]
+pub extern "C" fn dconfdb_placed(named: &FileStamp, made: &mut FileStamp)
+    ensures { made.new ≡ placed made.old named.now }
+{
+    *made = placed(made, named);
 }
 
 /// How many bytes a file may have that is read: 0 the one that says which kind of store the machine has, 1 a profile, 2 a site's database, else the

@@ -2,10 +2,10 @@
 ghost use Rattle.std.specs.Prelude.{◌≡◌, false, true};
 ghost use Rattle.dconf_options.specs.Options.{option_after, options_end, said_number};
 ghost use Rattle.dconf_options.specs.Placings.{placing_number, placing_of};
-ghost use Rattle.dconf_options.specs.Programs.{forgets, program_number, program_of};
+ghost use Rattle.dconf_options.specs.Programs.{asks_home, forgets, program_number, program_of};
 
 use dconf_options::{
-    Line, OptionsRead, forgets, option_after, options_end, placing_number, placing_of,
+    Line, OptionsRead, asks_home, forgets, option_after, options_end, placing_number, placing_of,
     program_number, program_of, said_number,
 };
 
@@ -50,7 +50,7 @@ pub extern "C" fn dconfdb_placing(
 
 /// Which program a command line is for, by the program's name and the two words after it, each empty where there is none: 0 the proved one, 1 `watch`,
 /// 2 `lint`, 3 and 4 the help of these; run as `dconf`, 5 the same `watch`, 6 `blame`, 7 the proved one by that. And whether it is run without the
-/// variables that say where a store is (`has_none`).
+/// variables that say where a store is (`has_none`); and by the program that asks the system for the user's home (`is_homeless`).
 #[unsafe(no_mangle)]
 pub extern "C" fn dconfdb_program_of(
     name: &[u8],
@@ -58,11 +58,14 @@ pub extern "C" fn dconfdb_program_of(
     second: &[u8],
     line: &Line,
     has_none: &mut bool,
+    is_homeless: &mut bool,
 ) -> u32
     ensures program { result ≡ program_number (program_of name.now first.now second.now line.now) }
     ensures none { has_none.new ≡ forgets (program_of name.now first.now second.now line.now) line.now }
+    ensures homeless { is_homeless.new ≡ asks_home (program_of name.now first.now second.now line.now) line.now }
 {
     let program = program_of(name, first, second, line);
     *has_none = forgets(program, line);
+    *is_homeless = asks_home(program, line);
     program_number(program)
 }

@@ -271,6 +271,8 @@ fn are_made() -> bool {
         && change_number(2, true, &there) == 4
         && change_number(2, false, &there) == 3
         && change_number(1, false, &PLAIN) == 9
+        && change_number(1, false, &locked) == 9
+        && change_number(1, false, &userless) == 8
         && change_number(3, false, &locked) == 6
         && change_number(6, true, &locked) == 8
         && change_number(1, true, &userless) == 6

@@ -1,6 +1,6 @@
 //! Which program a command line is for; and the words of `watch` and of `lint`.
 use dconf_options::{
-    Line, OptionsRead, forgets, option_after, options_end, placing_number, placing_of,
+    Line, OptionsRead, asks_home, forgets, option_after, options_end, placing_number, placing_of,
     program_number, program_of, said_number,
 };
 use std::test::Fail;
@@ -84,6 +84,7 @@ const LINE: Line = Line {
     has_blame: true,
     is_noted: false,
     counts: true,
+    is_at_home: false,
 };
 
 fn program(name: &str, first: &str, second: &str, line: Line) -> u32 {
@@ -95,6 +96,39 @@ fn is_forgetting(name: &str, first: &str, line: Line) -> bool {
         program_of(name.as_bytes(), first.as_bytes(), b"/", &line),
         &line,
     )
+}
+
+fn is_told_of_home(name: &str, first: &str, line: Line) -> bool {
+    asks_home(
+        program_of(name.as_bytes(), first.as_bytes(), b"/", &line),
+        &line,
+    )
+}
+
+fn homes_are_asked_for() -> bool {
+    let at_home = Line {
+        is_at_home: true,
+        ..LINE
+    };
+    is_told_of_home("dconfdb", "read", at_home)
+        && is_told_of_home(
+            "dconf",
+            "write",
+            Line {
+                is_noted: true,
+                ..at_home
+            },
+        )
+        && !is_told_of_home("dconfdb", "read", LINE)
+        && !is_told_of_home("dconfdb", "watch", at_home)
+        && is_told_of_home(
+            "dconfdb",
+            "read",
+            Line {
+                counts: false,
+                ..LINE
+            },
+        )
 }
 
 /// By a program that has more rights the environment isn't asked.
@@ -164,7 +198,7 @@ fn dconfs_name_runs_its_programs() -> bool {
 #[test]
 fn programs_are_found(rt: HostRuntime) -> Result<(), Fail> {
     assert!(rt; our_name_runs_its_programs() && dconfs_name_runs_its_programs());
-    assert!(rt; more_rights_have_no_environment());
+    assert!(rt; more_rights_have_no_environment() && homes_are_asked_for());
     Ok(())
 }
 

@@ -1,6 +1,8 @@
 //! What a file is, beside what was made of it.
 use dconf_files::{FileStamp, FileTime};
-use dconf_parts::{DconfdbPartSeen, among_number, beside_number, known_after, largest_number};
+use dconf_parts::{
+    DconfdbPartSeen, among_number, beside_number, is_one_file, known_after, largest_number, placed,
+};
 use std::test::Fail;
 
 const KEEP: u32 = 0;
@@ -116,6 +118,25 @@ fn are_known() -> bool {
         && beside_number(KEEP, &unread, &file(1, 2), &held) == 2
 }
 
+/// What has the name of a new file says what that is, if it is the file.
+fn are_placed() -> bool {
+    let none = FileStamp {
+        is_there: false,
+        ..file(1, 2)
+    };
+    let elsewhere = FileStamp {
+        device: 2,
+        ..file(1, 2)
+    };
+    is_one_file(&file(1, 1), &file(1, 2))
+        && !is_one_file(&file(1, 1), &file(2, 1))
+        && !is_one_file(&file(1, 1), &elsewhere)
+        && !is_one_file(&file(1, 1), &none)
+        && placed(&file(1, 1), &file(1, 2)).touched.nanoseconds == 2
+        && placed(&file(1, 1), &file(2, 2)).touched.nanoseconds == 1
+        && placed(&file(1, 1), &none).is_there
+}
+
 fn is_size(kind: u32, most: u64, may_map: bool) -> bool {
     let (largest, is_mapped) = largest_number(kind);
     largest == most && is_mapped == may_map
@@ -141,6 +162,7 @@ fn several_are_seen() -> bool {
 #[test]
 fn what_was_made_of_a_file_is_kept_or_not(rt: HostRuntime) -> Result<(), Fail> {
     assert!(rt; are_kept() && are_taken());
-    assert!(rt; are_known() && sizes_are_known() && several_are_seen());
+    assert!(rt; are_known() && are_placed());
+    assert!(rt; sizes_are_known() && several_are_seen());
     Ok(())
 }

@@ -158,6 +158,7 @@ fn looks_end() -> bool {
         was_unseen: false,
         is_unseen: false,
         is_reading: false,
+        is_first: false,
     };
     let hidden = GlanceKnown {
         is_unseen: true,
@@ -220,7 +221,12 @@ fn looks_end() -> bool {
         is_other: true,
         ..same
     };
+    let bare = GlanceKnown {
+        is_first: true,
+        ..changed
+    };
     glance_number(0, &same) == 1
+        && glance_number(4, &bare) == 9
         && glance_number(0, &hidden) == 3
         && glance_number(0, &found) == 3
         && glance_number(0, &unsure) == 3
@@ -265,6 +271,7 @@ fn notices_are_told() -> bool {
         has_rights: true,
         is_of_files: false,
         has_faults: true,
+        is_unseen: false,
     };
     let full = TellKnown {
         taken: 255,
@@ -327,6 +334,7 @@ fn rights_are_told_before_values() -> bool {
         has_rights: true,
         is_of_files: false,
         has_faults: false,
+        is_unseen: false,
     };
     let next = TellKnown { list: 6, ..first };
     let last = TellKnown { list: 7, ..first };
@@ -336,6 +344,10 @@ fn rights_are_told_before_values() -> bool {
     };
     let silent = TellKnown {
         is_other: false,
+        ..first
+    };
+    let unseen = TellKnown {
+        is_unseen: true,
         ..first
     };
     let of_files = TellKnown {
@@ -351,6 +363,7 @@ fn rights_are_told_before_values() -> bool {
         && telling_number(&last) == 10
         && telling_number(&without) == 7
         && telling_number(&silent) == 10
+        && telling_number(&unseen) == 10
         && telling_number(&of_files) == 5
         && telling_number(&seen) == 6
 }
@@ -370,6 +383,7 @@ fn faults_are_told_at_last() -> bool {
         has_rights: true,
         is_of_files: true,
         has_faults: true,
+        is_unseen: false,
     };
     let ending = TellKnown {
         ends: true,

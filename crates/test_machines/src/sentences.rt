@@ -82,6 +82,21 @@ fn are_said() -> bool {
         && !sentence_of(&memory).is_placed
 }
 
+/// Whether it is told where it is.
+fn has_place(of: u32, number: u32) -> bool {
+    sentence_of(&FaultMet {
+        of,
+        number,
+        ..OF_FILE
+    })
+    .is_placed
+}
+
+/// Of the machine's file, that it has a line, if it could be read.
+fn are_placed() -> bool {
+    has_place(0, 13) && has_place(6, 0) && !has_place(6, 13) && !has_place(6, 75)
+}
+
 fn is_said_so(of: u32, number: u32, says: u32, code: u32) -> bool {
     let met = FaultMet {
         of,

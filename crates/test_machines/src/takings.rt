@@ -66,7 +66,9 @@ fn locks_are_taken() -> bool {
         (9, FILE),
         (10, moved),
     ];
+    let heeded = [(1, failed(BUSY)), (1, FILE), (3, failed(FULL))];
     goes(TakingRecord::new(), &had, (13, 1, 0))
+        && goes(TakingRecord::new(), &heeded, (15, 3, FULL))
         && goes(TakingRecord::new(), &busy, (14, 1, BUSY))
         && goes(TakingRecord::new(), &made, (15, 3, MISSING))
         && goes(TakingRecord::new(), &again, (15, 2, 0))
