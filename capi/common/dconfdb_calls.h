@@ -1030,7 +1030,7 @@ typedef struct {
 /* Its tasks. */
 enum {
     DCONFDB_TAKING_OPEN_FOLDER = 1, /* close what is open, and open the folder; EAGAIN: another thread is having children of fork() heeded */
-    DCONFDB_TAKING_MAKE_FOLDER,     /* make it: it is missing */
+    DCONFDB_TAKING_MAKE_FOLDER,     /* make it: it is missing, and may be made */
     DCONFDB_TAKING_OPEN,            /* open what has the lock's name there, and look at it */
     DCONFDB_TAKING_LOOK_ABOVE,      /* bring the folder's own name to the disk, and look at it */
     DCONFDB_TAKING_MAKE_UNNAMED,    /* make a file without a name, hand it over, and give it the lock's name, if that is free */
@@ -1045,7 +1045,8 @@ enum {
     DCONFDB_TAKING_NOT_HAD          /* over: what is open is to be closed */
 };
 
-/* Takes what the system says of the task, and puts the next one there. A try that is over begins anew. */
+/* Takes what the system says of the task, and puts the next one there. A try that is over begins anew. Who may make nothing (`may_make` false in each
+ * answer) takes the lock that is there, or none, and brings nothing to the disk. */
 void dconfdb_taking_answered(DconfdbTaking *taking, const DconfdbStood *stood);
 
 /* The wait for a lock that others may have, or for a file. */
@@ -1539,6 +1540,7 @@ typedef struct {
     uint64_t size;                  /* how many bytes it was sent in; of what is told, how many the paths have */
     uint64_t waiting, waiting_size; /* how many changes wait, and how many bytes they have together */
     uint64_t names;                 /* how many databases are in use */
+    uint64_t answered;              /* of those that wait, how many a try that isn't over has answered: it is known what came of them */
     uint32_t said;                  /* by dconfdb_failing_met, of the fault by which it can't be written */
     uint32_t kind;                  /* of a text, what it is as a path, by dconfdb_path_kind */
     bool is_used;                   /* its database is in use */
@@ -1558,11 +1560,16 @@ typedef struct {
     bool is_again;                  /* it is the path of the one before it, too */
     bool is_covered;                /* a directory's reset takes away what is there */
     bool sets;                      /* a value is set there; else it is reset */
-    bool is_users;                  /* a database is the user's own */
+    bool is_users;                  /* the first database is the user's own */
     bool is_unmade;                 /* an edit isn't made, by dconfdb_is_unmade */
     bool is_service_db;             /* its database is one that a profile of dconf's names by `service-db` */
     bool is_behind;                 /* one that came before it is on its way to the main thread */
     bool has_profile;               /* the file that is to be the profile of its database alone says that already */
+    bool is_first;                  /* it is the first database */
+    bool is_absolute;               /* the path of a folder that may have that file is absolute, */
+    bool is_last;                   /* .. and no other one is left */
+    bool wants_none;                /* who calls wants no answer */
+    bool is_noted;                  /* the environment asks that calls are noted */
 } DconfdbServed;
 
 /* What was done with it, or what happened. Of each its own fields count, and no others. */
@@ -1574,7 +1581,7 @@ enum {
     DCONFDB_SERVED_ENDING, /* the service ends, and it isn't answered */
     DCONFDB_SERVED_WAITS,  /* it waits behind those that are taken to be written */
     DCONFDB_SERVED_OPENED, /* the stores are open that may have its database, or can't be opened */
-    DCONFDB_SERVED_LEFT,   /* of the service: all are answered that can be at its end; so many weren't when it came */
+    DCONFDB_SERVED_LEFT,   /* of the service: all are answered that can be at its end; so many waited when it came */
     DCONFDB_SERVED_NAMELESS, /* it hasn't its name */
     DCONFDB_SERVED_PATH,     /* a path in it is read */
     DCONFDB_SERVED_ORDERED,  /* .. and comes behind those before it, in the order of their bytes, and of one path as they were sent */
@@ -1582,12 +1589,18 @@ enum {
     DCONFDB_SERVED_MADE,     /* an edit was tried, and is told of */
     DCONFDB_SERVED_BESIDE,   /* an edit stands beside others of its change */
     DCONFDB_SERVED_PASSES,   /* it came in another thread than the main one */
-    DCONFDB_SERVED_PROFILE   /* the file was read that is to be the profile of its database alone */
+    DCONFDB_SERVED_PROFILE,  /* the file was read that is to be the profile of its database alone */
+    DCONFDB_SERVED_HEARD,    /* it is told: does somebody listen? */
+    DCONFDB_SERVED_FOLDER,   /* a folder may have that file */
+    DCONFDB_SERVED_USED,     /* its database is open, or can't be opened (`is_open`) */
+    DCONFDB_SERVED_ANSWERED, /* it is answered */
+    DCONFDB_SERVED_CALLED    /* the service is called */
 };
 
 /* What becomes of it then. */
 enum {
-    DCONFDB_SERVED_GOES_ON, /* it is read, or waits to be written; or each path is named; or it is made, or told of; or that file is written */
+    DCONFDB_SERVED_GOES_ON, /* it is read, or waits to be written; or each path is named; or it is made, or told of; or that file is written, or is in that
+                             * folder; or it is answered, or the call is noted; or the thread is waited for */
     DCONFDB_SERVED_ACKNOWLEDGED,
     DCONFDB_SERVED_FAILED,  /* the fault is answered by which it isn't written */
     DCONFDB_SERVED_CLOSED,  /* .. or why nobody with these rights may write there */
@@ -1599,9 +1612,9 @@ enum {
     DCONFDB_SERVED_LATER,    /* it is for a later write; or the main thread is to take it */
     DCONFDB_SERVED_PROFILES, /* the profile's store has its database */
     DCONFDB_SERVED_ALONE,    /* the store of its database alone has it; or an edit is made, or not, by itself */
-    DCONFDB_SERVED_ENDS,     /* the service ends, and takes what it was sent before */
+    DCONFDB_SERVED_ENDS,     /* the service ends, and takes what it was sent before; or the thread is left, and nothing is said: all are answered */
     DCONFDB_SERVED_TAKEN,    /* another service has the name */
-    DCONFDB_SERVED_PASSED,   /* it says nothing, or nothing is told of it; or that file stays as it is */
+    DCONFDB_SERVED_PASSED,   /* it says nothing, or nothing is told of it; or that file stays as it is, or is in another folder; or there is no answer, or no note */
     DCONFDB_SERVED_LEFT_OUT, /* it isn't made, which is told */
     DCONFDB_SERVED_REPLACES, /* it counts in the place of the one before it */
     DCONFDB_SERVED_UNSUPPORTED /* no such database is served */

@@ -210,7 +210,7 @@ static int make_own(int folder, int *file)
 /* A lock that is waited for. */
 typedef struct {
     const char *folder;
-    bool has_end, is_listed;
+    bool has_end, makes, is_listed;
     FolderLock *lock;
     unsigned long forks; /* their number when the folder was opened */
     DconfdbTaking taking;
@@ -347,7 +347,8 @@ static uint32_t try_it(void *it, int *fault)
     DconfdbTaking *taking = &awaited->taking;
     dconfdb_taking_answered(taking, &nothing);
     while (taking->task < DCONFDB_TAKING_HAD) {
-        const DconfdbStood stood = does(awaited);
+        DconfdbStood stood = does(awaited);
+        stood.may_make = awaited->makes;
         dconfdb_taking_answered(taking, &stood);
     }
     if (taking->task == DCONFDB_TAKING_NOT_HAD)
@@ -362,9 +363,9 @@ static int wait_for_lock(Awaited *awaited, int milliseconds)
                    &awaited->lock->is_others);
 }
 
-int folder_lock(const char *folder, int milliseconds, FolderLock *lock)
+static int take(const char *folder, int milliseconds, bool makes, FolderLock *lock)
 {
-    Awaited awaited = {.folder = folder, .has_end = milliseconds != WITHOUT_END, .lock = lock};
+    Awaited awaited = {.folder = folder, .has_end = milliseconds != WITHOUT_END, .makes = makes, .lock = lock};
     int cancels = hold_cancellation();
     lock->folder = lock->file = NO_FOLDER;
     lock->is_others = false;
@@ -373,6 +374,16 @@ int folder_lock(const char *folder, int milliseconds, FolderLock *lock)
         close_awaited(&awaited);
     cancel_as_before(cancels);
     return fault;
+}
+
+int folder_lock(const char *folder, int milliseconds, FolderLock *lock)
+{
+    return take(folder, milliseconds, true, lock);
+}
+
+int folder_lock_there(const char *folder, FolderLock *lock)
+{
+    return take(folder, 0, false, lock);
 }
 
 void folder_unlock(FolderLock *lock)

@@ -22,6 +22,9 @@ enum { WITHOUT_END = -1 };
  * milliseconds (`is_others`), EINVAL if what has the lock's name is no regular file. */
 int folder_lock(const char *folder, int milliseconds, FolderLock *lock);
 
+/* Takes the lock if it is there, and nobody has it: nothing is made or waited for, and nothing brought to the disk. Gives 0, or an errno. */
+int folder_lock_there(const char *folder, FolderLock *lock);
+
 void folder_unlock(FolderLock *lock);
 
 #endif

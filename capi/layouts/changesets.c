@@ -59,8 +59,8 @@ static void finds_changing(void)
     is_so(task_after(6, true, USER | THERE) == 9 && task_after(6, true, STORE | THERE) == 8 && task_after(1, true, STORE | THERE) == 6, "DconfdbChanging");
     is_so(task_after(1, true, STORE | USER | THERE) == 2 && task_after(1, true, STORE | USER) == 4, "DconfdbChanging");
     is_so(task_after(1, true, STORE | USER | LEFT) == 3 && task_after(4, true, NEWS | WATCHED) == 5 && task_after(4, true, NEWS) == 7, "DconfdbChanging");
-    is_so(task_after(4, true, WATCHED) == 7 && task_after(1, false, BARRED) == 8, "DconfdbChanging");
-    is_so(task_after(1, false, EMPTY | REFUSED | STORE | USER | THERE | LEFT) == 9, "DconfdbChanging");
+    is_so(task_after(4, true, WATCHED) == 7 && task_after(6, true, STORE | USER | BARRED) == 8, "DconfdbChanging");
+    is_so(task_after(1, false, EMPTY | REFUSED | STORE | USER | THERE | LEFT | BARRED) == 9, "DconfdbChanging");
     for (size_t i = 0; i < FIELDS; i++)
         lies("DconfdbChanging", names[i], i, FLAG);
     printf("TAKES(DconfdbChanging, %d);\n", FIELDS);

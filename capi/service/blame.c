@@ -7,7 +7,8 @@ struct Blame {
 
 Blame *blame_new(void)
 {
-    if (!g_getenv("DCONF_BLAME"))
+    const DconfdbServed known = {.is_noted = g_getenv("DCONF_BLAME") != NULL};
+    if (dconfdb_served_after(DCONFDB_SERVED_CALLED, &known) != DCONFDB_SERVED_GOES_ON)
         return NULL;
     Blame *blame = g_new(Blame, 1);
     blame->text = g_string_new(NULL);

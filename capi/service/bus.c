@@ -15,10 +15,11 @@ static const char interfaces[] =
 
 /* ---- answers */
 
-/* Nobody is answered who wants no answer. It fails where the bus is gone. */
+/* It fails where the bus is gone. */
 static void send_answer(const Service *service, GDBusMessage *call, GDBusMessage *answer)
 {
-    if ((g_dbus_message_get_flags(call) & G_DBUS_MESSAGE_FLAGS_NO_REPLY_EXPECTED) == 0)
+    const DconfdbServed known = {.wants_none = (g_dbus_message_get_flags(call) & G_DBUS_MESSAGE_FLAGS_NO_REPLY_EXPECTED) != 0};
+    if (dconfdb_served_after(DCONFDB_SERVED_ANSWERED, &known) == DCONFDB_SERVED_GOES_ON)
         g_dbus_connection_send_message(service->bus, answer, G_DBUS_SEND_MESSAGE_FLAGS_NONE, NULL, NULL);
     g_object_unref(answer);
     g_object_unref(call);
@@ -87,10 +88,12 @@ static void change(Service *service, const char *name, GDBusMessage *call)
         return;
     }
     Writer *writer = writer_named(service, name, &error);
-    if (writer)
+    known.is_open = writer != NULL;
+    served = dconfdb_served_after(DCONFDB_SERVED_USED, &known);
+    if (served == DCONFDB_SERVED_GOES_ON)
         service_add(service, change_new(writer, call));
     else
-        call_refuse(service, call, DCONFDB_SERVED_FAILED, error.text);
+        call_refuse(service, call, served, error.text);
 }
 
 /* GDBus has looked at the method and at its words. There is nothing to be made ready. */

@@ -3,14 +3,8 @@
 #include "lock.h"
 #include "service.h"
 
-/* A folder that was taken away isn't made again for it. */
-static bool take_lock(const char *folder, FolderLock *lock)
-{
-    return g_file_test(folder, G_FILE_TEST_IS_DIR) && folder_lock(folder, 0, lock) == 0;
-}
-
 /* Whoever has the lock now sets the flag too, once the database is replaced. Mostly who wrote has set it in his turn, and nobody has read since: then no
- * lock is taken. */
+ * lock is taken. None is made: the main thread waits for no disk. */
 void flag_readers(const Writer *writer, bool has_turn)
 {
     FolderLock lock;
@@ -22,7 +16,7 @@ void flag_readers(const Writer *writer, bool has_turn)
         return;
     while ((task = dconfdb_flag_after(task, could_be, has_turn || has_lock)) < DCONFDB_FLAG_OVER) {
         if (task == DCONFDB_FLAG_LOCK)
-            could_be = has_lock = take_lock(writer->service->place.folder, &lock);
+            could_be = has_lock = folder_lock_there(writer->service->place.folder, &lock) == 0;
         else
             could_be = flag_task(task, path, &file);
     }

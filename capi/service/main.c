@@ -7,8 +7,7 @@
 #include <stdlib.h>
 #include <unistd.h>
 
-/* In milliseconds: how often its end asks whether it is over. */
-enum { TICK = 20 };
+enum { MILLISECOND = 1000 }; /* in microseconds */
 
 static void say(const char *text)
 {
@@ -52,7 +51,7 @@ static void begin_end(Service *service)
     g_clear_handle_id(&service->owner, g_bus_unown_name);
     Ending *ending = g_new(Ending, 1);
     *ending = (Ending){.service = service, .time = {.each = dconfdb_patience_for(DCONFDB_PATIENCE_END)}};
-    g_timeout_add_full(G_PRIORITY_LOW, TICK, end_when_settled, ending, g_free);
+    g_timeout_add_full(G_PRIORITY_LOW, (guint)(dconfdb_patience_for(DCONFDB_PATIENCE_LOOKS) / MILLISECOND), end_when_settled, ending, g_free);
 }
 
 static gboolean on_signal(gpointer data)
@@ -125,9 +124,10 @@ static void run(Service *service)
     g_dbus_connection_flush_sync(service->bus, NULL, NULL);
     if (is_over)
         return;
-    say("what was asked for last isn't on the disk");
+    if (service->left == DCONFDB_SERVED_LATE)
+        say("what was asked for last isn't on the disk");
     /* The thread ends with the process, whatever it is amid: nothing is lost by that which was acknowledged. */
-    _exit(1);
+    _exit(service->left != DCONFDB_SERVED_ENDS);
 }
 
 static void clear(Service *service)

@@ -42,13 +42,15 @@ typedef struct {
     GCond comes; /* more waits, or the end has come */
     GQueue waiting; /* of changes, the oldest first */
     GQueue taken; /* those that are written together, of one database; also until they are tried again */
-    guint64 added, settled; /* how many changes ever came, and how many were answered */
+    guint64 added, settled; /* how many changes ever came, and how many were answered, and told of */
+    guint64 answered;       /* of those that aren't settled, how many a try that isn't over has answered */
     guint64 waiting_size; /* how many bytes those have that aren't */
     guint64 names; /* how many databases are in use */
     guint64 passing; /* how many changes are on their way to the main thread */
     gint64 again; /* when a write that failed is tried again; 0: none is */
     bool is_writing; /* the thread is amid a try: it alone answers what is taken */
     bool ends;
+    uint32_t left; /* what is said of what wasn't settled when the end came, by DCONFDB_SERVED_LEFT */
 } Service;
 
 /* ---- what is asked for (changes.c) */
@@ -135,6 +137,9 @@ typedef struct {
 
 void newest_begin(Newest *newest);
 void newest_end(Newest *newest);
+
+/* Whether it is told: as if somebody listened. */
+bool is_heard(void);
 
 /* Tells a change that is made after those before, with its tag: the paths of which another value is seen by it. Its edits are in `made`. */
 void tell_change(Writer *writer, Newest *newest, const GPtrArray *made, const char *tag);

@@ -1,6 +1,8 @@
 /* A user's database by its name, as the bus has it: which store it is of, and who is told of it. */
+#include "errors.h"
 #include "service.h"
 
+#include <errno.h>
 #include <string.h>
 #include <sys/epoll.h>
 #include <unistd.h>
@@ -13,27 +15,39 @@ static bool has_line(const char *path, const char *line)
     return g_file_get_contents(path, &text, NULL, NULL) && strcmp(text, line) == 0;
 }
 
-/* The user's runtime folder. One that isn't absolute is none, as for the flags, and what GLib has without any stands for it. */
+/* The user's runtime folder, or what stands for it: the first of these that may have the file. */
 static const char *runtime_of(const Service *service)
 {
-    const char *known = service->place.runtime, *runtime = known && *known ? known : g_get_user_runtime_dir();
-    return g_path_is_absolute(runtime) ? runtime : g_get_user_cache_dir();
+    const char *const folders[] = {service->place.runtime, g_get_user_runtime_dir(), g_get_user_cache_dir()};
+    for (size_t at = 0;; at++) {
+        const DconfdbServed known = {.is_absolute = folders[at] && g_path_is_absolute(folders[at]), .is_last = at + 1 == G_N_ELEMENTS(folders)};
+        if (dconfdb_served_after(DCONFDB_SERVED_FOLDER, &known) == DCONFDB_SERVED_GOES_ON)
+            return folders[at];
+    }
+}
+
+/* Writes it, and makes its folder. False: it can't be, which is told. */
+static bool write_profile(const char *folder, const char *path, const char *line, DconfdbError *error)
+{
+    g_autoptr(GError) fault = NULL;
+    if (g_mkdir_with_parents(folder, 0700) != 0)
+        return refuse_file(error, errno, folder, nowhere);
+    if (g_file_set_contents(path, line, -1, &fault))
+        return true;
+    error->code = DCONFDB_ERROR_FILE;
+    g_strlcpy(error->text, fault->message, sizeof error->text);
+    return false;
 }
 
 /* A profile of one line, in a file of the user's own, since a store is of a profile that is a file. It is watched, and stays as it is. */
 static char *profile_of_name(const Service *service, const char *name, DconfdbError *error)
 {
-    g_autoptr(GError) fault = NULL;
     g_autofree char *folder = g_build_filename(runtime_of(service), "dconfdb", "service", NULL);
     g_autofree char *line = g_strdup_printf("user-db:%s\n", name);
     g_autofree char *path = g_build_filename(folder, name, NULL);
     const DconfdbServed known = {.has_profile = has_line(path, line)};
     bool stays = dconfdb_served_after(DCONFDB_SERVED_PROFILE, &known) == DCONFDB_SERVED_PASSED;
-    if (stays || (g_mkdir_with_parents(folder, 0700) == 0 && g_file_set_contents(path, line, -1, &fault)))
-        return g_steal_pointer(&path);
-    error->code = DCONFDB_ERROR_FILE;
-    g_strlcpy(error->text, fault ? fault->message : folder, sizeof error->text);
-    return NULL;
+    return stays || write_profile(folder, path, line, error) ? g_steal_pointer(&path) : NULL;
 }
 
 /* The store that has this database alone, whatever the profile is. */

@@ -132,13 +132,11 @@ static GTree *keys_of(Newest *newest, const DconfdbSnapshot *before, const GPtrA
 /* Of how many databases of a snapshot is told: of the first ones. */
 static size_t count_shown(const DconfdbSnapshot *snapshot)
 {
-    size_t count = 0;
-    DconfdbServed known = {.is_users = snapshot->is_writable};
-    while (count < snapshot->count && dconfdb_served_after(DCONFDB_SERVED_SHOWS, &known) == DCONFDB_SERVED_GOES_ON) {
-        known.is_users = false; /* only the first may be */
-        count++;
+    for (size_t count = 0;; count++) {
+        const DconfdbServed known = {.is_users = snapshot->is_writable, .is_first = count == 0};
+        if (count == snapshot->count || dconfdb_served_after(DCONFDB_SERVED_SHOWS, &known) != DCONFDB_SERVED_GOES_ON)
+            return count;
     }
-    return count;
 }
 
 /* These, as they were told, or are now. */
@@ -172,11 +170,17 @@ static void keep_each_once(GPtrArray *paths)
     g_ptr_array_set_size(paths, (gint)count);
 }
 
-/* Tells what is otherwise, and these paths, if there are any: nobody knows who listens. Without memory all may be otherwise. */
+bool is_heard(void)
+{
+    const DconfdbServed nothing = {.size = 0};
+    return dconfdb_served_after(DCONFDB_SERVED_HEARD, &nothing) == DCONFDB_SERVED_GOES_ON;
+}
+
+/* Tells what is otherwise, and these paths, if there are any. Without memory all may be otherwise. */
 static void tell(const Writer *writer, const DconfdbSnapshot *before, const DconfdbSnapshot *now, const GArray *keys, GPtrArray *paths, const char *tag)
 {
     Told told;
-    DconfdbTelling telling = {.is_other = true, .is_listened = true};
+    DconfdbTelling telling = {.is_other = before != now, .has_edits = keys->len + paths->len > 0, .is_listened = is_heard()};
     telling.is_found = seen_otherwise(&told, before, now, (const SeenKey *)(gpointer)keys->data, keys->len, NULL);
     if (telling.is_found)
         add_all(paths, told.paths);

@@ -98,7 +98,7 @@ static void answer(const Run *run, Change *change, const char *tag)
     if (served == DCONFDB_SERVED_ACKNOWLEDGED)
         call_answer(service, call, words_of(tag));
     else
-        call_refuse(service, call, served, served == DCONFDB_SERVED_CLOSED ? run->refusal.text : run->fault.text);
+        call_refuse(service, call, served, run->fault.text);
 }
 
 /* Sorts the edits of a change by what is told of them. */
@@ -206,6 +206,7 @@ static bool is_settled(Service *service, Run *run)
     run->ends = service->ends;
     bool is = served_of(run, run->first->data) != DCONFDB_SERVED_GOES_ON;
     service->is_writing = is;
+    service->answered = is ? service->taken.length : 0;
     g_mutex_unlock(&service->lock);
     return is;
 }
@@ -216,6 +217,7 @@ static void end_try(Service *service, bool is_over)
     GQueue over = G_QUEUE_INIT;
     g_mutex_lock(&service->lock);
     service->is_writing = false;
+    service->answered = 0;
     service->again = is_over ? 0 : (gint64)service->failing.again;
     if (is_over)
         move_all(&service->taken, &over);
@@ -370,27 +372,28 @@ static void move_late(GQueue *from, bool is_amid, GQueue *to)
         move_all(from, to);
 }
 
-/* Takes what the thread isn't amid, which it doesn't write from then on. Gives how many changes weren't answered. */
-static guint64 take_late(Service *service, GQueue *late)
+/* Takes what the thread isn't amid, which it doesn't write from then on. Gives what is known of the changes that weren't settled. */
+static DconfdbServed take_late(Service *service, GQueue *late)
 {
     g_mutex_lock(&service->lock);
     service->ends = true;
-    guint64 waiting = service->added - service->settled;
+    const DconfdbServed known = {.waiting = service->added - service->settled, .answered = service->answered};
     move_late(&service->taken, service->is_writing, late);
     move_late(&service->waiting, false, late);
     g_cond_broadcast(&service->comes);
     g_mutex_unlock(&service->lock);
-    return waiting;
+    return known;
 }
 
 /* What waits stays in memory, since the thread may be reading it. */
 bool service_stop_writing(Service *service)
 {
     GQueue late = G_QUEUE_INIT;
-    const DconfdbServed known = {.waiting = take_late(service, &late)};
+    const DconfdbServed known = take_late(service, &late);
     for (const GList *at = late.head; at; at = at->next)
         call_refuse(service, g_steal_pointer(&((Change *)at->data)->call), DCONFDB_SERVED_LATE, NULL);
-    if (service->has_thread && dconfdb_served_after(DCONFDB_SERVED_LEFT, &known) == DCONFDB_SERVED_GOES_ON)
+    service->left = dconfdb_served_after(DCONFDB_SERVED_LEFT, &known);
+    if (service->has_thread && service->left == DCONFDB_SERVED_GOES_ON)
         service->has_thread = pthread_join(service->thread, NULL) != 0;
     return !service->has_thread;
 }

@@ -162,7 +162,7 @@ static void some_heeding(void)
 static void some_state(Awaited *it)
 {
     one_lock = (FolderLock){-1, -1, NULL};
-    *it = (Awaited){.folder = "/f", .has_end = any_bool(), .lock = &one_lock};
+    *it = (Awaited){.folder = "/f", .has_end = any_bool(), .makes = any_bool(), .lock = &one_lock};
     if (any_bool())
         one_lock.folder = some_file();
     if (any_bool())
@@ -221,6 +221,7 @@ int lock_step(void)
     at_mutex = others_fork;
     at_call = is_listed_then;
     DconfdbStood stood = real_does(&it);
+    stood.may_make = it.makes;
     dconfdb_taking_answered(&it.taking, &stood);
     CHECK(none_is_held(), "order: the list's mutex is free");
     CHECK(is_state_of(it.taking.task, &it), "descriptor: what is open, listed and locked is what the next task wants");
@@ -235,6 +236,8 @@ static unsigned done;
 static DconfdbStood does(Awaited *it)
 {
     CHECK(it->taking.task >= DCONFDB_TAKING_OPEN_FOLDER && it->taking.task <= DCONFDB_TAKING_TAKE_NAME, "step: a task");
+    CHECK(it->makes || (it->taking.task != DCONFDB_TAKING_MAKE_FOLDER && (it->taking.task < DCONFDB_TAKING_LOOK_ABOVE || it->taking.task > DCONFDB_TAKING_MAKE)),
+          "step: nothing is made unasked, and no disk is waited for");
     done++;
     GIVEN(done <= 6);
     DconfdbStood stood = {.fault = any_u32(), .mode = 0100600, .links = 1, .is_named = any_bool()};
@@ -246,7 +249,7 @@ static DconfdbStood does(Awaited *it)
 int lock_try(void)
 {
     FolderLock lock = {some_file(), some_file(), NULL};
-    Awaited it = {.folder = "/f", .lock = &lock};
+    Awaited it = {.folder = "/f", .makes = any_bool(), .lock = &lock};
     int fault = -1;
     uint32_t tried = real_try_it(&it, &fault);
     CHECK(it.taking.task >= DCONFDB_TAKING_HAD && fault == (int)it.taking.fault && tried == it.taking.tried, "answer: which call was the last, and its errno");

@@ -19,6 +19,12 @@ static bool is_made, is_asked, is_filtered;
 
 uint32_t dconfdb_served_after(uint32_t done, const DconfdbServed *known)
 {
+    if (done == DCONFDB_SERVED_ANSWERED)
+        return served_given(done, known);
+    if (done == DCONFDB_SERVED_USED) {
+        CHECK(is_asked, "order: a change is taken before its database is opened");
+        return served_given(done, known);
+    }
     CHECK(done == DCONFDB_SERVED_CAME && known->size == known_now.size && known->waiting == known_now.waiting, "answer: what is known of what waits");
     is_asked = true;
     return served_given(done, known);

@@ -16,6 +16,8 @@ int service_end(void)
         set_up();
     service.has_thread = any_bool();
     service.is_writing = service.has_thread && service.taken.length > 0 && any_bool();
+    service.answered = service.is_writing && any_bool() ? service.taken.length : 0;
+    const guint64 unanswered = service.added - service.settled - service.answered;
     bool is_amid = service.is_writing, is = ends();
     for (int i = 0; i < CHANGES; i++) {
         CHECK(!has_come[i] || calls_of[i]->answers == (is_amid && i == 0 ? 0 : 1), "answer: at the end who waits is told, but for what the thread is amid");
@@ -23,6 +25,7 @@ int service_end(void)
     }
     CHECK(none_is_held() && service.ends, "order: all is given back");
     CHECK(is || service.has_thread, "answer: a thread is left only if there is one");
+    CHECK((service.left == DCONFDB_SERVED_LATE) == (unanswered > 0), "answer: the last word is said only if somebody wasn't answered");
     CHECK(service.taken.length == (is_amid ? 1 : 0) && service.waiting.length == 0, "step: the thread finds nothing but what it is amid");
     if (is_amid)
         REACHED("amid a try");

@@ -7,7 +7,7 @@
 #include "machines/given.h"
 #include "world.h"
 
-static bool is_locked, is_folder, is_longer, is_set, is_gone;
+static bool is_locked, is_longer, is_set, is_gone;
 static int looked; /* what the system said of its name */
 static unsigned looks, locks;
 
@@ -56,18 +56,10 @@ static void at_each(Kind kind)
 
 /* ---- the lock */
 
-gboolean g_file_test(const char *name, GFileTest test)
-{
-    (void)name;
-    CHECK(test == G_FILE_TEST_IS_DIR, "step: whether the folder is there");
-    return is_folder = any_bool();
-}
-
-int folder_lock(const char *folder, int milliseconds, FolderLock *lock)
+int folder_lock_there(const char *folder, FolderLock *lock)
 {
     (void)folder, (void)lock;
-    CHECK(is_folder && locks == 0, "step: a folder that was taken away isn't made again");
-    CHECK(milliseconds == 0, "step: nobody's turn is waited for");
+    CHECK(locks == 0, "step: it is asked for once");
     locks++;
     int fault = any_fault();
     is_locked = fault == 0;

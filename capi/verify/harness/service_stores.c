@@ -72,6 +72,10 @@ static bool is_profile_read, is_to_be_written; /* the file that is to be the pro
 
 uint32_t dconfdb_served_after(uint32_t done, const DconfdbServed *known)
 {
+    if (done == DCONFDB_SERVED_FOLDER) {
+        CHECK(!is_alone_opened, "order: where the profile is, is known before a store is opened by it");
+        return served_given(done, known);
+    }
     if (done == DCONFDB_SERVED_PROFILE) {
         CHECK(!is_alone_opened, "order: the profile is there before a store is opened by it");
         CHECK(is_profile_read || !known->has_profile, "answer: what can't be read says nothing");
@@ -82,7 +86,15 @@ uint32_t dconfdb_served_after(uint32_t done, const DconfdbServed *known)
     return served_given(done, known);
 }
 
-/* ---- files of GLib's */
+/* ---- files */
+
+bool refuse_file(DconfdbError *error, int fault, const char *name, Place place)
+{
+    (void)fault, (void)place;
+    CHECK(__CPROVER_r_ok(name, 1), "memory: a name that is there");
+    error->code = DCONFDB_ERROR_FILE;
+    return false;
+}
 
 const char *g_get_user_runtime_dir(void) { return any_bool() ? "/r" : "r"; }
 const char *g_get_user_cache_dir(void) { return "/r"; }

@@ -7,7 +7,7 @@
 int service_try(void)
 {
     tries_once();
-    CHECK(is_tried && !service.is_writing, "step: a turn that is had is used, and over");
+    CHECK(is_tried && !service.is_writing && service.answered == 0, "step: a turn that is had is used, and over");
     CHECK(is_gone[0] || service.again > 0, "answer: what isn't answered is tried again");
     if (is_gone[0] && is_gone[1] && is_written && asked == 2)
         REACHED("two are acknowledged");

@@ -110,10 +110,11 @@ static void compare_taking(void)
     for (uint32_t i = 0; i < 18U * 6 * 6 * 4; i++) {
         DconfdbTaking taking = {.task = i % 18, .openings = counts[i / 18 % 6], .forks = counts[i / 108 % 6], .has_made = (i / 648 & 1) != 0,
                                 .is_again = (i / 648 & 2) != 0};
-        for (uint32_t fault = 0; fault < FAULTS; fault++)
-            compare_taking_of(taking, &(DconfdbStood){.fault = fault, .mode = 0100600, .links = 1, .is_named = true});
-        for (uint32_t k = 0; k < 64; k++)
-            compare_taking_of(taking, &(DconfdbStood){.mode = modes[k % 4], .user = k / 4 % 2, .links = 1 + k / 8 % 2, .is_named = (k & 16) != 0, .is_root = (k & 32) != 0});
+        for (uint32_t fault = 0; fault < 2 * FAULTS; fault++)
+            compare_taking_of(taking, &(DconfdbStood){.fault = fault / 2, .mode = 0100600, .links = 1, .is_named = true, .may_make = (fault & 1) != 0});
+        for (uint32_t k = 0; k < 128; k++)
+            compare_taking_of(taking, &(DconfdbStood){.mode = modes[k % 4], .user = k / 4 % 2, .links = 1 + k / 8 % 2, .is_named = (k & 16) != 0, .is_root = (k & 32) != 0,
+                                                      .may_make = (k & 64) != 0});
     }
 }
 
@@ -164,7 +165,7 @@ static void compare_flags(void)
 
 static void compare_served_of(DconfdbServed known)
 {
-    for (uint32_t done = DCONFDB_SERVED_CAME; done <= DCONFDB_SERVED_PROFILE; done++) {
+    for (uint32_t done = DCONFDB_SERVED_CAME; done <= DCONFDB_SERVED_CALLED; done++) {
         if (dconfdb_served_after(done, &known) != served_given(done, &known))
             fail("served_after", "another fate than is given");
     }
@@ -179,12 +180,14 @@ static void compare_served(void)
                                .is_closed = bits & 16, .ends = bits & 32, .is_amid = bits & 64, .is_same = bits & 128, .is_open = bits & 256,
                                .is_profile_open = bits & 512, .has_same_file = bits & 1024, .had_name = bits & 2048, .is_bus_closed = bits & 1, .kind = bits / 4096, .is_short = bits & 1,
                                .sets = bits & 2, .is_again = bits & 4, .is_covered = bits & 8, .is_users = bits & 16, .is_unmade = bits & 32, .is_service_db = bits & 64,
-                               .is_behind = bits & 2, .has_profile = bits & 8};
+                               .is_behind = bits & 2, .has_profile = bits & 8, .is_first = bits & 4, .is_absolute = bits & 1, .is_last = bits & 2, .wants_none = bits & 1,
+                               .is_noted = bits & 1};
         for (uint32_t i = 0; i < 7 * 8; i++) {
             known.size = sizes[i / 8];
             known.waiting = i & 1 ? 9999 : i & 2 ? 10000 : 0;
             known.waiting_size = i & 2 ? 268435455 : i & 4 ? 268435456 : 0;
             known.names = i & 4 ? 63 : 64;
+            known.answered = i & 4 ? 9999 : 0;
             compare_served_of(known);
         }
     }

@@ -208,6 +208,15 @@ static inline void taking_failed(DconfdbTaking *taking, uint32_t fault)
         taking_over(taking, DCONFDB_TAKING_NOT_HAD, DCONFDB_TRIED_LOCK_FILE, fault);
 }
 
+/* The folder, or the lock's file, can't be opened. */
+static inline void taking_missing(DconfdbTaking *taking, bool may_make, uint32_t fault)
+{
+    if (may_make)
+        taking_failed(taking, fault);
+    else
+        taking_over(taking, DCONFDB_TAKING_NOT_HAD, DCONFDB_TRIED_LOCK_FILE, fault);
+}
+
 static inline void taking_begun(DconfdbTaking *taking, uint32_t task, bool is_again)
 {
     taking->task = task;
@@ -262,23 +271,27 @@ static inline void taking_listed(DconfdbTaking *taking, uint32_t fault)
         taking_forked(taking);
 }
 
-static inline void taking_in_folder(DconfdbTaking *taking, uint32_t fault)
+static inline void taking_in_folder(DconfdbTaking *taking, bool may_make, uint32_t fault)
 {
     if (fault == 0)
         taking_opens(taking, 0);
     else if (fault == 11)
         taking_forked(taking);
     else
-        taking_failed(taking, fault);
+        taking_missing(taking, may_make, fault);
 }
 
 static inline void taking_opened(DconfdbTaking *taking, const DconfdbStood *stood)
 {
     uint32_t told, is = standing_given(DCONFDB_TO_LOCK, stood, &told);
     if (is == DCONFDB_IS_FAULT)
-        taking_failed(taking, told);
+        taking_missing(taking, stood->may_make, told);
+    else if (is == DCONFDB_IS_GOOD)
+        taking->task = DCONFDB_TAKING_LIST;
+    else if (stood->may_make)
+        taking->task = DCONFDB_TAKING_LOOK_ABOVE;
     else
-        taking->task = is == DCONFDB_IS_GOOD ? DCONFDB_TAKING_LIST : DCONFDB_TAKING_LOOK_ABOVE;
+        taking_over(taking, DCONFDB_TAKING_NOT_HAD, DCONFDB_TRIED_LOCK_FILE, 2);
 }
 
 static inline void taking_looked(DconfdbTaking *taking, const DconfdbStood *stood)
@@ -301,7 +314,7 @@ static inline void taking_given(DconfdbTaking *taking, const DconfdbStood *stood
 {
     uint32_t fault = stood->fault;
     switch (taking->task) {
-    case DCONFDB_TAKING_OPEN_FOLDER: taking_in_folder(taking, fault); break;
+    case DCONFDB_TAKING_OPEN_FOLDER: taking_in_folder(taking, stood->may_make, fault); break;
     case DCONFDB_TAKING_MAKE_FOLDER:
         if (fault != 0) {
             taking_over(taking, DCONFDB_TAKING_NOT_HAD, DCONFDB_TRIED_LOCK_FILE, fault);

@@ -38,7 +38,7 @@ static inline uint32_t served_read(uint32_t done, const DconfdbServed *known)
     if (done == DCONFDB_SERVED_PATH)
         return known->kind > 1 ? DCONFDB_SERVED_PASSED : known->is_short ? DCONFDB_SERVED_GOES_ON : DCONFDB_SERVED_LEFT_OUT;
     if (done == DCONFDB_SERVED_SHOWS)
-        return known->is_users ? DCONFDB_SERVED_GOES_ON : DCONFDB_SERVED_PASSED;
+        return known->is_users && known->is_first ? DCONFDB_SERVED_GOES_ON : DCONFDB_SERVED_PASSED;
     return known->is_again ? DCONFDB_SERVED_REPLACES : known->is_covered && !known->sets ? DCONFDB_SERVED_PASSED : DCONFDB_SERVED_GOES_ON;
 }
 
@@ -54,7 +54,8 @@ static inline uint32_t served_given(uint32_t done, const DconfdbServed *known)
         if (!known->is_open || !known->is_profile_open)
             return DCONFDB_SERVED_FAILED;
         return known->has_same_file ? DCONFDB_SERVED_PROFILES : DCONFDB_SERVED_ALONE;
-    case DCONFDB_SERVED_LEFT: return known->waiting == 0 ? DCONFDB_SERVED_GOES_ON : DCONFDB_SERVED_LATE;
+    case DCONFDB_SERVED_LEFT:
+        return known->waiting == 0 ? DCONFDB_SERVED_GOES_ON : known->answered < known->waiting ? DCONFDB_SERVED_LATE : DCONFDB_SERVED_ENDS;
     case DCONFDB_SERVED_PATH:
     case DCONFDB_SERVED_ORDERED:
     case DCONFDB_SERVED_SHOWS: return served_read(done, known);
@@ -62,6 +63,11 @@ static inline uint32_t served_given(uint32_t done, const DconfdbServed *known)
     case DCONFDB_SERVED_BESIDE: return DCONFDB_SERVED_ALONE;
     case DCONFDB_SERVED_PASSES: return !known->is_used || known->is_behind || known->ends ? DCONFDB_SERVED_LATER : served_came(known);
     case DCONFDB_SERVED_PROFILE: return known->has_profile ? DCONFDB_SERVED_PASSED : DCONFDB_SERVED_GOES_ON;
+    case DCONFDB_SERVED_HEARD: return DCONFDB_SERVED_GOES_ON;
+    case DCONFDB_SERVED_FOLDER: return known->is_absolute || known->is_last ? DCONFDB_SERVED_GOES_ON : DCONFDB_SERVED_PASSED;
+    case DCONFDB_SERVED_USED: return known->is_open ? DCONFDB_SERVED_GOES_ON : DCONFDB_SERVED_FAILED;
+    case DCONFDB_SERVED_ANSWERED: return known->wants_none ? DCONFDB_SERVED_PASSED : DCONFDB_SERVED_GOES_ON;
+    case DCONFDB_SERVED_CALLED: return known->is_noted ? DCONFDB_SERVED_GOES_ON : DCONFDB_SERVED_PASSED;
     case DCONFDB_SERVED_NAMELESS: return known->had_name || known->is_bus_closed ? DCONFDB_SERVED_ENDS : DCONFDB_SERVED_TAKEN;
     default: return served_tried(known);
     }

@@ -2,8 +2,8 @@
 use Rattle.std.proofs.Common.{◌≡◌, ◌≢◌, ◌⊎◌, inl, inr, arith, Bool, true, false, not, refl, sym, ◌∙◌}
 use Rattle.std.specs.Prelude.{ℕ, ◌&&◌, ◌||◌, ◌==◌, if◌then◌else◌, nat_lt, nat_le}
 use Rattle.dconf_served.specs.declared.served.Served.{Served}
-use Rattle.dconf_served.specs.declared.served.Served.TheVariants.{GoesOn, Acknowledged, Failed, Closed, Odd, TooLarge, TooMuch, TooManyNames, Late, Later, Profiles, Alone, PassedOver, LeftOut, Replaces, Unsupported}
-use Rattle.dconf_served.specs.Served.{has_room, came, is_odd, is_path, lasts, NothingIsAnsweredUnwritten, WhatCameFirstIsFirst, WhatIsMadeIsTold, WhatIsSentCounts, WhatWaitsIsBounded, WhoWaitsIsToldAtTheEnd, LocksCountWhereTheyAreKnown}
+use Rattle.dconf_served.specs.declared.served.Served.TheVariants.{GoesOn, Acknowledged, Failed, Closed, Odd, TooLarge, TooMuch, TooManyNames, Late, Later, Profiles, Alone, Ends, PassedOver, LeftOut, Replaces, Unsupported}
+use Rattle.dconf_served.specs.Served.{has_room, came, is_odd, is_path, lasts, NothingIsAnsweredUnwritten, WhatCameFirstIsFirst, WhatIsAskedIsSaid, WhatIsMadeIsTold, WhatIsSentCounts, WhatWaitsIsBounded, WhoWaitsIsToldAtTheEnd, LocksCountWhereTheyAreKnown}
 
 -- ---- what was tried, by whether it is written, lasts, is at its end, is odd, has edits, and is closed
 
@@ -93,12 +93,26 @@ late true e = absurd (let bad : true ≡ false = e in cc)
 zero_if : (n : ℕ) → (n == 0) ≡ true → n ≡ 0
 zero_if n e = grind arith
 
-is_so : (is : Bool) → (if is then GoesOn else Late) ≡ GoesOn → is ≡ true
-is_so true e = refl
-is_so false e = absurd (let bad : Late ≡ GoesOn = e in cc)
+abbrev left_by : Bool → Bool → Served
+left_by none some = if none then GoesOn else if some then Late else Ends
 
-rests : (waiting : ℕ) → (if waiting == 0 then GoesOn else Late) ≡ GoesOn → waiting ≡ 0
-rests waiting e = zero_if waiting (is_so (waiting == 0) e)
+is_so : (none some : Bool) → left_by none some ≡ GoesOn → none ≡ true
+is_so true some e = refl
+is_so false true e = absurd (let bad : Late ≡ GoesOn = e in cc)
+is_so false false e = absurd (let bad : Ends ≡ GoesOn = e in cc)
+
+rests : (waiting : ℕ) (some : Bool) → left_by (waiting == 0) some ≡ GoesOn → waiting ≡ 0
+rests waiting some e = zero_if waiting (is_so (waiting == 0) some e)
+
+silent : (none some : Bool) → left_by none some ≡ Ends → some ≡ false
+silent true some e = absurd (let bad : GoesOn ≡ Ends = e in cc)
+silent false true e = absurd (let bad : Late ≡ Ends = e in cc)
+silent false false e = refl
+
+said : (none some : Bool) → left_by none some ≡ Late → some ≡ true
+said true some e = absurd (let bad : GoesOn ≡ Late = e in cc)
+said false true e = refl
+said false false e = absurd (let bad : Ends ≡ Late = e in cc)
 
 abbrev placed_by : Bool → Bool → Bool → Served
 placed_by one profile same = if not one || not profile then Failed else if same then Profiles else Alone
@@ -154,9 +168,23 @@ once : (again covered sets : Bool) → again ≡ true → ordered_by again cover
 once true covered sets a = refl
 once false covered sets a = absurd (let bad : false ≡ true = a in cc)
 
-own : (users : Bool) → (if users then GoesOn else PassedOver) ≡ GoesOn → users ≡ true
-own true e = refl
-own false e = absurd (let bad : PassedOver ≡ GoesOn = e in cc)
+goes_if : (is : Bool) → (if is then GoesOn else PassedOver) ≡ GoesOn → is ≡ true
+goes_if true e = refl
+goes_if false e = absurd (let bad : PassedOver ≡ GoesOn = e in cc)
+
+absolute : (absolute last : Bool) → (if absolute || last then GoesOn else PassedOver) ≡ GoesOn → last ≡ false → absolute ≡ true
+absolute true last e l = refl
+absolute false true e l = absurd (let bad : true ≡ false = l in cc)
+absolute false false e l = absurd (let bad : PassedOver ≡ GoesOn = e in cc)
+
+last_folder : (absolute last : Bool) → last ≡ true → (if absolute || last then GoesOn else PassedOver) ≡ GoesOn
+last_folder true last l = refl
+last_folder false true l = refl
+last_folder false false l = absurd (let bad : false ≡ true = l in cc)
+
+is_open : (is : Bool) → (if is then GoesOn else Failed) ≡ GoesOn → is ≡ true
+is_open true e = refl
+is_open false e = absurd (let bad : Failed ≡ GoesOn = e in cc)
 
 abbrev told_by : Bool → Bool → Served
 told_by written unmade = if not written then PassedOver else if unmade then LeftOut else GoesOn
@@ -203,7 +231,9 @@ pub who_waits_is_told_at_the_end : WhoWaitsIsToldAtTheEnd
 who_waits_is_told_at_the_end k last = record {
   told = at_the_end k.is_amid last.is_written (lasts last) last.ends (is_odd last) last.has_edits last.is_closed;
   unwritten = late k.is_amid;
-  rests = rests k.waiting;
+  rests = rests k.waiting (nat_lt k.answered k.waiting);
+  silent = silent (k.waiting == 0) (nat_lt k.answered k.waiting);
+  said = said (k.waiting == 0) (nat_lt k.answered k.waiting);
 }
 
 says_so : (says : Bool) → (if says then PassedOver else GoesOn) ≡ PassedOver → says ≡ true
@@ -216,6 +246,9 @@ locks_count_where_they_are_known k = record {
   unknown = unknown k.is_open k.is_profile_open k.has_same_file;
   others = others k.is_open k.is_profile_open k.has_same_file;
   profile = says_so k.has_profile;
+  folder = absolute k.is_absolute k.is_last;
+  last = last_folder k.is_absolute k.is_last;
+  opened = is_open k.is_open;
 }
 
 pub what_is_sent_counts : WhatIsSentCounts
@@ -225,7 +258,7 @@ what_is_sent_counts k = record {
   set = set_stays k.is_again k.is_covered k.sets;
   covered = passed_over k.is_again k.is_covered k.sets;
   once = once k.is_again k.is_covered k.sets;
-  own = own k.is_users;
+  own = λ e. both k.is_users k.is_first (goes_if (k.is_users && k.is_first) e);
 }
 
 pub what_is_made_is_told : WhatIsMadeIsTold
@@ -268,4 +301,16 @@ what_came_first_is_first k = record {
   ends = waits_at_the_end k.is_used k.is_behind k.ends (came k);
   used = waits_to_be_open k.is_used k.is_behind k.ends (came k);
   fits = fits_by k.is_used k.is_behind k.ends (came k);
+}
+
+wants_none : (none : Bool) → none ≡ true → (if none then PassedOver else GoesOn) ≡ PassedOver
+wants_none true e = refl
+wants_none false e = absurd (let bad : false ≡ true = e in cc)
+
+pub what_is_asked_is_said : WhatIsAskedIsSaid
+what_is_asked_is_said k = record {
+  answer = says_so k.wants_none;
+  wanted = wants_none k.wants_none;
+  heard = refl;
+  noted = goes_if k.is_noted;
 }

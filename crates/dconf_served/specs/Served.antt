@@ -70,9 +70,21 @@ made k = if not k.is_written then PassedOver else if k.is_unmade then LeftOut el
 abbrev pub told : ServedKnown → Served
 told k = if nat_lt 16777216 k.size then TooLarge else GoesOn
 
--- a database: programs in a sandbox see the user's own alone
+-- a database: programs in a sandbox see the user's own alone, which is the first
 abbrev pub shown : ServedKnown → Served
-shown k = if k.is_users then GoesOn else PassedOver
+shown k = if k.is_users && k.is_first then GoesOn else PassedOver
+
+-- who listens to a bus isn't known: it counts as if somebody did
+abbrev pub heard : ServedKnown → Served
+heard k = GoesOn
+
+-- who calls is answered, unless no answer is wanted
+abbrev pub answered : ServedKnown → Served
+answered k = if k.wants_none then PassedOver else GoesOn
+
+-- and the call is noted, where the environment asks for it
+abbrev pub noted : ServedKnown → Served
+noted k = if k.is_noted then GoesOn else PassedOver
 
 -- ---- when the service ends
 
@@ -80,9 +92,9 @@ shown k = if k.is_users then GoesOn else PassedOver
 abbrev pub ended : ServedKnown → Served
 ended k = if k.is_amid then GoesOn else Late
 
--- the thread rests if nothing waited
+-- the thread rests if nothing waited; else it is left, and that somebody isn't answered by it is said
 abbrev pub left : ServedKnown → Served
-left k = if k.waiting == 0 then GoesOn else Late
+left k = if k.waiting == 0 then GoesOn else if nat_lt k.answered k.waiting then Late else Ends
 
 -- it hasn't its name: it had it, or the bus is gone; or another service has it
 abbrev pub named : ServedKnown → Served
@@ -101,12 +113,21 @@ placed k = if not k.is_open || not k.is_profile_open then Failed else if k.has_s
 abbrev pub profiled : ServedKnown → Served
 profiled k = if k.has_profile then PassedOver else GoesOn
 
+-- in the first of the folders that has an absolute path, or in the last
+abbrev pub based : ServedKnown → Served
+based k = if k.is_absolute || k.is_last then GoesOn else PassedOver
+
+-- a database that can't be opened isn't changed
+abbrev pub used : ServedKnown → Served
+used k = if k.is_open then GoesOn else Failed
+
 abbrev pub served_after : ℕ → ServedKnown → Served
 served_after done k = if done == 0 then came k else if done == 1 then read k else if done == 3 then told k else
     if done == 4 then ended k else if done == 5 then joined k else if done == 6 then placed k else if done == 7 then left k else
     if done == 8 then named k else if done == 9 then entered k else if done == 10 then ordered k else if done == 11 then shown k else
     if done == 12 then made k else if done == 13 then beside k else if done == 14 then passed k else
-    if done == 15 then profiled k else tried k
+    if done == 15 then profiled k else if done == 16 then heard k else if done == 17 then based k else if done == 18 then used k else
+    if done == 19 then answered k else if done == 20 then noted k else tried k
 
 abbrev pub served_number : Served → ℕ
 served_number GoesOn = 0
@@ -161,6 +182,9 @@ pub record IsToldAtTheEnd (k last : ServedKnown) : Type 0 where
   pub unwritten : k.is_amid ≡ false → served_after 4 k ≡ Late
   -- the thread is waited for only if nobody is left to be told
   pub rests : served_after 7 k ≡ GoesOn → k.waiting ≡ 0
+  -- it is left in silence only if all are answered, and the last word is said only if somebody isn't
+  pub silent : served_after 7 k ≡ Ends → nat_lt k.answered k.waiting ≡ false
+  pub said : served_after 7 k ≡ Late → nat_lt k.answered k.waiting ≡ true
 
 abbrev pub WhoWaitsIsToldAtTheEnd : Type 0
 WhoWaitsIsToldAtTheEnd = (k last : ServedKnown) → IsToldAtTheEnd k last
@@ -172,6 +196,11 @@ pub record IsPlacedSafely (k : ServedKnown) : Type 0 where
   pub others : served_after 6 k ≡ Profiles → k.has_same_file ≡ true
   -- one by itself has a profile that says so: what is there stays only if it does
   pub profile : served_after 15 k ≡ PassedOver → k.has_profile ≡ true
+  -- in a folder that has an absolute path, unless none has one
+  pub folder : served_after 17 k ≡ GoesOn → k.is_last ≡ false → k.is_absolute ≡ true
+  pub last : k.is_last ≡ true → served_after 17 k ≡ GoesOn
+  -- nothing is written to what can't be opened
+  pub opened : served_after 18 k ≡ GoesOn → k.is_open ≡ true
 
 abbrev pub LocksCountWhereTheyAreKnown : Type 0
 LocksCountWhereTheyAreKnown = (k : ServedKnown) → IsPlacedSafely k
@@ -188,7 +217,7 @@ pub record CountsAsSent (k : ServedKnown) : Type 0 where
   -- of each path there is one
   pub once : k.is_again ≡ true → served_after 10 k ≡ Replaces
   -- no site's database is told of
-  pub own : served_after 11 k ≡ GoesOn → k.is_users ≡ true
+  pub own : served_after 11 k ≡ GoesOn → (k.is_users ≡ true) × (k.is_first ≡ true)
 
 abbrev pub WhatIsSentCounts : Type 0
 WhatIsSentCounts = (k : ServedKnown) → CountsAsSent k
@@ -213,3 +242,16 @@ pub record KeepsItsPlace (k : ServedKnown) : Type 0 where
 
 abbrev pub WhatCameFirstIsFirst : Type 0
 WhatCameFirstIsFirst = (k : ServedKnown) → KeepsItsPlace k
+
+-- what nobody asked for isn't said
+pub record IsAsked (k : ServedKnown) : Type 0 where
+  -- an answer is kept back only from who wants none
+  pub answer : served_after 19 k ≡ PassedOver → k.wants_none ≡ true
+  pub wanted : k.wants_none ≡ true → served_after 19 k ≡ PassedOver
+  -- as nobody knows who listens, nothing is kept back for that
+  pub heard : served_after 16 k ≡ GoesOn
+  -- calls are noted only if the environment asks for it
+  pub noted : served_after 20 k ≡ GoesOn → k.is_noted ≡ true
+
+abbrev pub WhatIsAskedIsSaid : Type 0
+WhatIsAskedIsSaid = (k : ServedKnown) → IsAsked k

@@ -5,7 +5,7 @@
 #![tactic(auto)]
 
 ghost use Rattle.dconf_served.specs.Begins.{OthersAreToldOfFromTheStart};
-ghost use Rattle.dconf_served.specs.Served.{LocksCountWhereTheyAreKnown, NothingIsAnsweredUnwritten, WhatCameFirstIsFirst, WhatIsMadeIsTold, WhatIsSentCounts, WhatWaitsIsBounded, WhoWaitsIsToldAtTheEnd};
+ghost use Rattle.dconf_served.specs.Served.{LocksCountWhereTheyAreKnown, NothingIsAnsweredUnwritten, WhatCameFirstIsFirst, WhatIsAskedIsSaid, WhatIsMadeIsTold, WhatIsSentCounts, WhatWaitsIsBounded, WhoWaitsIsToldAtTheEnd};
 
 mod begins;
 mod served;
@@ -26,7 +26,7 @@ pub fn what_waits_is_bounded()
 {}
 
 /// At the service's end whoever isn't answered is told so, and nothing of that is written any more; only a change that is being written is
-/// answered by that try.
+/// answered by that try. That something isn't on the disk is said at last only if somebody isn't answered.
 pub fn who_waits_is_told_at_the_end()
     ensures { WhoWaitsIsToldAtTheEnd }
 {}
@@ -51,6 +51,11 @@ pub fn what_is_made_is_told()
 /// Whichever thread takes a change, it is made behind all that came before it, and is refused for the same.
 pub fn what_came_first_is_first()
     ensures { WhatCameFirstIsFirst }
+{}
+
+/// Who calls is answered unless no answer is wanted, it is told as if somebody listened, and calls are noted only where the environment asks for it.
+pub fn what_is_asked_is_said()
+    ensures { WhatIsAskedIsSaid }
 {}
 
 /// Before it serves anybody the database `user` is open, and dconf's folders are there, where the store is of dconf's kind.

@@ -1,6 +1,6 @@
 //! What becomes of a call that changes settings, and of the service that takes it.
 ghost use Rattle.std.specs.Prelude.{◌≡◌};
-ghost use Rattle.dconf_served.specs.Served.{came, ended, entered, has_room, is_odd, is_path, is_settled, joined, lasts, left, made, named, ordered, passed, placed, profiled, read, served_after, served_number, shown, told, tried};
+ghost use Rattle.dconf_served.specs.Served.{answered, based, came, ended, entered, has_room, is_odd, is_path, is_settled, joined, lasts, left, made, named, noted, ordered, passed, placed, profiled, read, served_after, served_number, shown, told, tried, used};
 
 /// A change has so many bytes at most.
 const LARGEST: u64 = 67_108_864;
@@ -46,7 +46,7 @@ pub enum Served {
     Profiles,
     /// Its database is one by itself; or an edit is made, or not, by itself.
     Alone,
-    /// The service ends, and takes what it was sent before.
+    /// The service ends, and takes what it was sent before; or its thread is left, by which all are answered.
     Ends,
     /// Another service has the name: this one never serves.
     Taken,
@@ -71,6 +71,8 @@ pub struct ServedKnown {
     pub waiting_size: u64,
     /// How many databases are in use.
     pub names: u64,
+    /// How many of the changes that wait are answered already, by a try that isn't over.
+    pub answered: u64,
     /// What is said of the fault by which it can't be written: 1 it is said, 2 it was; else it doesn't last yet.
     pub said: u32,
     /// What a text is as the path of what is asked for there: 0 a key's, 1 a directory's; else it is none.
@@ -104,7 +106,7 @@ pub struct ServedKnown {
     pub is_covered: bool,
     /// A value is set there; else it is reset.
     pub sets: bool,
-    /// A database is the user's own.
+    /// The first database is the user's own.
     pub is_users: bool,
     /// An edit isn't made, be what was tried on the disk: its key may not be written, or others have set it since.
     pub is_unmade: bool,
@@ -114,12 +116,23 @@ pub struct ServedKnown {
     pub is_behind: bool,
     /// The file that is to be the profile of its database alone says that already.
     pub has_profile: bool,
+    /// It is the first database.
+    pub is_first: bool,
+    /// The path of a folder that may have that file is absolute; and no other one is left.
+    pub is_absolute: bool,
+    pub is_last: bool,
+    /// Who calls wants no answer.
+    pub wants_none: bool,
+    /// The environment asks that calls are noted.
+    pub is_noted: bool,
 }
 
 /// What becomes of a change: 0 it came, 14 it came in another thread than the main one, 1 it is read, 3 what is seen otherwise by it is told, 4 the service ends before it is answered, 5 it
 /// waits behind those that are taken, 6 the stores were opened that may have its database, and else it was tried to write it. Of what it says: 9 a
 /// path is read, 10 it comes behind those before it in the order of their bytes, 12 an edit was tried, and is told of, 13 it stands beside others
-/// of its change. Of its database 15: the file was read that is to be the profile of that alone. And of the service: 7 each caller is answered who can be at its end, 8 it hasn't its name, 11 it tells of a database.
+/// of its change; and 19 it is answered. Of its database 15: the file was read that is to be the profile of that alone, 17 a folder may have that file, 18
+/// it was to be opened, unless it is in use. And of the service: 7 each caller is answered who can be at its end, 8 it hasn't its name, 11 it tells of a
+/// database, 16 it is asked whether somebody listens, 20 it was called.
 pub fn served_after(done: u32, known: &ServedKnown) -> Served
     ensures { result ≡ served_after done known.now }
 {
@@ -139,6 +152,11 @@ pub fn served_after(done: u32, known: &ServedKnown) -> Served
         13 => Served::Alone, // a locked key keeps no other one from being set
         14 => passed(known),
         15 => profiled(known),
+        16 => Served::GoesOn, // who listens to a bus isn't known
+        17 => based(known),
+        18 => used(known),
+        19 => answered(known),
+        20 => noted(known),
         _ => tried(known),
     }
 }
@@ -259,7 +277,7 @@ fn made(known: &ServedKnown) -> Served
 fn shown(known: &ServedKnown) -> Served
     ensures { result ≡ shown known.now }
 {
-    if known.is_users {
+    if known.is_users && known.is_first {
         return Served::GoesOn;
     }
     Served::PassedOver
@@ -339,6 +357,26 @@ fn joined(known: &ServedKnown) -> Served
     Served::Later
 }
 
+/// Who calls is answered once, if an answer is wanted.
+fn answered(known: &ServedKnown) -> Served
+    ensures { result ≡ answered known.now }
+{
+    if known.wants_none {
+        return Served::PassedOver;
+    }
+    Served::GoesOn
+}
+
+/// Each call is noted, where the environment asks for it.
+fn noted(known: &ServedKnown) -> Served
+    ensures { result ≡ noted known.now }
+{
+    if known.is_noted {
+        return Served::GoesOn;
+    }
+    Served::PassedOver
+}
+
 /// Each name has a store, if it can be opened. A profile that can't be might lock what is asked for: then nothing is written.
 fn placed(known: &ServedKnown) -> Served
     ensures { result ≡ placed known.now }
@@ -362,14 +400,38 @@ fn profiled(known: &ServedKnown) -> Served
     Served::GoesOn
 }
 
-/// The thread rests if nothing waited when the end came, and is waited for then; else it may be in line for its turn, or amid a try.
+/// A folder without an absolute path is none; but one has the file.
+fn based(known: &ServedKnown) -> Served
+    ensures { result ≡ based known.now }
+{
+    if known.is_absolute || known.is_last {
+        return Served::GoesOn;
+    }
+    Served::PassedOver
+}
+
+/// What can't be opened can't be changed.
+fn used(known: &ServedKnown) -> Served
+    ensures { result ≡ used known.now }
+{
+    if known.is_open {
+        return Served::GoesOn;
+    }
+    Served::Failed
+}
+
+/// The thread rests if nothing waited when the end came, and is waited for then; else it may be in line for its turn, or amid a try, by which all may be
+/// answered by now.
 fn left(known: &ServedKnown) -> Served
     ensures { result ≡ left known.now }
 {
     if known.waiting == 0 {
         return Served::GoesOn;
     }
-    Served::Late
+    if known.answered < known.waiting {
+        return Served::Late;
+    }
+    Served::Ends
 }
 
 /// Whoever takes the name from a service that had it is sent what comes from then on.

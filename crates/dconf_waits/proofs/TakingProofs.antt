@@ -1,15 +1,15 @@
 -- A try to take a lock ends: each answer leaves less to be done, by what is left of what is counted.
 use Rattle.std.proofs.Common.{ℕ, zero, suc, ◌+◌, ◌-◌, ◌*◌, ◌<◌, ◌≤◌, ◌≡◌, ◌⊎◌, ◌==◌, ◌&&◌, Bool, true, false, not, List, [], ◌∷◌, length, if◌then◌else◌, refl, sym, ◌∙◌, ap, subst, arith, ⊎_elim, inl, inr}
 use Rattle.std.specs.Prelude.{nat_lt}
-use Rattle.std.proofs.lemmas.Bool.{eqb-true, ltb-true}
+use Rattle.std.proofs.lemmas.Bool.{eqb-true, ltb-true, ne_eqb}
 use Rattle.dconf_verdicts.specs.declared.standing.Seen.{Seen}
 use Rattle.dconf_verdicts.specs.declared.standing.Standing.{Standing}
 use Rattle.dconf_verdicts.specs.declared.standing.Standing.TheVariants as standing
 use Rattle.dconf_verdicts.specs.declared.standing.Purpose.TheVariants.{Look, OpenLock, HoldLock}
 use Rattle.dconf_verdicts.specs.Standings.{standing_of}
 use Rattle.dconf_waits.specs.declared.taking.TakingRecord.{TakingRecord}
-use Rattle.dconf_waits.specs.Takings.{above_seen, begun, by_names, by_old, by_removal, failed, file_made, folder_made, folder_opened, forked, is_for_others, listed, locked, moved, opened_anew, over, taken, to}
-use Rattle.dconf_waits.specs.TakingLaws.{Begins, EachTryEnds, EndsIn, is_over}
+use Rattle.dconf_waits.specs.Takings.{above_seen, begun, by_names, by_old, by_removal, failed, file_made, folder_made, folder_opened, forked, is_for_others, listed, locked, missing, moved, opened_anew, over, taken, to, unmade}
+use Rattle.dconf_waits.specs.TakingLaws.{EachTryEnds, EndsIn, is_over, makes_at, NothingIsMadeUnasked}
 
 -- ---- what is left
 
@@ -66,10 +66,10 @@ by_test false n u v p q = q refl
 goes_to : (n k : ℕ) (u : TakingRecord) → u.task ≡ k → 0 < k → k < 12 → left u < n → Falls n u
 goes_to n k u e a b h = inr (subst (λ (x : ℕ). 0 < x) (sym e) a, subst (λ (x : ℕ). x < 12) (sym e) b, h)
 
-unmade : (a b : Bool) → (a && not b) ≡ true → made_left b ≡ 1
-unmade true false h = refl
-unmade true true h = absurd (let bad : false ≡ true = h in cc)
-unmade false b h = absurd (let bad : false ≡ true = h in cc)
+one_left : (a b : Bool) → (a && not b) ≡ true → made_left b ≡ 1
+one_left true false h = refl
+one_left true true h = absurd (let bad : false ≡ true = h in cc)
+one_left false b h = absurd (let bad : false ≡ true = h in cc)
 
 first_time : (b : Bool) → b ≡ false → again_left b ≡ 1
 first_time false h = refl
@@ -79,8 +79,12 @@ failed_falls : (t : TakingRecord) (fault o p : ℕ)
     → Falls (16000 * again_left t.is_again + (1450 * (9 - t.forks) + (1450 * made_left t.has_made + (14 * o + p)))) (failed t fault)
 failed_falls t fault o p =
     by_test ((fault == 2) && not t.has_made) _ (to t 2) (over t 15 3 fault)
-    (λ is. goes_to _ 2 (to t 2) refl (omega arith) (omega arith) (less_made (again_left t.is_again) (9 - t.forks) (made_left t.has_made) o p (unmade (fault == 2) t.has_made is)))
+    (λ is. goes_to _ 2 (to t 2) refl (omega arith) (omega arith) (less_made (again_left t.is_again) (9 - t.forks) (made_left t.has_made) o p (one_left (fault == 2) t.has_made is)))
     (λ is. inl refl)
+
+missing_falls : (t : TakingRecord) (may_make : Bool) (fault o p : ℕ)
+    → Falls (16000 * again_left t.is_again + (1450 * (9 - t.forks) + (1450 * made_left t.has_made + (14 * o + p)))) (missing t may_make fault)
+missing_falls t may_make fault o p = by_test may_make _ (failed t fault) (over t 15 3 fault) (λ is. failed_falls t fault o p) (λ is. inl refl)
 
 moved_falls : (t : TakingRecord) (f o p : ℕ) → Falls (16000 * again_left t.is_again + (1450 * (9 - t.forks) + (1450 * f + (14 * o + p)))) (moved t)
 moved_falls t f o p =
@@ -109,11 +113,11 @@ forked_falls t o p =
 
 -- ---- the tasks
 
-opened_falls : (t : TakingRecord) (fault : ℕ) → Falls (left_at 1 t) (folder_opened t fault)
-opened_falls t fault =
+opened_falls : (t : TakingRecord) (may_make : Bool) (fault : ℕ) → Falls (left_at 1 t) (folder_opened t may_make fault)
+opened_falls t may_make fault =
     by_test (fault == 0) _ (record t { task = 3; openings = 0 }) _
     (λ is. goes_to _ 3 (record t { task = 3; openings = 0 }) refl (omega arith) (omega arith) (less_open (again_left t.is_again) (9 - t.forks) (made_left t.has_made) 100 99 12 10 (omega arith) (omega arith)))
-    (λ is. by_test (fault == 11) _ (forked t) (failed t fault) (λ is. forked_falls t 100 12) (λ is. failed_falls t fault 100 12))
+    (λ is. by_test (fault == 11) _ (forked t) (missing t may_make fault) (λ is. forked_falls t 100 12) (λ is. missing_falls t may_make fault 100 12))
 
 folder_falls : (t : TakingRecord) (fault : ℕ) → Falls (left_at 2 t) (folder_made t fault)
 folder_falls t fault =
@@ -121,13 +125,17 @@ folder_falls t fault =
     (λ is. goes_to _ 1 (record t { task = 1; has_made = true }) refl (omega arith) (omega arith) (less_place (again_left t.is_again) (9 - t.forks) 0 100 13 12 (omega arith)))
     (λ is. inl refl)
 
-old_falls : (t : TakingRecord) (st : Standing) → Falls (left_at 3 t) (by_old t st)
-old_falls t standing.Good = later_falls t 3 8 (omega arith) (omega arith) (omega arith) refl
-old_falls t (standing.Fault fault) = failed_falls t fault (99 - t.openings) 10
-old_falls t standing.Nothing = later_falls t 3 4 (omega arith) (omega arith) (omega arith) refl
-old_falls t standing.Map = later_falls t 3 4 (omega arith) (omega arith) (omega arith) refl
-old_falls t standing.Head = later_falls t 3 4 (omega arith) (omega arith) (omega arith) refl
-old_falls t standing.Other = later_falls t 3 4 (omega arith) (omega arith) (omega arith) refl
+unmade_falls : (t : TakingRecord) (may_make : Bool) → Falls (left_at 3 t) (unmade t may_make)
+unmade_falls t may_make =
+    by_test may_make _ (to t 4) (over t 15 3 2) (λ is. later_falls t 3 4 (omega arith) (omega arith) (omega arith) refl) (λ is. inl refl)
+
+old_falls : (t : TakingRecord) (may_make : Bool) (st : Standing) → Falls (left_at 3 t) (by_old t may_make st)
+old_falls t may_make standing.Good = later_falls t 3 8 (omega arith) (omega arith) (omega arith) refl
+old_falls t may_make (standing.Fault fault) = missing_falls t may_make fault (99 - t.openings) 10
+old_falls t may_make standing.Nothing = unmade_falls t may_make
+old_falls t may_make standing.Map = unmade_falls t may_make
+old_falls t may_make standing.Head = unmade_falls t may_make
+old_falls t may_make standing.Other = unmade_falls t may_make
 
 above_falls : (t : TakingRecord) (s : Seen) → Falls (left_at 4 t) (above_seen t s)
 above_falls t s =
@@ -183,8 +191,8 @@ removal_falls t standing.Other = moved_falls t (made_left t.has_made) (99 - t.op
 
 abbrev taken_at : ℕ → TakingRecord → Seen → TakingRecord
 taken_at task t s =
-    if task == 1 then folder_opened t s.fault else if task == 2 then folder_made t s.fault else
-    if task == 3 then by_old t (standing_of OpenLock s) else if task == 4 then above_seen t s else
+    if task == 1 then folder_opened t s.may_make s.fault else if task == 2 then folder_made t s.fault else
+    if task == 3 then by_old t s.may_make (standing_of OpenLock s) else if task == 4 then above_seen t s else
     if task == 5 then file_made t s.fault else if task == 6 then file_made t s.fault else if task == 7 then file_made t s.fault else
     if task == 8 then listed t s.fault else if task == 9 then locked t s.fault else
     if task == 10 then by_names t (standing_of HoldLock s) else if task == 11 then by_removal t (standing_of Look s) else
@@ -192,9 +200,9 @@ taken_at task t s =
 
 task_falls : (k : ℕ) (t : TakingRecord) (s : Seen) → t.task ≡ k → 0 < k → k < 12 → Falls (left_at k t) (taken_at k t s)
 task_falls zero t s e a b = absurd (omega (arith, a))
-task_falls (suc zero) t s e a b = opened_falls t s.fault
+task_falls (suc zero) t s e a b = opened_falls t s.may_make s.fault
 task_falls (suc (suc zero)) t s e a b = folder_falls t s.fault
-task_falls (suc (suc (suc zero))) t s e a b = old_falls t (standing_of OpenLock s)
+task_falls (suc (suc (suc zero))) t s e a b = old_falls t s.may_make (standing_of OpenLock s)
 task_falls (suc (suc (suc (suc zero)))) t s e a b = above_falls t s
 task_falls (suc (suc (suc (suc (suc zero))))) t s e a b = file_falls t 5 s.fault (omega arith) (omega arith) e
 task_falls (suc (suc (suc (suc (suc (suc zero)))))) t s e a b = file_falls t 6 s.fault (omega arith) (omega arith) e
@@ -241,3 +249,89 @@ each_try_ends (s ∷ more) t h l =
     let enough : 31999 ≤ length more = omega (arith, l) in
     ⊎_elim (λ e. begin t s more 0 e enough refl)
     (λ r. ⊎_elim (λ e. begin t s more 13 e enough refl) (λ q. ⊎_elim (λ e. again t s more e enough) (λ e. begin t s more 15 e enough refl) q) r) h
+
+-- ---- nothing is made unasked
+
+abbrev Unmaking : TakingRecord → Type 0
+Unmaking u = makes_at u.task ≡ false
+
+either : (is : Bool) (u v : TakingRecord) → Unmaking u → Unmaking v → Unmaking (if is then u else v)
+either true u v p q = p
+either false u v p q = q
+
+old_unmaking : (t : TakingRecord) (st : Standing) → Unmaking (by_old t false st)
+old_unmaking t standing.Good = refl
+old_unmaking t (standing.Fault fault) = refl
+old_unmaking t standing.Nothing = refl
+old_unmaking t standing.Map = refl
+old_unmaking t standing.Head = refl
+old_unmaking t standing.Other = refl
+
+moved_unmaking : (t : TakingRecord) → Unmaking (moved t)
+moved_unmaking t = either t.is_again (over t 15 2 0) (record (begun t) { is_again = true }) refl refl
+
+names_unmaking : (t : TakingRecord) (st : Standing) → Unmaking (by_names t st)
+names_unmaking t standing.Good = refl
+names_unmaking t standing.Other = refl
+names_unmaking t standing.Nothing = moved_unmaking t
+names_unmaking t standing.Map = moved_unmaking t
+names_unmaking t standing.Head = moved_unmaking t
+names_unmaking t (standing.Fault fault) = moved_unmaking t
+
+removal_unmaking : (t : TakingRecord) (st : Standing) → Unmaking (by_removal t st)
+removal_unmaking t (standing.Fault fault) = refl
+removal_unmaking t standing.Good = moved_unmaking t
+removal_unmaking t standing.Nothing = moved_unmaking t
+removal_unmaking t standing.Map = moved_unmaking t
+removal_unmaking t standing.Head = moved_unmaking t
+removal_unmaking t standing.Other = moved_unmaking t
+
+forked_unmaking : (t : TakingRecord) → Unmaking (forked t)
+forked_unmaking t = either (nat_lt t.forks 9) (record t { task = 1; forks = t.forks + 1 }) (over t 15 1 11) refl refl
+
+listed_unmaking : (t : TakingRecord) (fault : ℕ) → Unmaking (listed t fault)
+listed_unmaking t fault = either (fault == 0) (to t 9) _ refl (forked_unmaking t)
+
+unless : (is : Bool) (u v : TakingRecord) → is ≡ false → Unmaking v → Unmaking (if is then u else v)
+unless true u v h p = absurd (let bad : true ≡ false = h in cc)
+unless false u v h p = p
+
+far : (m k : ℕ) → k < 15 → 14 < m → (m == k) ≡ false
+far m k a b = ne_eqb m k (λ (e : m ≡ k). omega (arith, a, b, e))
+
+beyond : (m : ℕ) (t : TakingRecord) (s : Seen) → 14 < m → Unmaking (taken_at m t s)
+beyond m t s b =
+    unless (m == 1) _ _ (far m 1 (omega arith) b) (
+    unless (m == 2) _ _ (far m 2 (omega arith) b) (
+    unless (m == 3) _ _ (far m 3 (omega arith) b) (
+    unless (m == 4) _ _ (far m 4 (omega arith) b) (
+    unless (m == 5) _ _ (far m 5 (omega arith) b) (
+    unless (m == 6) _ _ (far m 6 (omega arith) b) (
+    unless (m == 7) _ _ (far m 7 (omega arith) b) (
+    unless (m == 8) _ _ (far m 8 (omega arith) b) (
+    unless (m == 9) _ _ (far m 9 (omega arith) b) (
+    unless (m == 10) _ _ (far m 10 (omega arith) b) (
+    unless (m == 11) _ _ (far m 11 (omega arith) b) (
+    unless (m == 14) _ _ (far m 14 (omega arith) b) refl)))))))))))
+
+task_unmaking : (k : ℕ) (t : TakingRecord) (s : Seen) → s.may_make ≡ false → makes_at k ≡ false → Unmaking (taken_at k t s)
+task_unmaking zero t s h m = refl
+task_unmaking (suc zero) t s h m = subst (λ (is : Bool). Unmaking (folder_opened t is s.fault)) (sym h)
+    (either (s.fault == 0) (record t { task = 3; openings = 0 }) _ refl (either (s.fault == 11) (forked t) (over t 15 3 s.fault) (forked_unmaking t) refl))
+task_unmaking (suc (suc zero)) t s h m = absurd (let bad : true ≡ false = m in cc)
+task_unmaking (suc (suc (suc zero))) t s h m = subst (λ (is : Bool). Unmaking (by_old t is (standing_of OpenLock s))) (sym h) (old_unmaking t (standing_of OpenLock s))
+task_unmaking (suc (suc (suc (suc zero)))) t s h m = absurd (let bad : true ≡ false = m in cc)
+task_unmaking (suc (suc (suc (suc (suc zero))))) t s h m = absurd (let bad : true ≡ false = m in cc)
+task_unmaking (suc (suc (suc (suc (suc (suc zero)))))) t s h m = absurd (let bad : true ≡ false = m in cc)
+task_unmaking (suc (suc (suc (suc (suc (suc (suc zero))))))) t s h m = absurd (let bad : true ≡ false = m in cc)
+task_unmaking (suc (suc (suc (suc (suc (suc (suc (suc zero)))))))) t s h m = listed_unmaking t s.fault
+task_unmaking (suc (suc (suc (suc (suc (suc (suc (suc (suc zero))))))))) t s h m = either (s.fault == 0) (to t 10) (over t 14 1 s.fault) refl refl
+task_unmaking (suc (suc (suc (suc (suc (suc (suc (suc (suc (suc zero)))))))))) t s h m = names_unmaking t (standing_of HoldLock s)
+task_unmaking (suc (suc (suc (suc (suc (suc (suc (suc (suc (suc (suc zero))))))))))) t s h m = removal_unmaking t (standing_of Look s)
+task_unmaking (suc (suc (suc (suc (suc (suc (suc (suc (suc (suc (suc (suc zero)))))))))))) t s h m = refl
+task_unmaking (suc (suc (suc (suc (suc (suc (suc (suc (suc (suc (suc (suc (suc zero))))))))))))) t s h m = refl
+task_unmaking (suc (suc (suc (suc (suc (suc (suc (suc (suc (suc (suc (suc (suc (suc zero)))))))))))))) t s h m = refl
+task_unmaking (suc (suc (suc (suc (suc (suc (suc (suc (suc (suc (suc (suc (suc (suc (suc n))))))))))))))) t s h m = beyond (suc (suc (suc (suc (suc (suc (suc (suc (suc (suc (suc (suc (suc (suc (suc n))))))))))))))) t s (omega arith)
+
+pub nothing_is_made_unasked : NothingIsMadeUnasked
+nothing_is_made_unasked t s h m = task_unmaking t.task t s h m

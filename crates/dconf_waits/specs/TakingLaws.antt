@@ -1,5 +1,5 @@
--- A try to take a lock, whatever is answered: it ends.
-use Rattle.std.specs.Prelude.{ℕ, ◌≡◌, ◌⊎◌, ◌≤◌, Bool, true, ◌||◌, ◌==◌, List, [], ◌∷◌, length}
+-- A try to take a lock, whatever is answered: it ends, and makes nothing unasked.
+use Rattle.std.specs.Prelude.{ℕ, ◌≡◌, ◌⊎◌, ◌≤◌, Bool, true, false, ◌&&◌, ◌||◌, ◌==◌, nat_lt, List, [], ◌∷◌, length}
 use Rattle.dconf_verdicts.specs.declared.standing.Seen.{Seen}
 use Rattle.dconf_waits.specs.declared.taking.TakingRecord.{TakingRecord}
 use Rattle.dconf_waits.specs.Takings.{taken}
@@ -20,3 +20,11 @@ EndsIn (s ∷ more) t = (is_over (taken t s) ≡ true) ⊎ EndsIn more (taken t 
 -- law: after so many answers at most it is known whether the lock is had, and why not
 abbrev pub EachTryEnds : Type 0
 EachTryEnds = (answers : List Seen) (t : TakingRecord) → Begins t → 32000 ≤ length answers → EndsIn answers t
+
+-- it makes the folder or the lock's file, or first brings the folder's name to the disk
+abbrev pub makes_at : ℕ → Bool
+makes_at task = (task == 2) || (nat_lt 3 task && nat_lt task 8)
+
+-- law: who may make nothing makes nothing, and waits for no disk, as long as each answer says so
+abbrev pub NothingIsMadeUnasked : Type 0
+NothingIsMadeUnasked = (t : TakingRecord) (s : Seen) → s.may_make ≡ false → makes_at t.task ≡ false → makes_at (taken t s).task ≡ false

@@ -26,6 +26,14 @@ begun t = record t { task = 1; openings = 0; forks = 0; has_made = false; is_aga
 abbrev pub failed : TakingRecord → ℕ → TakingRecord
 failed t fault = if fault == 2 && not t.has_made then to t 2 else over t 15 3 fault
 
+-- The folder or the lock's file can't be opened: what is missing is made only by who may make it.
+abbrev pub missing : TakingRecord → Bool → ℕ → TakingRecord
+missing t may_make fault = if may_make then failed t fault else over t 15 3 fault
+
+-- .. and no file that counts has the lock's name (ENOENT)
+abbrev pub unmade : TakingRecord → Bool → TakingRecord
+unmade t may_make = if may_make then to t 4 else over t 15 3 2
+
 -- Where the names are others' by now, all is opened anew, once: in a wait of no time there is no other try.
 abbrev pub moved : TakingRecord → TakingRecord
 moved t = if t.is_again then over t 15 2 0 else record (begun t) { is_again = true }
@@ -37,18 +45,18 @@ abbrev pub forked : TakingRecord → TakingRecord
 forked t = if nat_lt t.forks 9 then record t { task = 1; forks = t.forks + 1 } else over t 15 1 11
 
 -- 1: the folder is opened, or another thread is about to have forks heeded (EAGAIN), which is as if it forked
-abbrev pub folder_opened : TakingRecord → ℕ → TakingRecord
-folder_opened t fault = if fault == 0 then record t { task = 3; openings = 0 } else if fault == 11 then forked t else failed t fault
+abbrev pub folder_opened : TakingRecord → Bool → ℕ → TakingRecord
+folder_opened t may_make fault = if fault == 0 then record t { task = 3; openings = 0 } else if fault == 11 then forked t else missing t may_make fault
 
 -- 2: it is made
 abbrev pub folder_made : TakingRecord → ℕ → TakingRecord
 folder_made t fault = if fault == 0 then record t { task = 1; has_made = true } else over t 15 3 fault
 
 -- 3: what has the lock's name is opened, and 4: or one is to be made
-abbrev pub by_old : TakingRecord → Standing → TakingRecord
-by_old t standing.Good = to t 8
-by_old t (standing.Fault fault) = failed t fault
-by_old t standing = to t 4
+abbrev pub by_old : TakingRecord → Bool → Standing → TakingRecord
+by_old t may_make standing.Good = to t 8
+by_old t may_make (standing.Fault fault) = missing t may_make fault
+by_old t may_make standing = unmade t may_make
 
 -- What others may take gets its name only once they may, so that who is killed before keeps nobody from it: the folder is another's than root's
 -- that makes it, or others may write in it.
@@ -90,8 +98,8 @@ by_removal t standing = moved t
 -- A try that was over for others goes on with what is open; each other one begins.
 abbrev pub taken : TakingRecord → Seen → TakingRecord
 taken t s =
-    if t.task == 1 then folder_opened t s.fault else if t.task == 2 then folder_made t s.fault else
-    if t.task == 3 then by_old t (standing_of OpenLock s) else if t.task == 4 then above_seen t s else
+    if t.task == 1 then folder_opened t s.may_make s.fault else if t.task == 2 then folder_made t s.fault else
+    if t.task == 3 then by_old t s.may_make (standing_of OpenLock s) else if t.task == 4 then above_seen t s else
     if t.task == 5 then file_made t s.fault else if t.task == 6 then file_made t s.fault else if t.task == 7 then file_made t s.fault else
     if t.task == 8 then listed t s.fault else if t.task == 9 then locked t s.fault else
     if t.task == 10 then by_names t (standing_of HoldLock s) else if t.task == 11 then by_removal t (standing_of Look s) else

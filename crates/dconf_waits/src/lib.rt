@@ -4,7 +4,7 @@
 //! few numbers, take no memory, and can be copied.
 #![tactic(auto)]
 
-ghost use Rattle.dconf_waits.specs.TakingLaws.{EachTryEnds};
+ghost use Rattle.dconf_waits.specs.TakingLaws.{EachTryEnds, NothingIsMadeUnasked};
 ghost use Rattle.dconf_waits.specs.WaitLaws.{HoweverLongItWaits};
 
 mod taking;
@@ -25,4 +25,9 @@ pub fn however_long_it_waits()
 /// errno.
 pub fn each_try_ends()
     ensures { EachTryEnds }
+{}
+
+/// Who may make nothing takes the lock that is there, or none: no folder and no file is made, and nothing is brought to the disk.
+pub fn nothing_is_made_unasked()
+    ensures { NothingIsMadeUnasked }
 {}

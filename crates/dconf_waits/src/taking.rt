@@ -1,6 +1,6 @@
 //! A try to take the lock of a folder: what is done next.
 ghost use Rattle.std.specs.Prelude.{◌≡◌, false};
-ghost use Rattle.dconf_waits.specs.Takings.{above_seen, begun, by_names, by_old, by_removal, failed, file_made, folder_made, folder_opened, forked, is_for_others, listed, locked, moved, opened_anew, over, taken, to};
+ghost use Rattle.dconf_waits.specs.Takings.{above_seen, begun, by_names, by_old, by_removal, failed, file_made, folder_made, folder_opened, forked, is_for_others, listed, locked, missing, moved, opened_anew, over, taken, to, unmade};
 ghost use Rattle.dconf_verdicts.specs.declared.standing.Purpose.TheVariants.{HoldLock, Look, OpenLock};
 ghost use Rattle.dconf_verdicts.specs.Standings.{standing_of};
 
@@ -93,14 +93,15 @@ impl TakingRecord {
         }
     }
 
-    /// Takes what the host says of what was done. One that is over begins anew, by any answer, with what is open if others have the lock.
+    /// Takes what the host says of what was done. One that is over begins anew, by any answer, with what is open if others have the lock. Whoever may make
+    /// nothing (`may_make`) takes the lock that is there, or none.
     pub fn answered(&mut self, seen: &Seen)
         ensures { self.new ≡ taken self.old seen.now }
     {
         *self = match self.task {
-            OPEN_FOLDER => self.folder_opened(seen.fault),
+            OPEN_FOLDER => self.folder_opened(seen.may_make, seen.fault),
             MAKE_FOLDER => self.folder_made(seen.fault),
-            OPEN_OLD => self.by_old(standing_of(Purpose::OpenLock, seen)),
+            OPEN_OLD => self.by_old(seen.may_make, standing_of(Purpose::OpenLock, seen)),
             LOOK_ABOVE => self.above_seen(seen),
             MAKE_UNNAMED | MAKE_RENAMED | MAKE_OWN => self.file_made(seen.fault),
             LIST => self.listed(seen.fault),
@@ -112,8 +113,8 @@ impl TakingRecord {
         };
     }
 
-    fn folder_opened(self, errno: u32) -> TakingRecord
-        ensures { result ≡ folder_opened self errno }
+    fn folder_opened(self, may_make: bool, errno: u32) -> TakingRecord
+        ensures { result ≡ folder_opened self may_make errno }
     {
         match errno {
             0 => TakingRecord {
@@ -122,7 +123,7 @@ impl TakingRecord {
                 ..self
             },
             EAGAIN => self.forked(),
-            errno => self.failed(errno),
+            errno => self.missing(may_make, errno),
         }
     }
 
@@ -140,15 +141,25 @@ impl TakingRecord {
         }
     }
 
-    fn by_old(self, standing: Standing) -> TakingRecord
-        ensures { result ≡ by_old self standing }
+    fn by_old(self, may_make: bool, standing: Standing) -> TakingRecord
+        ensures { result ≡ by_old self may_make standing }
     {
         match standing {
             Standing::Good => self.to(LIST),
-            Standing::Fault(errno) => self.failed(errno),
+            Standing::Fault(errno) => self.missing(may_make, errno),
             Standing::Nothing | Standing::Map | Standing::Head | Standing::Other => {
-                self.to(LOOK_ABOVE)
+                self.unmade(may_make)
             }
+        }
+    }
+
+    fn unmade(self, may_make: bool) -> TakingRecord
+        ensures { result ≡ unmade self may_make }
+    {
+        if may_make {
+            self.to(LOOK_ABOVE)
+        } else {
+            self.over(NOT_HAD, BY_OPENING, ENOENT)
         }
     }
 
@@ -253,6 +264,16 @@ impl TakingRecord {
         TakingRecord {
             is_again: true,
             ..self.begun()
+        }
+    }
+
+    fn missing(self, may_make: bool, errno: u32) -> TakingRecord
+        ensures { result ≡ missing self may_make errno }
+    {
+        if may_make {
+            self.failed(errno)
+        } else {
+            self.over(NOT_HAD, BY_OPENING, errno)
         }
     }
 

@@ -8,6 +8,7 @@ const PLAIN: ServedKnown = ServedKnown {
     waiting: 0,
     waiting_size: 0,
     names: 1,
+    answered: 0,
     said: 0,
     kind: 0,
     is_used: true,
@@ -32,6 +33,11 @@ const PLAIN: ServedKnown = ServedKnown {
     is_service_db: false,
     is_behind: false,
     has_profile: false,
+    is_first: true,
+    is_absolute: false,
+    is_last: false,
+    wants_none: false,
+    is_noted: false,
 };
 
 const ODD: ServedKnown = ServedKnown {
@@ -132,14 +138,17 @@ fn who_waits_is_told_at_the_end() -> bool {
         ..PLAIN
     };
     let one = ServedKnown {
-        waiting: 1,
+        waiting: 2,
+        answered: 1,
         ..PLAIN
     };
+    let all = ServedKnown { answered: 2, ..one };
     served_number(4, &PLAIN) == 8
         && served_number(4, &amid) == 0
         && served_number(2, &last) == 2
         && served_number(7, &PLAIN) == 0
         && served_number(7, &one) == 8
+        && served_number(7, &all) == 12
 }
 
 fn a_name_has_a_store() -> bool {
@@ -215,7 +224,49 @@ fn sites_are_not_told() -> bool {
         is_users: false,
         ..PLAIN
     };
-    served_number(11, &PLAIN) == 0 && served_number(11, &sites) == 14
+    let second = ServedKnown {
+        is_first: false,
+        ..PLAIN
+    };
+    served_number(11, &PLAIN) == 0
+        && served_number(11, &sites) == 14
+        && served_number(11, &second) == 14
+}
+
+fn a_call_is_answered() -> bool {
+    let none = ServedKnown {
+        wants_none: true,
+        ..PLAIN
+    };
+    let noted = ServedKnown {
+        is_noted: true,
+        ..PLAIN
+    };
+    served_number(19, &PLAIN) == 0
+        && served_number(19, &none) == 14
+        && served_number(20, &PLAIN) == 14
+        && served_number(20, &noted) == 0
+        && served_number(16, &PLAIN) == 0
+}
+
+fn a_database_has_its_place() -> bool {
+    let absolute = ServedKnown {
+        is_absolute: true,
+        ..PLAIN
+    };
+    let last = ServedKnown {
+        is_last: true,
+        ..PLAIN
+    };
+    let closed = ServedKnown {
+        is_open: false,
+        ..PLAIN
+    };
+    served_number(17, &PLAIN) == 14
+        && served_number(17, &absolute) == 0
+        && served_number(17, &last) == 0
+        && served_number(18, &PLAIN) == 0
+        && served_number(18, &closed) == 2
 }
 
 fn each_edit_is_told_of() -> bool {
@@ -294,6 +345,6 @@ fn calls_are_answered_once_they_are_written(rt: HostRuntime) -> Result<(), Fail>
     assert!(rt; what_came_first_is_first());
     assert!(rt; each_path_counts() && the_last_of_a_path_counts() && sites_are_not_told());
     assert!(rt; each_edit_is_told_of() && no_service_db_is_served() && it_serves_at_last());
-    assert!(rt; a_good_profile_stays());
+    assert!(rt; a_good_profile_stays() && a_call_is_answered() && a_database_has_its_place());
     Ok(())
 }

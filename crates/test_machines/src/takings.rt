@@ -25,7 +25,7 @@ const FILE: Seen = Seen {
     may_stop: false,
     is_named: true,
     is_root: false,
-    may_make: false,
+    may_make: true,
 };
 
 /// The tasks that come, and what is told at last, by these answers.
@@ -113,6 +113,31 @@ fn locks_are_made() -> bool {
         && goes(TakingRecord::new(), &unnamed, (15, 3, FULL))
 }
 
+/// Who may make nothing takes the lock that is there, or none.
+fn nothing_is_made_unasked() -> bool {
+    let there = Seen {
+        may_make: false,
+        ..FILE
+    };
+    let missing = Seen {
+        fault: MISSING,
+        ..there
+    };
+    let linked = Seen {
+        mode: 0o120_777,
+        ..there
+    };
+    let had = [(1, there), (3, there), (8, there), (9, there), (10, there)];
+    goes(TakingRecord::new(), &had, (13, 1, 0))
+        && goes(TakingRecord::new(), &[(1, missing)], (15, 3, MISSING))
+        && goes(
+            TakingRecord::new(),
+            &[(1, there), (3, missing)],
+            (15, 3, MISSING),
+        )
+        && goes(TakingRecord::new(), &[(1, there), (3, linked)], (15, 3, 22))
+}
+
 /// The tenth fork is one more than may be.
 fn forks_are_minded() -> bool {
     let mut taking = TakingRecord::new();
@@ -190,6 +215,7 @@ fn files_are_handed_over() -> bool {
 #[test]
 fn locks_are_had(rt: HostRuntime) -> Result<(), Fail> {
     assert!(rt; locks_are_taken() && locks_are_made() && forks_are_minded());
+    assert!(rt; nothing_is_made_unasked());
     assert!(rt; files_are_handed_over());
     Ok(())
 }
