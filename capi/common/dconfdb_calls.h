@@ -1458,6 +1458,9 @@ enum {
  * moment (`is_momentary`); or if nobody tries again of themselves. */
 uint32_t dconfdb_failing_met(DconfdbFailing *failing, bool is_there, bool is_momentary, bool tries_again, uint64_t now);
 
+/* When who tries again is to wake: for the next try; or, if it is woken for that, when the fault is to be said, if it is there then. 0: at no time. */
+uint64_t dconfdb_wakes(const DconfdbFailing *failing, bool is_woken);
+
 /* What is seen of a fault of files, once they were looked at, or were read as they were written. */
 typedef struct {
     bool is_met;       /* it was met now */

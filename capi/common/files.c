@@ -83,14 +83,12 @@ static int read_bytes(int file, size_t len, FileBytes *bytes)
     return bytes->at ? fill(file, bytes, len) : ENOMEM;
 }
 
-/* Read, too, where a file system can't map. */
-static int map_bytes(int file, size_t len, FileBytes *bytes)
+static bool map_bytes(int file, size_t len, FileBytes *bytes)
 {
     void *at = mmap(NULL, len, PROT_READ, MAP_PRIVATE, file, 0);
-    if (at == MAP_FAILED)
-        return read_bytes(file, len, bytes);
-    *bytes = (FileBytes){at, len, true};
-    return 0;
+    if (at != MAP_FAILED)
+        *bytes = (FileBytes){at, len, true};
+    return at != MAP_FAILED;
 }
 
 static int read_head_first(int file, FileWanted *is_wanted, size_t len, FileBytes *bytes)
@@ -139,13 +137,26 @@ static void ask(Standing *it, const struct stat *found, int fault)
     it->kind = dconfdb_standing(DCONFDB_TO_READ, &it->stood, &it->told);
 }
 
+/* Maps it, if it is to be; what a file system can't map is as what may not be mapped. */
+static bool has_mapped(int file, Standing *it, FileBytes *bytes)
+{
+    if (it->kind != DCONFDB_IS_MAPPED)
+        return false;
+    if (map_bytes(file, (size_t)it->stood.size, bytes))
+        return true;
+    it->stood.may_map = false;
+    it->kind = dconfdb_standing(DCONFDB_TO_READ, &it->stood, &it->told);
+    return false;
+}
+
 /* What an open file holds. */
-static int take_file(int file, const Standing *it, FileWanted *is_wanted, FileBytes *bytes)
+static int take_file(int file, Standing *it, FileWanted *is_wanted, FileBytes *bytes)
 {
     size_t size = (size_t)it->stood.size;
+    if (has_mapped(file, it, bytes))
+        return 0;
     switch (it->kind) {
     case DCONFDB_IS_GOOD: return read_bytes(file, size, bytes);
-    case DCONFDB_IS_MAPPED: return map_bytes(file, size, bytes);
     case DCONFDB_IS_HEAD: return read_head_first(file, is_wanted, size, bytes);
     default: return (int)it->told; /* 0 if there are no bytes */
     }

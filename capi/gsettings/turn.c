@@ -97,13 +97,11 @@ Turn turn_take(DconfdbBackend *self, Wait **at, bool is_worker, gint64 end)
     return (Turn){NULL, EWOULDBLOCK, NULL};
 }
 
-/* Who waits in line is woken, but for what is said of that. */
+/* Who waits in line is woken. */
 gint64 turn_next(const DconfdbBackend *self)
 {
     const Wait *wait = self->wait;
-    if (!wait)
-        return 0;
-    return (gint64)(wait->task == DCONFDB_LINE_WAITS ? wait->failing.due : wait->failing.again);
+    return wait ? (gint64)dconfdb_wakes(&wait->failing, wait->task == DCONFDB_LINE_WAITS) : 0;
 }
 
 void turn_give(Wait **at)

@@ -36,7 +36,7 @@ static gint64 write_it(DconfdbBackend *self, const Turn *turn, Notice *notice, b
     warn_of_files(self, notice);
     notice->waits_again = !done;
     end_try(self, notice);
-    return (gint64)self->failing.again;
+    return (gint64)dconfdb_wakes(&self->failing, false);
 }
 
 /* `turn` isn't held: the turn between programs is had before. */

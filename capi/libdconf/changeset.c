@@ -155,10 +155,16 @@ void dconf_changeset_set(DConfChangeset *changeset, const gchar *path, GVariant 
     if (is_directory(path))
         g_return_if_fail (value == NULL);
     clear_behind(changeset, path, value);
-    if (effect_of(changeset, path, value, path) == DCONFDB_ROW_TAKES)
+    switch (effect_of(changeset, path, value, path)) {
+    case DCONFDB_ROW_TAKES:
         put_row(changeset, path, value);
-    else
+        break;
+    case DCONFDB_ROW_GOES:
         g_tree_remove(changeset->rows, path);
+        break;
+    default: /* DCONFDB_ROW_STAYS */
+        break;
+    }
 }
 
 /* The row that says the key's word, as the proved call asks for it; NULL: there is none. */

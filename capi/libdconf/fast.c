@@ -17,7 +17,7 @@ static bool flush(Engine *self, gboolean tries_again, DconfdbError *fault, uint6
 {
     g_mutex_lock(&self->turn);
     bool is_written = write_waiting(self, tries_again, fault);
-    *again = self->failing.again;
+    *again = dconfdb_wakes(&self->failing, false);
     g_mutex_unlock(&self->turn);
     return is_written;
 }

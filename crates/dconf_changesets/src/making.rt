@@ -140,10 +140,10 @@ fn closed_by(known: &ChangeKnown) -> ChangeTask
 fn stopped_by(known: &ChangeKnown) -> ChangeTask
     ensures { result ≡ stopped_by known.now }
 {
-    if has_place(known) {
-        return ChangeTask::Failed;
+    if !has_place(known) {
+        return closed_by(known);
     }
-    closed_by(known)
+    ChangeTask::Failed
 }
 
 /// What is said of a change that was given up: there is no place for it, or it failed.

@@ -53,6 +53,9 @@ each_fault_is_said_once f true m t now =
       kept = λ s t. or_left f.is_said l s;
       over = λ e. absurd (let bad : true ≡ false = e in cc);
       failed = λ t e. chosen l f.tries f.failed e;
+      woken = λ is e.
+          let moment : ℕ = later_by (since_of f now) (longest m) in
+          from_then t moment (cond (is_said_after f m t now) 0 moment) (left (is_said_after f m t now) 0 moment e);
       due = λ is e.
           let moment : ℕ = later_by (since_of f now) (longest m) in
           from_then t moment (cond (is_said_after f m t now) 0 moment) (left (is_said_after f m t now) 0 moment e);
@@ -64,5 +67,6 @@ each_fault_is_said_once f false m t now =
       kept = λ s t. absurd (let bad : false ≡ true = t in cc);
       over = λ e. refl;
       failed = λ t e. absurd (let bad : false ≡ true = t in cc);
+      woken = λ t e. absurd (let bad : false ≡ true = t in cc);
       due = λ t e. absurd (let bad : false ≡ true = t in cc);
     }

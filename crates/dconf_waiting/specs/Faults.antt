@@ -62,6 +62,10 @@ is_still_there s = s.is_met || (s.is_of_look && not s.has_looked)
 abbrev pub is_awaited : Bool → Bool → Bool
 is_awaited is_momentary is_repeated = is_momentary && is_repeated
 
+-- for the next try; or, who is woken for that, when it will be said
+abbrev pub wakes : Failing → Bool → ℕ
+wakes f is_woken = if is_woken then f.due else f.again
+
 abbrev pub word_number : Word → ℕ
 word_number Nothing = 0
 word_number Say = 1
@@ -87,7 +91,10 @@ pub record IsSaidOnce (f : Failing) (is_there is_momentary tries_again : Bool) (
   pub over : is_there ≡ false → failing_after f is_there is_momentary tries_again now ≡ no_fault f.tries
   -- a try that fails by what lasts is known as such
   pub failed : is_there ≡ true → lasts f is_momentary tries_again now ≡ true → (failing_after f is_there is_momentary tries_again now).failed ≡ f.tries
-  -- and when it will last is known until it is said
+  -- until it is said whoever is woken for the next try wakes in time to say it, too
+  pub woken : is_there ≡ true → is_said_after f is_momentary tries_again now ≡ false
+      → lasts (failing_after f is_there is_momentary tries_again now) is_momentary tries_again (wakes (failing_after f is_there is_momentary tries_again now) true) ≡ true
+  -- as when it will last is known until then
   pub due : is_there ≡ true → is_said_after f is_momentary tries_again now ≡ false
       → lasts (failing_after f is_there is_momentary tries_again now) is_momentary tries_again (failing_after f is_there is_momentary tries_again now).due ≡ true
 

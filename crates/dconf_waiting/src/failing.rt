@@ -1,6 +1,6 @@
 //! What is said of a fault while it lasts, and when what failed by it is tried again. All moments are of one clock, in microseconds.
 ghost use Rattle.std.specs.Prelude.{◌≡◌, ◌↔◌, IsTrue};
-ghost use Rattle.dconf_waiting.specs.Faults.{due_after, failed_after, failing_after, is_awaited, is_said_after, is_still_there, lasts, longest, no_fault, since_of, word_number, word_of};
+ghost use Rattle.dconf_waiting.specs.Faults.{due_after, failed_after, failing_after, is_awaited, is_said_after, is_still_there, lasts, longest, no_fault, since_of, wakes, word_number, word_of};
 
 use crate::due::pause_after;
 
@@ -106,6 +106,13 @@ impl Failing {
             return Word::Said;
         }
         Word::Say
+    }
+
+    /// When who tries again is to wake: for the next try; or, if it is woken for that, when the fault is to be said, if it is there then. 0: at no time.
+    pub fn wakes(&self, is_woken: bool) -> u64
+        ensures { result ≡ wakes self.now is_woken }
+    {
+        if is_woken { self.due } else { self.again }
     }
 
     fn after(&self, is_there: bool, is_momentary: bool, tries_again: bool, now: u64) -> Failing

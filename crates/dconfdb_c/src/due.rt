@@ -1,7 +1,7 @@
 //! When who rests is to wake, when who reads is to look at the files, and what is said of a fault.
 ghost use Rattle.std.specs.Prelude.{ℕ, ◌≡◌, ◌↔◌, ◌≤◌, ◌<◌, ◌+◌, ◌*◌, ◌⊎◌, IsTrue, false};
 ghost use Rattle.dconf_waiting.specs.Dues.{IsFirstOf};
-ghost use Rattle.dconf_waiting.specs.Faults.{failing_after, is_awaited, is_still_there, word_number, word_of};
+ghost use Rattle.dconf_waiting.specs.Faults.{failing_after, is_awaited, is_still_there, wakes, word_number, word_of};
 ghost use Rattle.dconf_waiting.specs.Fresh.{may_look, next_look, numbered};
 
 use dconf_waiting::{Failing, FaultSeen, is_same_fault, next_look, sleep_until};
@@ -47,6 +47,14 @@ pub extern "C" fn dconfdb_failing_look(failing: &mut Failing, seen: &FaultSeen, 
     ensures after { failing.new ≡ failing_after failing.old (is_still_there seen.now) seen.now.is_momentary (is_awaited seen.now.is_momentary seen.now.is_repeated) now }
 {
     failing.met_looking(seen, now)
+}
+
+/// When who tries again is to wake: for the next try; or, if it is woken for that, when the fault is to be said, if it is there then. 0: at no time.
+#[unsafe(no_mangle)]
+pub extern "C" fn dconfdb_wakes(failing: &Failing, is_woken: bool) -> u64
+    ensures { result ≡ wakes failing.now is_woken }
+{
+    failing.wakes(is_woken)
 }
 
 /// When the next look is due, if this one is made; or 0. Of 0 who reads, of 1 who did and whose look failed; and of who is about to tell

@@ -415,6 +415,8 @@ fn faults_are_said() -> bool {
         && failing.pause == 200_000
         && failing.again == 10_200_004
         && failing.due == 10_000_005
+        && failing.wakes(false) == 10_200_004
+        && failing.wakes(true) == 10_000_005
         && failing.failed == 0;
     let said = failing.met(true, true, true, 10_000_005) == 1
         && failing.failed == 7
