@@ -2081,7 +2081,7 @@ typedef struct {
 /* Of a file of so many bytes, of which these are there: all that a text has, or the first of another file. Before anything is read of it,
  * its place alone says whether it is to be. In no site it has that name in the last of these folders, the first of which is in the root;
  * `sources` is how many of them there are up to the last NAME.d, with that, or 0; and `is_source`, whether `update` reads the file there. In a
- * site the folders count for these two alone, and `stem` is how much of the name is that of its database. */
+ * site the folders count for these two alone, and `stem` is how much of the name is that of its database, or of the one that is made of a NAME.d. */
 uint32_t dconfdb_read_as(const DconfdbEntry *entry, const DconfdbBytes *folders, size_t count, const uint8_t *name, size_t name_len, uint64_t size,
                          const uint8_t *text, size_t len, size_t *sources, size_t *stem, bool *is_source);
 
@@ -2104,6 +2104,7 @@ void dconfdb_machines_folder(bool is_dconfs, DconfdbBytes *folder);
 /* A key that is set, or a lock, and what the installed schemas have of it. */
 typedef struct {
     uint32_t what;
+    uint32_t errnum;       /* of a file, by which it can't be read, or 0: it isn't there */
     bool is_known;         /* one has the key, or a key below the directory; or it is set already, or set at all; or the database has its file; or the text is a value of ours */
     bool has_schemas;      /* one is at the key's directory */
     bool may_be_elsewhere; /* one without a path has a key of that name; of a directory, there is one */
@@ -2124,7 +2125,8 @@ enum {
     DCONFDB_OF_DATABASE, /* that a profile names: `is_known`, it has its file, or nobody can say */
     DCONFDB_OF_KEY_AGAIN,  /* `is_known`: an earlier line of the same database sets it */
     DCONFDB_OF_LOCK_ALONE, /* `is_known`: a keyfile of the site sets the key of the lock */
-    DCONFDB_OF_TEXT        /* of a value */
+    DCONFDB_OF_TEXT,       /* of a value */
+    DCONFDB_OF_FILE        /* or of a folder: it isn't read, by `errnum` */
 };
 
 /* What is found wrong with it. */
@@ -2139,7 +2141,11 @@ enum {
     DCONFDB_FINDING_SET_TWICE,
     DCONFDB_FINDING_NOT_SET,
     DCONFDB_FINDING_DOUBLE,
-    DCONFDB_FINDING_NO_VALUE
+    DCONFDB_FINDING_NO_VALUE,
+    DCONFDB_FINDING_NO_FILE,    /* it isn't there, */
+    DCONFDB_FINDING_ODD_FILE,   /* it is no regular file, */
+    DCONFDB_FINDING_LARGE_FILE, /* it is larger than any file that is read, */
+    DCONFDB_FINDING_UNREAD_FILE /* or has what the system says of the errno */
 };
 
 /* What a schema without a path may have is passed over, but where the directory is a slip away from one of these, where schemas have such a key: a

@@ -17,9 +17,9 @@ uint32_t dconfdb_finding(const void *known, const char *directory, size_t direct
 enum { CURSOR_GROUP = 16, CURSOR_LINE = 32, CURSOR_PLACE = 40, CURSOR = 48, GROUP_AT = 1, VALUE_AT = 6 };
 
 /* What is known of a key is read alone: what it is, and the fields of which these are so. */
-enum { FINDING_WHAT = 0, FINDING_IS_KNOWN = 4, FINDING_HAS_SCHEMAS = 5, FINDING_MAY_BE_ELSEWHERE = 6, FINDING_HAS_VALUE = 7,
-       FINDING_IS_TAKEN = 8, FINDING_IS_OF_TYPE = 9, FINDING_IS_SYSTEM = 10, FINDING_IS_MADE = 11, FINDING_IS_UNSEEN = 12,
-       FINDING_IS_AMONG_PROFILES = 13, FINDING_HAS_DOUBLE = 14, FINDING = 16 };
+enum { FINDING_WHAT = 0, FINDING_ERRNUM = 4, FINDING_IS_KNOWN = 8, FINDING_HAS_SCHEMAS, FINDING_MAY_BE_ELSEWHERE, FINDING_HAS_VALUE,
+       FINDING_IS_TAKEN, FINDING_IS_OF_TYPE, FINDING_IS_SYSTEM, FINDING_IS_MADE, FINDING_IS_UNSEEN, FINDING_IS_AMONG_PROFILES,
+       FINDING_HAS_DOUBLE, FINDING = 20 };
 
 /* Beside one directory, of which `/a/` is a slip away, and `/ab/c/` isn't. */
 static bool is_found_at(const char *directory, uint32_t what, unsigned fields, uint32_t finding)
@@ -30,6 +30,14 @@ static bool is_found_at(const char *directory, uint32_t what, unsigned fields, u
     for (int i = 0; i < FINDING_HAS_DOUBLE + 1 - FINDING_IS_KNOWN; i++)
         known[FINDING_IS_KNOWN + i] = fields >> i & 1;
     return dconfdb_finding(known, directory, strlen(directory), other, 1) == finding;
+}
+
+static bool is_unread(uint32_t errnum, uint32_t finding)
+{
+    _Alignas(16) uint8_t known[FINDING] = {7}, other[LENT];
+    lends(other, "/b/", 3);
+    memcpy(known + FINDING_ERRNUM, &errnum, NUMBER);
+    return dconfdb_finding(known, "/f", 2, other, 1) == finding;
 }
 
 static bool is_found(uint32_t what, unsigned fields, uint32_t finding)
@@ -48,7 +56,9 @@ static void finds_finding(void)
           "DconfdbFinding");
     is_so(is_found(6, DOUBLE | VALUE, 0) && is_found(6, DOUBLE | VALUE | SYSTEM, 9) && is_found(6, DOUBLE | KNOWN | TAKEN, 10), "DconfdbFinding");
     is_so(is_found(6, KNOWN | TAKEN, 0) && is_found(6, TAKEN, 10) && is_found(6, KNOWN, 10), "DconfdbFinding");
+    is_so(is_unread(0, 11) && is_unread(2, 11) && is_unread(22, 12) && is_unread(75, 13) && is_unread(13, 14), "DconfdbFinding");
     lies("DconfdbFinding", "what", FINDING_WHAT, NUMBER);
+    lies("DconfdbFinding", "errnum", FINDING_ERRNUM, NUMBER);
     lies("DconfdbFinding", "is_known", FINDING_IS_KNOWN, FLAG);
     lies("DconfdbFinding", "has_schemas", FINDING_HAS_SCHEMAS, FLAG);
     lies("DconfdbFinding", "may_be_elsewhere", FINDING_MAY_BE_ELSEWHERE, FLAG);

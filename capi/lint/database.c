@@ -96,15 +96,16 @@ void check_database(const Lint *lint, const char *file, FileBytes *bytes)
     FileBytes mended = {NULL, 0, false};
     Saved saved = {0, 0, DCONFDB_MENDED_WHOLE, false};
     Place at = {file, 0};
-    uint32_t telling = DCONFDB_TELLING_NOTHING;
+    uint32_t telling = DCONFDB_TELLING_NOTHING, opened;
     static const uint8_t none[1]; /* of an empty file */
     const uint8_t *from = bytes->at ? bytes->at : none;
-    uint32_t number = dconfdb_open(&layers[0], false, from, bytes->len, true, true, &layers[1], &broken, &telling), opened = number;
-    if (number != DCONFDB_OK && repair(bytes, &mended, &saved) == DCONFDB_OK && mended.at)
-        opened = dconfdb_open(&layers[0], false, mended.at, mended.len, true, false, &layers[1], &nothing, &telling);
-    if (saved.is_told)
+    uint32_t number = dconfdb_open(&layers[0], false, from, bytes->len, true, true, &layers[1], &broken, &telling);
+    opened = telling;
+    if (telling == DCONFDB_TELLING_KEPT && repair(bytes, &mended, &saved) == DCONFDB_OK && mended.at)
+        dconfdb_open(&layers[0], false, mended.at, mended.len, true, false, &layers[1], &nothing, &opened);
+    if (telling == DCONFDB_TELLING_REFUSES || saved.is_told)
         find_fault(at, number, &broken);
-    if (opened == DCONFDB_OK)
+    if (opened == DCONFDB_TELLING_NOTHING)
         check_layer(&alone, at, layers);
     file_release(&mended);
 }

@@ -139,7 +139,10 @@ typedef struct {
 /* As what it is looked at, DCONFDB_READ_KEYFILE and so on: of so many bytes, of which these are there (NULL: none is read yet). */
 uint32_t asked_read_as(const Asked *asked, uintmax_t size, const FileBytes *bytes);
 
-/* Its database is among these. */
+/* The name of its database: to be freed. */
+char *asked_stem(const Asked *asked);
+
+/* That is among these. */
 bool asked_is_made(const Asked *asked, GHashTable *made);
 
 /* Within what of a site its own folder is looked at: NAME.d, its `locks`, or all of it. */

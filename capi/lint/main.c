@@ -20,12 +20,13 @@ static const char help[] =
 void find_no_file(const char *file, int fault)
 {
     Place at = {file, 0};
-    if (fault == 0)
-        find(NO_FILE, at, "NoFile: there is no such file");
-    else if (fault == EINVAL)
-        find(NO_FILE, at, "Device: it is no regular file");
-    else
-        find(NO_FILE, at, "Device: %s", g_strerror(fault));
+    const DconfdbFinding known = {.what = DCONFDB_OF_FILE, .errnum = (uint32_t)fault};
+    switch (finding_alone(&known, file)) {
+    case DCONFDB_FINDING_NO_FILE: find(NO_FILE, at, "NoFile: there is no such file"); break;
+    case DCONFDB_FINDING_ODD_FILE: find(NO_FILE, at, "Device: it is no regular file"); break;
+    case DCONFDB_FINDING_LARGE_FILE: find(NO_FILE, at, "TooBig: it has more than 4,294,967,295 bytes"); break;
+    default: find(NO_FILE, at, "Device: %s", g_strerror(fault)); break;
+    }
 }
 
 /* The same of a kind. */
@@ -67,9 +68,7 @@ void check_file(const Lint *lint, const Asked *asked)
     FileBytes bytes;
     FileState state;
     int fault = read_file(asked->file, &bytes, &state);
-    if (fault == EOVERFLOW)
-        find(NO_FILE, (Place){asked->file, 0}, "TooBig: it has more than 4,294,967,295 bytes");
-    else if (fault != 0 || !state.is_there)
+    if (fault != 0 || !state.is_there)
         find_no_file(asked->file, fault);
     else
         check_bytes(lint, asked, &bytes, (uintmax_t)state.size);

@@ -66,9 +66,14 @@ static Asked asked_file(const char *file)
     return asked;
 }
 
+char *asked_stem(const Asked *asked)
+{
+    return g_strndup(asked->name, standing_of(asked, 0, NULL).stem_len);
+}
+
 bool asked_is_made(const Asked *asked, GHashTable *made)
 {
-    char *stem = g_strndup(asked->name, standing_of(asked, 0, NULL).stem_len);
+    char *stem = asked_stem(asked);
     bool is = g_hash_table_contains(made, stem);
     g_free(stem);
     return is;

@@ -125,7 +125,7 @@ static GArray *names_of(const char *path)
     if (folder)
         closedir(folder);
     if (fault != 0) {
-        find_no_file(path, fault == ENOENT ? 0 : fault);
+        find_no_file(path, fault);
         g_array_unref(names);
         return NULL;
     }
@@ -223,7 +223,7 @@ static void add_made(const Walked *it, const GArray *names)
         const Name *name = &g_array_index(names, Name, i);
         Asked asked = asked_in(it, name, name->name);
         if (asked_read_as(&asked, 0, NULL) == DCONFDB_READ_SOURCE_FOLDER)
-            g_hash_table_add(it->lint.site->made, g_strndup(name->name, strlen(name->name) - strlen(".d")));
+            g_hash_table_add(it->lint.site->made, asked_stem(&asked));
     }
 }
 

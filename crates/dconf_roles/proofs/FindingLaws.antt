@@ -1,9 +1,9 @@
 -- What is found is wrong, and what is wrong is found.
-use Rattle.std.proofs.Common.{◌≡◌, ◌⊎◌, inl, inr, Bool, true, false, not, refl}
+use Rattle.std.proofs.Common.{◌≡◌, ◌≢◌, ◌==◌, ◌⊎◌, inl, inr, Bool, true, false, not, refl}
 use Rattle.std.specs.Prelude.{◌&&◌, ◌||◌, if◌then◌else◌, codes}
 use Rattle.std.specs.Str.{bytes_eq}
 use Rattle.dconf_roles.specs.declared.findings.Finding.{Finding}
-use Rattle.dconf_roles.specs.declared.findings.Finding.TheVariants.{Nothing, NotTaken, OtherType, NoDatabase, SetTwice, NotSet, Double, NoValue}
+use Rattle.dconf_roles.specs.declared.findings.Finding.TheVariants.{Nothing, NotTaken, OtherType, NoDatabase, SetTwice, NotSet, Double, NoValue, NoFile, OddFile, LargeFile, UnreadFile}
 use Rattle.dconf_roles.specs.Findings.{NoAlarmIsFalse, is_key, is_value, may_be_there, may_have_file, missing}
 
 -- by whether it is known, has a value, that is taken, is of the type; whether it may be there, and what is missing else
@@ -86,6 +86,16 @@ double_by : (value : Bool) (double : Finding) → value ≡ true → text_by val
 double_by true double e = refl
 double_by false double e = absurd (let bad : false ≡ true = e in cc)
 
+-- by whether it isn't there, is odd, or is too large
+abbrev file_by : Bool → Bool → Bool → Finding
+file_by gone odd large = if gone then NoFile else if odd then OddFile else if large then LargeFile else UnreadFile
+
+is_there_by : (gone odd large : Bool) → gone ≡ false → file_by gone odd large ≢ NoFile
+is_there_by true odd large a e = let bad : true ≡ false = a in cc
+is_there_by false true large a e = let bad : OddFile ≡ NoFile = e in cc
+is_there_by false false true a e = let bad : LargeFile ≡ NoFile = e in cc
+is_there_by false false false a e = let bad : UnreadFile ≡ NoFile = e in cc
+
 pub no_alarm_is_false : NoAlarmIsFalse
 no_alarm_is_false k slip = record {
   taken = taken_by k.is_known k.has_value k.is_taken k.is_of_type (may_be_there k slip) (missing k.what);
@@ -101,4 +111,6 @@ no_alarm_is_false k slip = record {
   database = λ file. database_by (may_have_file k) k.is_system (bytes_eq file (codes "profile"));
   text = none_by (is_value k) (if k.has_double && k.is_system then Double else Nothing);
   double = double_by (is_value k) (if k.has_double && k.is_system then Double else Nothing);
+  gone = (refl, refl);
+  is_there = λ errno. is_there_by ((errno == 0) || (errno == 2)) (errno == 22) (errno == 75);
 }

@@ -1,9 +1,9 @@
 -- What is found wrong with a key that is set, and with a lock. docs/MANUAL.md, "lint [FILE]..".
-use Rattle.std.specs.Prelude.{ℕ, ◌≡◌, ◌⊎◌, Bool, true, false, not, ◌&&◌, ◌||◌, if◌then◌else◌, ◌==◌, List, codes, nat_eq}
+use Rattle.std.specs.Prelude.{ℕ, ◌≡◌, ◌≢◌, ◌⊎◌, Bool, true, false, not, ◌&&◌, ◌||◌, if◌then◌else◌, ◌==◌, List, codes, nat_eq}
 use Rattle.std.specs.List.{ends_with}
 use Rattle.std.specs.Str.{bytes_eq}
 use Rattle.dconf_roles.specs.declared.findings.Finding.{Finding}
-use Rattle.dconf_roles.specs.declared.findings.Finding.TheVariants.{Nothing, NoKey, NoLockedKey, NoLockedDirectory, OtherType, NotTaken, NoDatabase, SetTwice, NotSet, Double, NoValue}
+use Rattle.dconf_roles.specs.declared.findings.Finding.TheVariants.{Nothing, NoKey, NoLockedKey, NoLockedDirectory, OtherType, NotTaken, NoDatabase, SetTwice, NotSet, Double, NoValue, NoFile, OddFile, LargeFile, UnreadFile}
 use Rattle.dconf_roles.specs.declared.findings.FindingKnown.{FindingKnown}
 
 -- no schema is at its directory, one without a path may have it, and it is no slip
@@ -47,10 +47,15 @@ is_value k = if k.has_double then k.has_value else k.is_known && k.is_taken
 abbrev pub of_text : FindingKnown → Finding
 of_text k = if not (is_value k) then NoValue else if k.has_double && k.is_system then Double else Nothing
 
+-- What can't be read isn't there (ENOENT, or no errno), is no regular file (EINVAL), is too large (EOVERFLOW), or has what the system says of it.
+abbrev pub of_file : ℕ → Finding
+of_file errno =
+    if (errno == 0) || (errno == 2) then NoFile else if errno == 22 then OddFile else if errno == 75 then LargeFile else UnreadFile
+
 abbrev pub finding_for : FindingKnown → List ℕ → Bool → Finding
 finding_for k name slip =
     if k.what == 3 then of_database k name else if k.what == 4 then of_again k else if k.what == 5 then of_unset k name
-    else if k.what == 6 then of_text k else finding_of k slip
+    else if k.what == 6 then of_text k else if k.what == 7 then of_file k.errnum else finding_of k slip
 
 abbrev pub finding_number : Finding → ℕ
 finding_number Nothing = 0
@@ -64,6 +69,10 @@ finding_number SetTwice = 7
 finding_number NotSet = 8
 finding_number Double = 9
 finding_number NoValue = 10
+finding_number NoFile = 11
+finding_number OddFile = 12
+finding_number LargeFile = 13
+finding_number UnreadFile = 14
 
 -- ---- the law
 
@@ -87,6 +96,9 @@ pub record IsNoFalseAlarm (k : FindingKnown) (slip : Bool) : Type 0 where
   -- a text is found exactly if it is no value, or has a double where `update` reads it
   pub text : is_value k ≡ false → of_text k ≡ NoValue
   pub double : is_value k ≡ true → of_text k ≡ (if k.has_double && k.is_system then Double else Nothing)
+  -- what isn't there is said to be so, and nothing else is
+  pub gone : (of_file 0 ≡ NoFile) × (of_file 2 ≡ NoFile)
+  pub is_there : (errno : ℕ) → (errno == 0) || (errno == 2) ≡ false → of_file errno ≢ NoFile
 
 abbrev pub NoAlarmIsFalse : Type 0
 NoAlarmIsFalse = (k : FindingKnown) (slip : Bool) → IsNoFalseAlarm k slip

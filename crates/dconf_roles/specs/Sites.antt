@@ -20,10 +20,16 @@ unless_hidden name part = if is_shown name then part else Part.Silent
 
 -- ---- the folder that `update` is given
 
--- so much of the name of a file is that of the database NAME.db that it has, or, while it is written, is to have
+-- NAME.d
+abbrev pub is_sources_name : List ℕ → Bool
+is_sources_name name = nat_lt 2 (length name) && ends_with nat_eq name (codes ".d")
+
+-- so much of the name of a file is that of the database NAME.db that it has, or, while it is written, is to have; and of a folder NAME.d that of the
+-- database that is made of it
 abbrev pub stem_len : List ℕ → ℕ
 stem_len name =
-    if ends_with nat_eq name (codes ".db") then length name - 3 else if ends_with nat_eq name (codes ".db.new") then length name - 7 else length name
+    if is_sources_name name then length name - 2 else if ends_with nat_eq name (codes ".db") then length name - 3
+    else if ends_with nat_eq name (codes ".db.new") then length name - 7 else length name
 
 -- programs read NAME.db and NAME.user as databases; and `store` says which kind of store a machine has
 abbrev pub by_its_name : List ℕ → Part
@@ -56,7 +62,7 @@ is_in_the_way k name = not k.is_link && is_made_here k name
 -- a profile that is a folder can't be read, and is said to be so; a folder with a profile is a store of its own
 abbrev pub folder_of_site : EntryKnown → List ℕ → Part
 folder_of_site k name =
-    if nat_lt 2 (length name) && ends_with nat_eq name (codes ".d") then sources_of_site name
+    if is_sources_name name then sources_of_site name
     else if bytes_eq name (codes "profiles") then Part.ProfileFolder
     else if bytes_eq name (codes "profile") then Part.Profile
     else if bytes_eq name (codes ".lock") || is_in_the_way k name then Part.Barred
@@ -153,6 +159,7 @@ pub record IsTakenAsUpdateTakesIt (k : EntryKnown) (folder : SourceFolder) : Typ
   -- and nothing of a hidden one
   pub hidden : (part : Part) → (is_keyfile (left_out part) ≡ false) × (is_lock_file (left_out part) ≡ false)
   pub stem : stem_len (folder.name ++ codes ".db") ≡ length folder.name
+  pub made : folder.name ≢ [] → stem_len (folder.name ++ codes ".d") ≡ length folder.name
 
 abbrev pub WhatUpdateCompilesIsTaken : Type 0
 WhatUpdateCompilesIsTaken = (k : EntryKnown) (folder : SourceFolder) → IsTakenAsUpdateTakesIt k folder

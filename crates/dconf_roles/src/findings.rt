@@ -1,10 +1,20 @@
 //! What is found wrong with a key that is set, and with a lock.
 ghost use Rattle.std.specs.Prelude.{◌≡◌, map};
 ghost use Rattle.std.specs.List.{list_any};
-ghost use Rattle.dconf_roles.specs.Findings.{finding_for, finding_of, finding_number, is_key, is_value, may_be_there, may_have_file, missing, of_again, of_database, of_text, of_unset, of_value};
+ghost use Rattle.dconf_roles.specs.Findings.{finding_for, finding_of, finding_number, is_key, is_value, may_be_there, may_have_file, missing, of_again, of_database, of_file, of_text, of_unset, of_value};
 ghost use Rattle.dconf_roles.specs.Slips.{is_slip};
 
 use crate::slips::{Name, has_slip};
+
+// Why a file can't be read, by its errno:
+/// nothing is there;
+const ENOENT: u32 = 2;
+
+/// it is no regular file;
+const EINVAL: u32 = 22;
+
+/// it has too many bytes.
+const EOVERFLOW: u32 = 75;
 
 /// What is found.
 #[derive(Clone, Copy)]
@@ -30,6 +40,14 @@ pub enum Finding {
     Double,
     /// The text is no value, or none that a database holds.
     NoValue,
+    /// There is no such file.
+    NoFile,
+    /// It is no regular file.
+    OddFile,
+    /// It is larger than any file that is read.
+    LargeFile,
+    /// It can't be read, by its errno.
+    UnreadFile,
 }
 
 /// What is known of it.
@@ -37,8 +55,10 @@ pub enum Finding {
 #[derive(Clone, Copy)]
 pub struct FindingKnown {
     /// What it is: 0 a key that is set, 1 a lock of a key, 3 a database that a profile names, 4 a key that may be set already, 5 a lock whose key
-    /// may not be set, 6 a text of a value, else a lock of a directory.
+    /// may not be set, 6 a text of a value, 7 a file or a folder that isn't read, else a lock of a directory.
     pub what: u32,
+    /// The errno by which it can't be read, or 0: it isn't there.
+    pub errnum: u32,
     /// A schema has the key, or one below the directory; or the database has its file; or an earlier line of the same
     /// database sets the key; or a keyfile of the site does; or the text is a value of ours.
     pub is_known: bool,
@@ -78,7 +98,8 @@ pub fn finding_of(known: &FindingKnown, directory: &[u8], others: &[Name<'_>]) -
     missing(known.what)
 }
 
-/// The same, and of a database that a profile names, which is a file of that name; of what is set twice, or locked and not set; and of texts.
+/// The same, and of a database that a profile names, which is a file of that name; of what is set twice, or locked and not set; of texts; and of what can't
+/// be read.
 pub fn finding_for(known: &FindingKnown, name: &[u8], others: &[Name<'_>]) -> Finding
     ensures { result ≡ finding_for known.now name.now (list_any (λ other. is_slip name.now other.text.now) others.now) }
 {
@@ -87,13 +108,14 @@ pub fn finding_for(known: &FindingKnown, name: &[u8], others: &[Name<'_>]) -> Fi
         4 => of_again(known),
         5 => of_unset(known, name),
         6 => of_text(known),
+        7 => of_file(known.errnum),
         _ => finding_of(known, name, others),
     }
 }
 
 /// The same as a number: 0 nothing, 1 no schema has the key, 2 the locked key, 3 a key below the locked directory, 4 the value is of another
 /// type, 5 the key doesn't take it, 6 the database has no file, 7 the key is set already, 8 it is locked and not set, 9 the value has a double,
-/// 10 the text is no value.
+/// 10 the text is no value; and 11 there is no file, 12 it is no regular one, 13 it is too large, 14 it can't be read.
 pub fn finding_number(known: &FindingKnown, name: &[u8], others: &[Name<'_>]) -> u32
     ensures { result ≡ finding_number (finding_for known.now name.now (list_any (λ other. is_slip name.now other.text.now) others.now)) }
 {
@@ -109,6 +131,10 @@ pub fn finding_number(known: &FindingKnown, name: &[u8], others: &[Name<'_>]) ->
         Finding::NotSet => 8,
         Finding::Double => 9,
         Finding::NoValue => 10,
+        Finding::NoFile => 11,
+        Finding::OddFile => 12,
+        Finding::LargeFile => 13,
+        Finding::UnreadFile => 14,
     }
 }
 
@@ -175,6 +201,18 @@ fn is_value(known: &FindingKnown) -> bool
         return known.has_value;
     }
     known.is_known && known.is_taken
+}
+
+/// A folder that went meanwhile has an errno.
+fn of_file(errno: u32) -> Finding
+    ensures { result ≡ of_file errno }
+{
+    match errno {
+        0 | ENOENT => Finding::NoFile,
+        EINVAL => Finding::OddFile,
+        EOVERFLOW => Finding::LargeFile,
+        _ => Finding::UnreadFile,
+    }
 }
 
 fn may_be_there(known: &FindingKnown, is_slip: bool) -> bool

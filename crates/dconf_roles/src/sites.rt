@@ -1,7 +1,7 @@
 //! As what `update` takes what lies in the folder of a site, and what nobody reads there.
 ghost use Rattle.std.specs.Prelude.{◌≡◌};
 ghost use Rattle.std.specs.Str.{is_utf8};
-ghost use Rattle.dconf_roles.specs.Sites.{by_its_name, file_of_site, folder_of_site, if_hidden, in_locks, in_profiles, in_site, in_sources, is_in_the_way, is_made_here, kind_of, left_out, other_of_site, part_in, part_of, sources_of_site, stem_len, unless_hidden, unseen_of_site, within_of};
+ghost use Rattle.dconf_roles.specs.Sites.{by_its_name, file_of_site, folder_of_site, if_hidden, in_locks, in_profiles, in_site, in_sources, is_in_the_way, is_made_here, is_sources_name, kind_of, left_out, other_of_site, part_in, part_of, sources_of_site, stem_len, unless_hidden, unseen_of_site, within_of};
 
 use crate::roles::is_shown;
 
@@ -94,10 +94,13 @@ pub fn part_of(known: &EntryKnown, name: &[u8]) -> Part
     )
 }
 
-/// So much of the name of a file is that of the database that it has, or is to have.
+/// So much of the name of a file is that of the database that it has, or is to have; and of a folder NAME.d that of the one that is made of it.
 pub fn stem_len(name: &[u8]) -> usize
     ensures { result ≡ stem_len name.now }
 {
+    if is_sources_name(name) {
+        return name.len() - 2;
+    }
     if name.ends_with(b".db") {
         return name.len() - 3;
     }
@@ -105,6 +108,13 @@ pub fn stem_len(name: &[u8]) -> usize
         return name.len() - 7;
     }
     name.len()
+}
+
+/// NAME.d.
+fn is_sources_name(name: &[u8]) -> bool
+    ensures { result ≡ is_sources_name name.now }
+{
+    name.len() > 2 && name.ends_with(b".d")
 }
 
 fn within_of(number: u32) -> Within
@@ -196,7 +206,7 @@ fn by_its_name(name: &[u8]) -> Part
 fn folder_of_site(known: &EntryKnown, name: &[u8]) -> Part
     ensures { result ≡ folder_of_site known.now name.now }
 {
-    if name.len() > 2 && name.ends_with(b".d") {
+    if is_sources_name(name) {
         return sources_of_site(name);
     }
     if name == "profiles".as_bytes() {

@@ -25,7 +25,7 @@ use std::alloc::Global;
 /// all: 4 it is left out in silence, 5 it is not read, 6 it is a database among sources, 7 it is too big, 8 it is none of these. It has that
 /// name in the last of these folders, the first of which is in the root. `sources` is how many of the folders there are up to the last NAME.d,
 /// or 0, and `is_source` whether `update` reads the file. In a site, the numbers of [`entry_number`]; and `stem` is how much of the name is that
-/// of its database.
+/// of its database, or of the one that is made of a NAME.d.
 #[unsafe(no_mangle)]
 pub extern "C" fn dconfdb_read_as(
     entry: &EntryKnown,
@@ -84,7 +84,8 @@ pub extern "C" fn dconfdb_machines_folder(is_dconfs: bool, folder: &mut DconfdbT
 /// What is found of a key that is set, or of a lock, by what the schemas have: 0 nothing, 1 no schema has the key, 2 the locked key, 3 a key
 /// below the locked directory, 4 the value is of another type, 5 the key doesn't take it. Beside these other directories its own may be a slip. Of a
 /// database that a profile of that name names 6: it has no file. Of a key that is set 7: an earlier line sets it, too; of a lock of that path 8:
-/// nothing sets the key; and of a text of a value 9: it has a double, and is one of a source; 10: it is no value.
+/// nothing sets the key; and of a text of a value 9: it has a double, and is one of a source; 10: it is no value. Of a file or a folder that isn't read 11:
+/// it isn't there; 12: it is no regular file; 13: it is too large; 14: it has what the system says of the errno.
 #[unsafe(no_mangle)]
 pub extern "C" fn dconfdb_finding(known: &FindingKnown, name: &[u8], others: &[Name<'_>]) -> u32
     ensures { result ≡ finding_number (finding_for known.now name.now (list_any (λ other. is_slip name.now other.text.now) others.now)) }

@@ -255,6 +255,8 @@ fn stems_are_found() -> bool {
         && stem_len("site.db.new".as_bytes()) == 4
         && stem_len("site".as_bytes()) == 4
         && stem_len(".db".as_bytes()) == 0
+        && stem_len("site.d".as_bytes()) == 4
+        && stem_len(".d".as_bytes()) == 2
 }
 
 /// As what that is looked at whose text is known.
@@ -300,6 +302,7 @@ fn a_site_is_looked_at_as_update_looks_at_it(rt: HostRuntime) -> Result<(), Fail
 /// A key of a schema, set to a value that it takes.
 const FINE: FindingKnown = FindingKnown {
     what: 0,
+    errnum: 0,
     is_known: true,
     has_schemas: true,
     may_be_elsewhere: false,
@@ -328,6 +331,20 @@ fn found(known: &FindingKnown, other: &str) -> u32 {
         text: other.as_bytes(),
     };
     finding_number(known, "/ab/".as_bytes(), &[other])
+}
+
+/// By the errno of its reading.
+fn unread(errnum: u32) -> u32 {
+    let file = FindingKnown {
+        what: 7,
+        errnum,
+        ..FINE
+    };
+    found(&file, "/c/")
+}
+
+fn what_is_unread_is_said() -> bool {
+    unread(0) == 11 && unread(2) == 11 && unread(22) == 12 && unread(75) == 13 && unread(13) == 14
 }
 
 fn values_are_judged() -> bool {
@@ -471,6 +488,7 @@ fn texts_are_judged() -> bool {
 #[test]
 fn what_schemas_lack_is_found(rt: HostRuntime) -> Result<(), Fail> {
     assert!(rt; values_are_judged() && names_are_judged() && databases_are_looked_for());
+    assert!(rt; what_is_unread_is_said());
     assert!(rt; what_is_set_is_judged() && texts_are_judged());
     Ok(())
 }
