@@ -37,6 +37,8 @@ typedef struct {
     pthread_t thread;
     bool has_thread;
     DconfdbFailing failing; /* the thread's: a fault by which nothing can be written */
+    int kept;               /* .. and the file that it replaced last, which it has open */
+    uint64_t kept_until;    /* .. until that moment; 0: it has none */
 
     GMutex lock; /* held for moments. It guards: */
     GCond comes; /* more waits, or the end has come */
@@ -151,6 +153,15 @@ void tell_others(Writer *writer, const Newest *newest, const GPtrArray *left_out
 /* ---- the thread that writes (writes.c) */
 
 bool service_begin_writing(Service *service);
+
+/* The user's file, before it is replaced. -1: none can be opened. (replaced.c) */
+int replaced_open(const DconfdbStore *store);
+
+/* Such a one is kept open for a second, and the one before isn't any longer. */
+void replaced_keep(Service *service, int file);
+
+/* Lets go of it, if that second is over. `lock` is held, and let go of meanwhile. */
+void replaced_let_go(Service *service);
 
 /* Of the main thread: it waits to be written. */
 void service_add(Service *service, Change *change);

@@ -160,6 +160,8 @@ static void add_all(GPtrArray *paths, const char *list)
 /* Two changes that are written together may leave out the same path. Dconf's library takes no notice in which a key alone is named twice. */
 static void keep_each_once(GPtrArray *paths)
 {
+    if (paths->len < 2)
+        return;
     g_autoptr(GHashTable) named = g_hash_table_new(g_str_hash, g_str_equal);
     guint count = 0;
     for (guint at = 0; at < paths->len; at++) {

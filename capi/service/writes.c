@@ -23,6 +23,7 @@ typedef struct {
     bool is_known; /* what came of it */
     bool is_over;  /* .. so that all are answered */
     bool ends;     /* the service ended when that was known */
+    int replaced;  /* the file that it replaced, or was to; -1: none could be opened */
     uint32_t said; /* of the fault by which nothing could be written */
     DconfdbError refusal, fault;
 } Run;
@@ -282,6 +283,7 @@ static bool write_run(Run *run, FolderLock *lock, int fault)
     read_all(run);
     writer_writes(writer);
     g_mutex_lock(&writer->turn);
+    run->replaced = replaced_open(writer->store);
     write_in(run, lock, fault);
     give(lock, fault);
     g_mutex_unlock(&writer->turn);
@@ -309,19 +311,21 @@ static void try(Service *service)
     Run run;
     read_ahead(service);
     int fault = folder_lock(service->place.folder, WITHOUT_END, &lock);
-    if (begin_try(service, &run))
-        end_try(service, write_run(&run, &lock, fault));
-    else
+    if (!begin_try(service, &run)) {
         give(&lock, fault);
+        return;
+    }
+    end_try(service, write_run(&run, &lock, fault));
+    replaced_keep(service, run.replaced);
 }
 
 /* ---- the thread */
 
-/* `lock` is held, and let go of meanwhile: until something comes, or is to be tried again. */
+/* `lock` is held, and let go of meanwhile: until something comes, or is to be tried again, or a file that was replaced is to be let go of. */
 static void rest(Service *service)
 {
     uint64_t now = (uint64_t)g_get_monotonic_time(), wait = 0;
-    if (dconfdb_sleep_until((uint64_t)service->again, 0, now, &wait))
+    if (dconfdb_sleep_until((uint64_t)service->again, service->kept_until, now, &wait))
         g_cond_wait_until(&service->comes, &service->lock, (gint64)(now + wait * MILLISECOND));
     else
         g_cond_wait(&service->comes, &service->lock);
@@ -338,6 +342,7 @@ static uint32_t await_task(Service *service)
         if (task != DCONFDB_ROUND_RESTS)
             break;
         rest(service);
+        replaced_let_go(service);
     }
     if (task == DCONFDB_ROUND_LEAVE)
         service->again = 0;

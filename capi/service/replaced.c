@@ -1,0 +1,40 @@
+/* The file that was replaced. Whoever is the last to have it waits until the system has freed it, a millisecond on some disks. Dconf's programs have it mapped
+ * until they read again, and would wait then: so the thread that writes has it open for longer, and waits while nobody waits for it. */
+#define _GNU_SOURCE
+#include "service.h"
+
+#include <fcntl.h>
+#include <unistd.h>
+
+static const uint64_t second = 1000000; /* in microseconds */
+
+int replaced_open(const DconfdbStore *store)
+{
+    const char *file = dconfdb_store_user_file(store);
+    return file ? open(file, O_PATH | O_CLOEXEC) : -1;
+}
+
+static void let_go(Service *service)
+{
+    if (service->kept_until > 0)
+        close(service->kept);
+    service->kept_until = 0;
+}
+
+void replaced_keep(Service *service, int file)
+{
+    let_go(service);
+    if (file < 0)
+        return;
+    service->kept = file;
+    service->kept_until = (uint64_t)g_get_monotonic_time() + second;
+}
+
+void replaced_let_go(Service *service)
+{
+    if (service->kept_until == 0 || (uint64_t)g_get_monotonic_time() < service->kept_until)
+        return;
+    g_mutex_unlock(&service->lock);
+    let_go(service);
+    g_mutex_lock(&service->lock);
+}
