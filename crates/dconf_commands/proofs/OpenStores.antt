@@ -1,12 +1,20 @@
 -- What a command makes of the databases of a profile, and of their layers when they are open.
-use Rattle.std.proofs.Common.{◌≡◌, ℕ, Bool, List, []}
+use Rattle.std.proofs.Common.{◌≡◌, ℕ, Bool, List, [], map}
 use Rattle.std.specs.Prelude.{if◌then◌else◌}
 use Rattle.dconf_model.specs.Changes.{Change, apply}
 use Rattle.dconf_model.specs.Explains.{explained}
 use Rattle.dconf_model.specs.Layers.{Layers, child_names, locks_below, origin, paths_below, visible, without_user}
 use Rattle.dconf_model.specs.Outcomes.{Gives, SavesSaying, done, dump_at, lines_text, origin_text, shown_if_any}
-use Rattle.dconf_model.specs.Profiles.{Database, user_file}
+use Rattle.dconf_model.specs.Profiles.{Database, has_writable, user_file}
+use Rattle.dconf_layers.specs.declared.layer.Layer.{Layer}
+use Rattle.dconf_layers.specs.LayerSettings.{settings_of}
 use Rattle.dconf_commands.specs.Below.{explained_below}
+use Rattle.dconf_commands.specs.Stores.{named_by}
+use Rattle.dconf_commands.specs.declared.store_files.StoreFiles.{StoreFiles}
+
+-- the layers of a store's files, of which the first may be the user's
+abbrev pub opened : StoreFiles → List Layer → Layers
+opened files layers = record { layers = map settings_of layers; writable = has_writable (named_by files) }
 
 abbrev pub Made : Type 1
 Made = List Database → Layers → Gives

@@ -1,6 +1,6 @@
 -- `explain DIR`: each key below a directory that a database has, in the order of their paths. Of each stands its path, and what
 -- explains the key; an empty line parts it from the next.
-use Rattle.std.specs.Prelude.{◌≡◌, ℕ, List, [], ◌∷◌, ◌++◌, flat_map, map}
+use Rattle.std.specs.Prelude.{◌≡◌, ℕ, List, [], ◌∷◌, ◌++◌, flat_map}
 use Rattle.dconf_model.specs.Explains.{explained}
 use Rattle.dconf_model.specs.Layers.{Layers, all_paths}
 use Rattle.dconf_model.specs.Outcomes.{Gives, UnlessFault, WithStore, done}

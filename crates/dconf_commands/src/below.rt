@@ -10,15 +10,15 @@ ghost use Rattle.dconf_layers.specs.Children.{seen_path};
 ghost use Rattle.dconf_layers.specs.LayerSettings.{settings_of};
 ghost use Rattle.dconf_streams.specs.Answers.{GivesOutcome};
 ghost use Rattle.dconf_streams.specs.Readings.{Decides};
-ghost use Rattle.dconf_commands.specs.Below.{ExplainsBelow, explained_below, further_parts, key_part, key_parts};
+ghost use Rattle.dconf_commands.specs.Below.{ExplainsBelow, explained_below, key_part, key_parts};
 
 use crate::arguments::directory_argument;
 use crate::commands::explained_text;
 use crate::store_files::StoreFiles;
-use dconf_engine::Engine;
+use dconf_engine::{Engine, is_of_user};
 use dconf_folders::Folder;
 use dconf_layers::{Layer, LentLayers, SeenKey};
-use dconf_path::{DatabaseKind, DirPath, KeyPath, Profile};
+use dconf_path::{DirPath, KeyPath, Profile};
 use dconf_streams::{Answer, Refusal, named_file};
 use std::alloc::{AllocError, Global};
 
@@ -59,16 +59,6 @@ fn explained_below(
     Ok(Answer::Done(text))
 }
 
-/// Whether the first database is the user's.
-fn is_of_user(profile: &Profile<'_>) -> bool
-    ensures { result ≡ has_writable (databases_of profile.now) }
-{
-    match profile.databases().first() {
-        Some(database) => database.kind == DatabaseKind::User,
-        None => false,
-    }
-}
-
 /// What explains these keys, with an empty line between them.
 fn key_parts(
     alloc: Global,
@@ -82,28 +72,14 @@ fn key_parts(
     let Some((first, others)) = keys.split_first() else {
         return Ok(String::new(alloc));
     };
-    let mut text = key_part(alloc, profile, engine, first.path.as_str())?;
-    let further = further_parts(alloc, profile, engine, others)?;
-    text.push_str(further.as_str())?;
-    Ok(text)
-}
-
-/// The same with an empty line before each.
-fn further_parts(
-    alloc: Global,
-    profile: &Profile<'_>,
-    engine: &Engine<'_>,
-    keys: &[SeenKey<'_>],
-) -> Result<String, AllocError>
-    requires { All (λ key. IsTrue (is_key_path (string_bytes key.path))) keys.now }
-    ensures { IfOk result (λ text. string_bytes text ≡ further_parts (databases_of profile.entry.now) engine.entry.now (map seen_path keys.entry.now)) }
-{
-    let mut text = String::new(alloc);
-    for key in keys {
-        text.push('\n')?;
+    let mut further = String::new(alloc);
+    for key in others {
+        further.push('\n')?;
         let part = key_part(alloc, profile, engine, key.path.as_str())?;
-        text.push_str(part.as_str())?;
+        further.push_str(part.as_str())?;
     }
+    let mut text = key_part(alloc, profile, engine, first.path.as_str())?;
+    text.push_str(further.as_str())?;
     Ok(text)
 }
 

@@ -1,5 +1,5 @@
 //! Values as the text of an answer.
-ghost use Rattle.std.specs.Prelude.{◌≡◌, IfOk, Some, option_map, string_bytes};
+ghost use Rattle.std.specs.Prelude.{◌≡◌, IfOk, option_map, string_bytes};
 ghost use Rattle.gv_view.specs.Views.{value};
 ghost use Rattle.dconf_model.specs.Explains.{told_value};
 ghost use Rattle.dconf_model.specs.Outcomes.{shown_outcome};
@@ -28,16 +28,9 @@ pub(crate) fn printed(alloc: Global, view: View<'_>) -> Result<Answer, Refusal>
 pub(crate) fn told_value(alloc: Global, found: Option<View<'_>>) -> Result<String, AllocError>
     ensures { IfOk result (λ text. string_bytes text ≡ told_value (option_map value found.entry)) }
 {
-    match found {
-        Some(view) => told(alloc, view),
-        None => Ok(String::new(alloc)),
-    }
-}
-
-/// A value's text, or why it isn't printed.
-fn told(alloc: Global, view: View<'_>) -> Result<String, AllocError>
-    ensures { IfOk result (λ text. string_bytes text ≡ told_value (Some (value view.entry))) }
-{
+    let Some(view) = found else {
+        return Ok(String::new(alloc));
+    };
     match print(alloc, view) {
         Ok(text) => Ok(text),
         Err(PrintFault::Fault(flaw)) => match flaw {

@@ -212,8 +212,8 @@ pub fn open_layers<'a>(
     Ok(layers)
 }
 
-/// Whether the first database of a profile is the user's.
-fn is_of_user(profile: &Profile<'_>) -> bool
+/// Whether the first database of a profile is the user's, which may be written.
+pub fn is_of_user(profile: &Profile<'_>) -> bool
     ensures { result ≡ has_writable (databases_of profile.now) }
 {
     match profile.databases().first() {

@@ -31,5 +31,5 @@ mod write;
 
 pub use change_fault::{ChangeFault, ChangeFlaw};
 pub use dconf_layers::DatabaseFault;
-pub use engine::{Engine, open_layers};
+pub use engine::{Engine, is_of_user, open_layers};
 pub use fault::{BadDatabase, EngineFault};

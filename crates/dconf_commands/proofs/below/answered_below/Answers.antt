@@ -1,18 +1,13 @@
-use Rattle.std.proofs.Common.{◌≡◌, List, Err, map, refl, subst}
-use Rattle.dconf_model.specs.Layers.{Layers}
+use Rattle.std.proofs.Common.{◌≡◌, Err, refl, subst}
 use Rattle.dconf_model.specs.Outcomes.{done}
-use Rattle.dconf_model.specs.Profiles.{has_writable}
 use Rattle.dconf_path.specs.Paths.{directory_text}
-use Rattle.dconf_layers.specs.declared.layer.Layer.{Layer}
-use Rattle.dconf_layers.specs.LayerSettings.{settings_of}
 use Rattle.dconf_streams.specs.Answers.{GivesOutcome}
 use Rattle.std.proofs.lemmas.Result.{err_from_is_err_and}
 use Rattle.dconf_model.specs.Paths.{directory_fault}
 use Rattle.dconf_commands.specs.Below.{explained_below}
 use Rattle.dconf_commands.specs.Stores.{named_by}
-use Rattle.dconf_commands.specs.declared.store_files.StoreFiles.{StoreFiles}
 use Rattle.dconf_commands.proofs.PathArguments.{decides_at_path, decides_faultless}
-use Rattle.dconf_commands.proofs.OpenStores.{keys_explained}
+use Rattle.dconf_commands.proofs.OpenStores.{keys_explained, opened}
 use Rattle.dconf_commands.proofs.Stores.{store_not_opened, store_opened, store_without_databases, store_without_file}
 use Rattle.dconf_commands.proofs.below.answered_below.Goals as goal
 
@@ -40,10 +35,6 @@ returns-in_err-layers g c =
     rw (p.1, p.2) (decides_faultless g.F.Folder c.args.folder.now c.read.new.folder _ (Err c.in_err-layers.field-0.0) (directory_fault c.args.directory.now) c.in_ok-directory.ensures.faultless
     (store_not_opened g.F.Folder c.args.profile.now (keys_explained c.args.directory.now) (Err c.in_err-layers.field-0.0) c.args.folder.now c.named_file.new.folder c.read.new.folder
     c.in_ok-profile.profile c.in_ok-profile.ensures.name c.in_ok-profile.ensures.ok c.in_ok-files.files c.in_ok-files.ensures.ok c.in_err-layers.ensures.err))
-
--- the layers, of which the first may be the user's
-abbrev opened : StoreFiles → List Layer → Layers
-opened files layers = record { layers = map settings_of layers; writable = has_writable (named_by files) }
 
 pub returns : goal.returns
 returns g c =

@@ -1,4 +1,4 @@
-use Rattle.std.proofs.Common.{◌≡◌, ◌∙◌, Bool, List, ap, map}
+use Rattle.std.proofs.Common.{◌≡◌, ◌∙◌, Bool, ap, map}
 use Rattle.dconf_model.specs.Layers.{Layers, all_paths}
 use Rattle.dconf_model.specs.Outcomes.{done}
 use Rattle.dconf_model.specs.Profiles.{has_writable}
