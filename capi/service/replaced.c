@@ -1,12 +1,13 @@
 /* The file that was replaced. Whoever is the last to have it waits until the system has freed it, a millisecond on some disks. Dconf's programs have it mapped
  * until they read again, and would wait then: so the thread that writes has it open for longer, and waits while nobody waits for it. */
 #define _GNU_SOURCE
+#define _FILE_OFFSET_BITS 64
 #include "service.h"
 
 #include <fcntl.h>
 #include <unistd.h>
 
-static const uint64_t second = 1000000; /* in microseconds */
+static const uint64_t a_second = 1000000; /* in microseconds */
 
 int replaced_open(const DconfdbStore *store)
 {
@@ -27,7 +28,7 @@ void replaced_keep(Service *service, int file)
     if (file < 0)
         return;
     service->kept = file;
-    service->kept_until = (uint64_t)g_get_monotonic_time() + second;
+    service->kept_until = (uint64_t)g_get_monotonic_time() + a_second;
 }
 
 void replaced_let_go(Service *service)

@@ -292,7 +292,7 @@ static bool write_run(Run *run, FolderLock *lock, int fault)
     return run->is_over;
 }
 
-/* Reads what waits already, which may take a while: as long as others may have their turns. */
+/* Reads what waits already, which may take a while: as long as others may have their turns. What GDBus's thread reads now isn't waited for. */
 static void read_ahead(Service *service)
 {
     g_autoptr(GPtrArray) changes = g_ptr_array_new();
@@ -300,8 +300,10 @@ static void read_ahead(Service *service)
     for (const GList *at = service->waiting.head; at; at = at->next)
         g_ptr_array_add(changes, at->data);
     g_mutex_unlock(&service->lock);
-    for (guint at = 0; at < changes->len; at++)
-        read_change(service, g_ptr_array_index(changes, at));
+    for (guint at = 0; at < changes->len && g_mutex_trylock(&service->reading); at++) {
+        change_read(g_ptr_array_index(changes, at));
+        g_mutex_unlock(&service->reading);
+    }
 }
 
 /* Nothing is answered before it is on the disk, or can't get there. What came until it has the turn is written, too. */

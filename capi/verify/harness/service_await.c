@@ -34,6 +34,7 @@ int service_await(void)
     service.has_thread = false;
     service.again = any_bool() ? 0 : (gint64)any_u32();
     at_wait = comes_then;
+    may_keep();
     uint32_t task = await_task(&service);
     bool waits = service.taken.length + service.waiting.length > 0;
     CHECK(none_is_held(), "order: all is given back");
@@ -41,6 +42,7 @@ int service_await(void)
     CHECK((task == DCONFDB_ROUND_TAKE) == waits, "step: a turn is taken for what waits");
     CHECK(task != DCONFDB_ROUND_ENDS || service.ends, "step: the thread ends as the service does");
     CHECK(task == DCONFDB_ROUND_TAKE || service.again == 0, "answer: where nothing waits no moment is left to try again");
+    CHECK(only_kept_is_open(), "descriptor: what it has let go of is closed");
     if (task == DCONFDB_ROUND_TAKE && waited == 2)
         REACHED("it has waited");
     if (task == DCONFDB_ROUND_ENDS)

@@ -225,8 +225,10 @@ static void tries_once(void)
     set_up();
     one_writer.store = (DconfdbStore *)(void *)&one_writer;
     other_writer.store = (DconfdbStore *)(void *)&other_writer;
+    may_keep();
     try(&service);
     all_are_answered_or_wait();
     CHECK(!has_turn, "descriptor: the turn is given back");
+    CHECK(only_kept_is_open(), "descriptor: the file that was replaced last is open, and no other");
     CHECK(!has_batch && !has_last && !has_then, "memory: the batch is given back, and all that was asked of it");
 }

@@ -1,5 +1,6 @@
 /* The service's changes, up to three and of up to two databases, as the harnesses of service/writes.c have them. What reads, writes and tells answers in
  * any way. */
+#include "service/replaced.c"
 #include "service/coming.c"
 #include "service/together.c"
 #include "service/writes.c"
@@ -105,6 +106,25 @@ static void all_are_answered_or_wait(void)
     }
     CHECK(service.added - service.settled == left && service.waiting_size == left_size, "answer: what waits is counted");
     CHECK(none_is_held(), "order: all is given back");
+}
+
+/* ---- the file that was replaced */
+
+const char *dconfdb_store_user_file(const DconfdbStore *store)
+{
+    (void)store;
+    return any_bool() ? "/f/a" : NULL;
+}
+
+static void may_keep(void)
+{
+    if (any_bool())
+        replaced_keep(&service, replaced_open(NULL));
+}
+
+static bool only_kept_is_open(void)
+{
+    return only_open(service.kept_until > 0 ? service.kept : -1, -1);
 }
 
 /* ---- proved calls */
