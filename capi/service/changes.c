@@ -29,7 +29,16 @@ void change_free(Change *change)
     g_array_unref(change->edits);
     g_ptr_array_unref(change->unfit);
     g_string_chunk_free(change->types);
+    g_free(change->tag);
     g_free(change);
+}
+
+const char *change_tag(Change *change)
+{
+    const Writer *writer = change->writer;
+    if (!change->tag)
+        change->tag = g_strdup_printf("%s:%s:%" G_GUINT64_FORMAT, g_dbus_connection_get_unique_name(writer->service->bus), writer->name, change->number);
+    return change->tag;
 }
 
 /* ---- what stands in the bytes */
@@ -40,7 +49,16 @@ static bool is_odd(const Change *change)
     return dconfdb_served_after(DCONFDB_SERVED_READ, &known) != DCONFDB_SERVED_GOES_ON;
 }
 
-/* The bytes in normal form, in the order that the library takes, and in one block, which all that is in it lends. NULL: they are odd. */
+/* In the order that the library takes, and in one block, which all that is in it lends. It is trusted: else GLib looks at all entries before one that is
+ * taken out. */
+static GVariant *turned(GVariant *normal)
+{
+    g_autoptr(GVariant) ours = g_variant_byteswap(normal);
+    g_autoptr(GBytes) block = g_variant_get_data_as_bytes(ours);
+    return g_variant_ref_sink(g_variant_new_from_bytes(G_VARIANT_TYPE("a{smv}"), block, TRUE));
+}
+
+/* The bytes in normal form, which GLib trusts then. NULL: they are odd. */
 static GVariant *normal_form(Change *change)
 {
     g_autoptr(GBytes) bytes = g_variant_get_data_as_bytes(change->asked);
@@ -48,11 +66,7 @@ static GVariant *normal_form(Change *change)
     change->is_normal = g_variant_is_normal_form(sent);
     if (is_odd(change))
         return NULL;
-    g_autoptr(GVariant) normal = g_variant_get_normal_form(sent);
-    g_autoptr(GVariant) ours = change->order == G_DBUS_MESSAGE_BYTE_ORDER_BIG_ENDIAN ? g_variant_byteswap(normal) : g_variant_ref(normal);
-    g_autoptr(GBytes) block = g_variant_get_data_as_bytes(ours);
-    /* It is trusted: else GLib looks at all entries before one that is taken out. */
-    return g_variant_ref_sink(g_variant_new_from_bytes(G_VARIANT_TYPE("a{smv}"), block, TRUE));
+    return change->order == G_DBUS_MESSAGE_BYTE_ORDER_BIG_ENDIAN ? turned(sent) : g_steal_pointer(&sent);
 }
 
 /* What is set, or NULL, where the value is taken away. */

@@ -71,6 +71,7 @@ typedef struct {
     GArray *edits;     /* in the order of their paths' bytes, one of each: a directory's comes before those of what is in it */
     GPtrArray *unfit;  /* paths that are too long to be a key's */
     GStringChunk *types;
+    char *tag;         /* NULL: nobody has asked for it */
     size_t first;      /* the number of its first edit, of those of its run */
 } Change;
 
@@ -80,6 +81,9 @@ Change *change_new(Writer *writer, GDBusMessage *call);
 /* Once: its edits, unless its bytes are odd. The service's `reading` is held. */
 void change_read(Change *change);
 void change_free(Change *change);
+
+/* What it is told by, and its caller as well. */
+const char *change_tag(Change *change);
 
 static inline const DconfdbEdit *edit_of(const Change *change, size_t at)
 {

@@ -77,13 +77,6 @@ static uint32_t served_of(const Run *run, const Change *change)
     return dconfdb_served_after(DCONFDB_SERVED_TRIED, &known);
 }
 
-static char *tag_of(const Change *change)
-{
-    const Writer *writer = change->writer;
-    const char *own = g_dbus_connection_get_unique_name(writer->service->bus);
-    return g_strdup_printf("%s:%s:%" G_GUINT64_FORMAT, own, writer->name, change->number);
-}
-
 /* g_variant_new("(s)", ..) would read the format each time. */
 static GVariant *words_of(const char *tag)
 {
@@ -91,13 +84,13 @@ static GVariant *words_of(const char *tag)
     return g_variant_new_tuple(&word, 1);
 }
 
-static void answer(const Run *run, Change *change, const char *tag)
+static void answer(const Run *run, Change *change)
 {
     const Service *service = run->writer->service;
     GDBusMessage *call = g_steal_pointer(&change->call);
     uint32_t served = served_of(run, change);
     if (served == DCONFDB_SERVED_ACKNOWLEDGED)
-        call_answer(service, call, words_of(tag));
+        call_answer(service, call, words_of(change_tag(change)));
     else
         call_refuse(service, call, served, run->fault.text);
 }
@@ -125,11 +118,8 @@ static GPtrArray *made_of(const Run *run, const Change *change, GPtrArray *left_
 static void answer_all(const Run *run)
 {
     flag_readers(run->writer, run->has_turn);
-    for (const GList *at = run->first; at; at = at->next) {
-        Change *change = at->data;
-        g_autofree char *tag = tag_of(change);
-        answer(run, change, tag);
-    }
+    for (const GList *at = run->first; at; at = at->next)
+        answer(run, at->data);
 }
 
 static void tell_all(Run *run, DconfdbSnapshot *now)
@@ -140,10 +130,9 @@ static void tell_all(Run *run, DconfdbSnapshot *now)
     run->then = now;
     run->last = tried_last(&run->batch);
     for (const GList *at = run->first; at; at = at->next) {
-        const Change *change = at->data;
-        g_autofree char *tag = tag_of(change);
+        Change *change = at->data;
         g_autoptr(GPtrArray) made = made_of(run, change, left_out);
-        tell_change(run->writer, &newest, made, tag);
+        tell_change(run->writer, &newest, made, change_tag(change));
     }
     tell_others(run->writer, &newest, left_out, now);
     newest_end(&newest);
@@ -243,7 +232,6 @@ static void know(Run *run, bool is_done, DconfdbSnapshot *now)
     if (!run->is_over)
         return;
     answer_all(run);
-    sched_yield();
     tell_all(run, now);
     sched_yield();
 }

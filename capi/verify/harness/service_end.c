@@ -12,8 +12,12 @@ static void is_answered(const GDBusMessage *call, bool is_acknowledged)
 /* harness service_end: unwind 5, with glib.c, quick */
 int service_end(void)
 {
-    if (any_bool())
+    if (any_bool()) {
         set_up();
+    } else if (any_bool()) {
+        waits_in(&service.taken, 0);
+        reads(changes[0]);
+    }
     service.has_thread = any_bool();
     service.is_writing = service.has_thread && service.taken.length > 0 && any_bool();
     service.answered = service.is_writing && any_bool() ? service.taken.length : 0;
@@ -29,6 +33,8 @@ int service_end(void)
     CHECK(service.taken.length == (is_amid ? 1 : 0) && service.waiting.length == 0, "step: the thread finds nothing but what it is amid");
     if (is_amid)
         REACHED("amid a try");
+    if (is_amid && service.left == DCONFDB_SERVED_ENDS)
+        REACHED("amid one that has answered all");
     if (is && has_come[1])
         REACHED("all are answered");
     return 0;

@@ -176,10 +176,10 @@ void call_answer(const Service *of, GDBusMessage *call, GVariant *words)
     answers(call, true);
 }
 
-const char *g_dbus_connection_get_unique_name(GDBusConnection *bus)
+const char *change_tag(Change *change)
 {
-    (void)bus;
-    return ":1";
+    CHECK(change->writer, "memory: a change that is there");
+    return ":1:a:1";
 }
 
 /* ---- what comes, by GDBus's own thread */
