@@ -49,16 +49,17 @@ static bool is_odd(const Change *change)
     return dconfdb_served_after(DCONFDB_SERVED_READ, &known) != DCONFDB_SERVED_GOES_ON;
 }
 
-/* In the order that the library takes, and in one block, which all that is in it lends. It is trusted: else GLib looks at all entries before one that is
- * taken out. */
-static GVariant *turned(GVariant *normal)
+/* In normal form, and in one block. It is trusted: else GLib looks at all entries before one that is taken out. */
+static GVariant *made_anew(GVariant *sent, bool is_turned)
 {
-    g_autoptr(GVariant) ours = g_variant_byteswap(normal);
+    g_autoptr(GVariant) normal = g_variant_get_normal_form(sent);
+    g_autoptr(GVariant) ours = is_turned ? g_variant_byteswap(normal) : g_variant_ref(normal);
     g_autoptr(GBytes) block = g_variant_get_data_as_bytes(ours);
     return g_variant_ref_sink(g_variant_new_from_bytes(G_VARIANT_TYPE("a{smv}"), block, TRUE));
 }
 
-/* The bytes in normal form, which GLib trusts then. NULL: they are odd. */
+/* The bytes in normal form, in the order that the library takes, and in one block, which all that is in it lends. NULL: they are odd. What is so as it was
+ * sent is trusted once GLib has found it normal. */
 static GVariant *normal_form(Change *change)
 {
     g_autoptr(GBytes) bytes = g_variant_get_data_as_bytes(change->asked);
@@ -66,7 +67,8 @@ static GVariant *normal_form(Change *change)
     change->is_normal = g_variant_is_normal_form(sent);
     if (is_odd(change))
         return NULL;
-    return change->order == G_DBUS_MESSAGE_BYTE_ORDER_BIG_ENDIAN ? turned(sent) : g_steal_pointer(&sent);
+    bool is_turned = change->order == G_DBUS_MESSAGE_BYTE_ORDER_BIG_ENDIAN;
+    return is_turned || !change->is_normal ? made_anew(sent, is_turned) : g_steal_pointer(&sent);
 }
 
 /* What is set, or NULL, where the value is taken away. */
