@@ -5,14 +5,27 @@
 #include "service.h"
 
 #include <fcntl.h>
+#include <linux/magic.h>
+#include <sys/vfs.h>
 #include <unistd.h>
 
 static const uint64_t a_second = 1000000; /* in microseconds */
 
+/* On ext4 it takes a while to free a file. A file that NFS serves would get another name first if somebody has it, and for a moment the database none. */
+static bool is_freed_slowly(int file)
+{
+    struct statfs system;
+    return fstatfs(file, &system) == 0 && system.f_type == EXT4_SUPER_MAGIC;
+}
+
 int replaced_open(const DconfdbStore *store)
 {
-    const char *file = dconfdb_store_user_file(store);
-    return file ? open(file, O_PATH | O_CLOEXEC) : -1;
+    const char *name = dconfdb_store_user_file(store);
+    int file = name ? open(name, O_PATH | O_CLOEXEC) : -1;
+    if (file < 0 || is_freed_slowly(file))
+        return file;
+    close(file);
+    return -1;
 }
 
 static void let_go(Service *service)

@@ -82,6 +82,13 @@ Change *change_new(Writer *writer, GDBusMessage *call);
 void change_read(Change *change);
 void change_free(Change *change);
 
+/* Moves all of a queue behind those of another. */
+static inline void move_all(GQueue *from, GQueue *to)
+{
+    while (from->length > 0)
+        g_queue_push_tail_link(to, g_queue_pop_head_link(from));
+}
+
 /* What it is told by, and its caller as well. */
 const char *change_tag(Change *change);
 

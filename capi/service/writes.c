@@ -2,6 +2,7 @@
  * next, and what becomes of each change, is said by proved calls. */
 #define _GNU_SOURCE
 #include "faults.h"
+#include "kinds.h"
 #include "service.h"
 #include "threads.h"
 #include "tried.h"
@@ -11,13 +12,15 @@
 
 enum { MILLISECOND = 1000 }; /* in microseconds */
 
+static const size_t FEW_EDITS = 16;
+
 /* Changes that are written together. */
 typedef struct {
     Writer *writer;
     const GList *first; /* of the changes */
     size_t count;       /* of their edits */
     Batch batch;
-    const DconfdbSnapshot *then; /* what was there once they were written */
+    DconfdbSnapshot *then; /* what was there once they were written, until they are told; else NULL */
     GTree *last;           /* the last edit of each path */
     bool has_turn, is_done;
     bool is_known; /* what came of it */
@@ -122,30 +125,26 @@ static void answer_all(const Run *run)
         answer(run, at->data);
 }
 
-static void tell_all(Run *run, DconfdbSnapshot *now)
+/* Once. */
+static void tell_all(Run *run)
 {
     Newest newest;
     g_autoptr(GPtrArray) left_out = g_ptr_array_new();
     newest_begin(&newest);
-    run->then = now;
     run->last = tried_last(&run->batch);
     for (const GList *at = run->first; at; at = at->next) {
         Change *change = at->data;
         g_autoptr(GPtrArray) made = made_of(run, change, left_out);
         tell_change(run->writer, &newest, made, change_tag(change));
     }
-    tell_others(run->writer, &newest, left_out, now);
+    tell_others(run->writer, &newest, left_out, run->then);
     newest_end(&newest);
     g_tree_unref(run->last);
+    dconfdb_snapshot_unref(run->then);
+    run->then = NULL;
 }
 
 /* ---- a try */
-
-static void move_all(GQueue *from, GQueue *to)
-{
-    while (from->length > 0)
-        g_queue_push_tail_link(to, g_queue_pop_head_link(from));
-}
 
 /* Whether a change that waits is written with those of that database. */
 static bool joins(const Change *change, const Writer *writer)
@@ -196,9 +195,16 @@ static bool is_settled(Service *service, Run *run)
     run->ends = service->ends;
     bool is = served_of(run, run->first->data) != DCONFDB_SERVED_GOES_ON;
     service->is_writing = is;
-    service->answered = is ? service->taken.length : 0;
     g_mutex_unlock(&service->lock);
     return is;
+}
+
+/* What was tried is answered, which the end is to know: nobody else takes anything of it. */
+static void has_answered(Service *service)
+{
+    g_mutex_lock(&service->lock);
+    service->answered = service->taken.length;
+    g_mutex_unlock(&service->lock);
 }
 
 /* What is answered goes. What isn't is tried again after a pause. */
@@ -219,7 +225,16 @@ static void end_try(Service *service, bool is_over)
         change_free(g_queue_pop_head_link(&over)->data);
 }
 
-/* What came of it, and the newest settings: all are answered and told, or none. GDBus's thread, which sends that, may wait for this processor. */
+/* Whether it is told in a moment, for which others may wait for their turn. */
+static bool is_short(const Run *run)
+{
+    size_t at = 0;
+    while (at < run->count && !is_directory(run->batch.edits[at]->path))
+        at++;
+    return at == run->count && at <= FEW_EDITS;
+}
+
+/* What came of it, and the newest settings: all are answered, or none. GDBus's thread, which sends that, may wait for this processor. */
 static void know(Run *run, bool is_done, DconfdbSnapshot *now)
 {
     Service *service = run->writer->service;
@@ -232,11 +247,14 @@ static void know(Run *run, bool is_done, DconfdbSnapshot *now)
     if (!run->is_over)
         return;
     answer_all(run);
-    tell_all(run, now);
+    has_answered(service);
+    run->then = dconfdb_snapshot_ref(now);
+    if (is_short(run))
+        tell_all(run);
     sched_yield();
 }
 
-/* It is made, and is noted next: who waits for the answer, or is told, needn't wait for that. */
+/* It is made, and is noted next: who waits for the answer, or is told of little, needn't wait for that. */
 static void hear_made(void *it, DconfdbSnapshot *newest)
 {
     know(it, true, newest);
@@ -274,6 +292,8 @@ static bool write_run(Run *run, FolderLock *lock, int fault)
     run->replaced = replaced_open(writer->store);
     write_in(run, lock, fault);
     give(lock, fault);
+    if (run->then)
+        tell_all(run);
     g_mutex_unlock(&writer->turn);
     batch_end(&run->batch);
     writer_has_written(writer);
@@ -355,40 +375,4 @@ bool service_begin_writing(Service *service)
 {
     service->has_thread = thread_begin(&service->thread, work, service);
     return service->has_thread;
-}
-
-/* ---- the end */
-
-/* Moves what is answered at the end. `lock` is held. */
-static void move_late(GQueue *from, bool is_amid, GQueue *to)
-{
-    const DconfdbServed known = {.ends = true, .is_amid = is_amid};
-    if (dconfdb_served_after(DCONFDB_SERVED_ENDING, &known) != DCONFDB_SERVED_GOES_ON)
-        move_all(from, to);
-}
-
-/* Takes what the thread isn't amid, which it doesn't write from then on. Gives what is known of the changes that weren't settled. */
-static DconfdbServed take_late(Service *service, GQueue *late)
-{
-    g_mutex_lock(&service->lock);
-    service->ends = true;
-    const DconfdbServed known = {.waiting = service->added - service->settled, .answered = service->answered};
-    move_late(&service->taken, service->is_writing, late);
-    move_late(&service->waiting, false, late);
-    g_cond_broadcast(&service->comes);
-    g_mutex_unlock(&service->lock);
-    return known;
-}
-
-/* What waits stays in memory, since the thread may be reading it. */
-bool service_stop_writing(Service *service)
-{
-    GQueue late = G_QUEUE_INIT;
-    const DconfdbServed known = take_late(service, &late);
-    for (const GList *at = late.head; at; at = at->next)
-        call_refuse(service, g_steal_pointer(&((Change *)at->data)->call), DCONFDB_SERVED_LATE, NULL);
-    service->left = dconfdb_served_after(DCONFDB_SERVED_LEFT, &known);
-    if (service->has_thread && service->left == DCONFDB_SERVED_GOES_ON)
-        service->has_thread = pthread_join(service->thread, NULL) != 0;
-    return !service->has_thread;
 }

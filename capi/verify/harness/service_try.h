@@ -7,7 +7,9 @@ static unsigned asked;            /* how many edits were to be written */
 static const Writer *written_for; /* whose */
 static char a_batch[1];           /* stands for a batch's memory */
 static char a_tree[1], a_snapshot[1];
-static bool has_last, has_then;
+static const DconfdbEdit *batch_edits[CHANGES];
+static bool has_last;
+static unsigned then_had; /* how often the newest settings are had */
 
 void change_free(Change *change)
 {
@@ -46,14 +48,14 @@ Batch batch_new(size_t most)
     CHECK(!has_batch && most <= CHANGES, "memory: one batch");
     has_batch = true;
     asked = 0;
-    return (Batch){.queued = (DconfdbQueued *)(void *)a_batch};
+    return (Batch){.queued = (DconfdbQueued *)(void *)a_batch, .edits = batch_edits};
 }
 
 void batch_add(Batch *batch, const DconfdbEdit *edit, uint64_t moment, size_t change, bool is_left_out)
 {
     (void)moment;
     CHECK(has_batch && edit == &an_edit && change == batch->count && !is_left_out, "step: each edit is one by itself");
-    batch->count++;
+    batch_edits[batch->count++] = edit;
     asked++;
 }
 
@@ -70,9 +72,9 @@ bool batch_write(Batch *batch, DconfdbStore *store, const Turn *turn, DconfdbErr
     batch->queue.is_closed = any_bool();
     CHECK(turn->who && turn->who->hears, "step: who waits is to hear of it");
     if (is_written && any_bool()) {
-        has_then = true;
+        then_had++;
         turn->who->hears(turn->who->it, (DconfdbSnapshot *)(void *)a_snapshot);
-        has_then = false;
+        then_had--;
         REACHED("it is heard of in its turn");
     }
     return is_written;
@@ -82,15 +84,22 @@ bool batch_write(Batch *batch, DconfdbStore *store, const Turn *turn, DconfdbErr
 
 DconfdbSnapshot *dconfdb_store_snapshot(DconfdbStore *store)
 {
-    CHECK(is_tried && !has_then && store == written_for->store && is_held(&written_for->turn), "order: what is there is asked for once, behind the write");
-    has_then = true;
+    CHECK(is_tried && store == written_for->store && is_held(&written_for->turn), "order: what is there is asked for behind the write");
+    then_had++;
     return (DconfdbSnapshot *)(void *)a_snapshot;
+}
+
+DconfdbSnapshot *dconfdb_snapshot_ref(DconfdbSnapshot *snapshot)
+{
+    CHECK(then_had > 0 && snapshot == (DconfdbSnapshot *)(void *)a_snapshot, "memory: what is had once more is had");
+    then_had++;
+    return snapshot;
 }
 
 void dconfdb_snapshot_unref(DconfdbSnapshot *snapshot)
 {
-    CHECK(has_then && snapshot == (DconfdbSnapshot *)(void *)a_snapshot, "memory: what is given back is had");
-    has_then = false;
+    CHECK(then_had > 0 && snapshot == (DconfdbSnapshot *)(void *)a_snapshot, "memory: what is given back is had");
+    then_had--;
 }
 
 GTree *tried_last(const Batch *batch)
@@ -109,7 +118,7 @@ void g_tree_unref(GTree *tree)
 DconfdbTried tried_edit(const Batch *batch, size_t number, bool is_done, GTree *last, const DconfdbSnapshot *then)
 {
     CHECK(has_batch && number < batch->count, "memory: an edit of the batch");
-    CHECK(has_last && last == (GTree *)(void *)a_tree && has_then && then == (DconfdbSnapshot *)(void *)a_snapshot, "memory: what is asked is had");
+    CHECK(has_last && last == (GTree *)(void *)a_tree && then_had > 0 && then == (DconfdbSnapshot *)(void *)a_snapshot, "memory: what is asked is had");
     CHECK(is_done == is_written, "answer: whether it is written");
     return (DconfdbTried){is_done, any_bool(), any_bool(), any_bool(), any_bool(), any_bool()};
 }
@@ -167,6 +176,7 @@ static void is_answered(const GDBusMessage *call, bool is_acknowledged)
         CHECK(is_tried && changes[i]->writer == written_for, "order: nothing is answered before it was tried");
         CHECK(!is_acknowledged || is_written || changes[i]->edits->len == 0, "answer: what is acknowledged is on the disk");
         CHECK(is_flagged, "order: dconf's readers see it before anybody is answered");
+        CHECK(service.answered == 0, "answer: nobody counts as answered before he is");
         CHECK(i == 0 || !has_come[i - 1] || calls_of[i - 1]->answers == 1 || changes[i - 1]->writer != written_for, "order: who came first is answered first");
     }
 }
@@ -199,7 +209,7 @@ void tell_change(Writer *writer, Newest *newest, const GPtrArray *made, const ch
 void tell_others(Writer *writer, const Newest *newest, const GPtrArray *left_out, DconfdbSnapshot *now)
 {
     CHECK(writer == written_for && newest && is_held(&writer->turn), "order: what others changed is told after it");
-    CHECK(has_then && now == (DconfdbSnapshot *)(void *)a_snapshot, "memory: the newest settings, which are had");
+    CHECK(then_had > 0 && now == (DconfdbSnapshot *)(void *)a_snapshot, "memory: the newest settings, which are had");
     for (guint i = 0; i < left_out->len; i++)
         CHECK(__CPROVER_r_ok(left_out->pdata[i], 1), "memory: a path that is there");
 }
@@ -230,5 +240,5 @@ static void tries_once(void)
     all_are_answered_or_wait();
     CHECK(!has_turn, "descriptor: the turn is given back");
     CHECK(only_kept_is_open(), "descriptor: the file that was replaced last is open, and no other");
-    CHECK(!has_batch && !has_last && !has_then, "memory: the batch is given back, and all that was asked of it");
+    CHECK(!has_batch && !has_last && then_had == 0, "memory: the batch is given back, and all that was asked of it");
 }

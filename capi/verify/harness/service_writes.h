@@ -2,6 +2,7 @@
  * any way. */
 #include "service/replaced.c"
 #include "service/coming.c"
+#include "service/ends.c"
 #include "service/together.c"
 #include "service/writes.c"
 #include "glib_world.h"
@@ -114,6 +115,13 @@ const char *dconfdb_store_user_file(const DconfdbStore *store)
 {
     (void)store;
     return any_bool() ? "/f/a" : NULL;
+}
+
+int fstatfs(int file, struct statfs *found)
+{
+    CHECK(is_open(file), "descriptor: fstatfs() of what is open");
+    found->f_type = any_bool() ? EXT4_SUPER_MAGIC : NFS_SUPER_MAGIC;
+    return any_bool() ? -1 : 0;
 }
 
 static void may_keep(void)
