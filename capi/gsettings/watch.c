@@ -1,6 +1,8 @@
 /* The store's files, watched by the worker: by inotify, or, where that can't be had, by a look each second. */
 #include "gsettings.h"
 
+#include <sched.h>
+
 /* What is watched from here on was not looked at since: till then reads look for themselves. */
 static void begin(DconfdbBackend *self)
 {
@@ -28,8 +30,10 @@ static void carry_out(DconfdbBackend *self)
     }
 }
 
+/* Who has written may wait for this processor to go on. */
 void watch_take(DconfdbBackend *self)
 {
+    sched_yield();
     watch_hear(self->watch);
     carry_out(self);
 }

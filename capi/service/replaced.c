@@ -11,18 +11,19 @@
 
 static const uint64_t a_second = 1000000; /* in microseconds */
 
-/* On ext4 it takes a while to free a file. A file that NFS serves would get another name first if somebody has it, and for a moment the database none. */
-static bool is_freed_slowly(int file)
+/* On ext4 it takes a while to free a file. A file that NFS serves would get another name first if somebody has it, and for a moment the database none: so
+ * it is only had where the files are this machine's own. */
+static bool is_own(int file)
 {
     struct statfs system;
-    return fstatfs(file, &system) == 0 && system.f_type == EXT4_SUPER_MAGIC;
+    return fstatfs(file, &system) == 0 && (system.f_type == EXT4_SUPER_MAGIC || system.f_type == TMPFS_MAGIC);
 }
 
 int replaced_open(const DconfdbStore *store)
 {
     const char *name = dconfdb_store_user_file(store);
     int file = name ? open(name, O_PATH | O_CLOEXEC) : -1;
-    if (file < 0 || is_freed_slowly(file))
+    if (file < 0 || is_own(file))
         return file;
     close(file);
     return -1;

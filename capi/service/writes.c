@@ -248,10 +248,10 @@ static void know(Run *run, bool is_done, DconfdbSnapshot *now)
         return;
     answer_all(run);
     has_answered(service);
+    sched_yield();
     run->then = dconfdb_snapshot_ref(now);
     if (is_short(run))
         tell_all(run);
-    sched_yield();
 }
 
 /* It is made, and is noted next: who waits for the answer, or is told of little, needn't wait for that. */
