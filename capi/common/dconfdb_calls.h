@@ -709,7 +709,8 @@ typedef struct {
     uint64_t tried; /* how many names were tried before this one, or how many links were followed on the way */
     bool may_map;
     bool may_stop; /* its head may say that the rest isn't wanted */
-    bool is_named; /* the names still stand for what is open; or what has the name is the same file; or the path has no link */
+    bool is_named; /* the name still stands for what is open; or what has the name is the same file; or the path has no link */
+    bool is_moved; /* the path of the folder that it is in leads elsewhere by now */
     bool is_root;  /* root asks */
     bool may_make; /* what is missing may be made */
 } DconfdbStood;
@@ -753,6 +754,29 @@ enum {
 };
 
 uint32_t dconfdb_standing(uint32_t purpose, const DconfdbStood *stood, uint32_t *fault);
+
+/* What is to be on the disk. */
+enum {
+    DCONFDB_TO_BRING_MADE, /* a folder that is made in another one */
+    DCONFDB_TO_BRING_FILE, /* a file, by its name in a folder */
+    DCONFDB_TO_BRING_BOTH  /* the same, and the folder's name */
+};
+
+/* What is done for that, one after the other. */
+enum {
+    DCONFDB_BRING_BEGINS,
+    DCONFDB_BRING_NAME,   /* the name of the folder is synced, by the folder above it */
+    DCONFDB_BRING_MAKE,   /* what is missing is made in the folder */
+    DCONFDB_BRING_FILE,   /* the file is synced */
+    DCONFDB_BRING_FOLDER, /* the folder is */
+    DCONFDB_BRING_OVER    /* it is over, by the errno of what was done last, or 0 */
+};
+
+/* What is done next, once that was done with that errno. A file is synced by itself only if there is one that can be read (`has_file`). */
+uint32_t dconfdb_bring_after(uint32_t what, uint32_t done, uint32_t fault, bool has_file);
+
+/* Whether what is wrong with the profile, by its code in the library's header, keeps the files of a store from being listed. */
+bool dconfdb_is_list_refused(uint32_t code);
 
 /* What is asked of a change before it is written, in this order, and what came of it; and of its notes. */
 enum {
@@ -1038,9 +1062,11 @@ enum {
     DCONFDB_TAKING_MAKE,            /* make one by the lock's name, if that is free, and hand it over */
     DCONFDB_TAKING_LIST,            /* list it for children of fork(); a fault: one was made since the folder was opened */
     DCONFDB_TAKING_LOCK,            /* lock it */
-    DCONFDB_TAKING_LOOK,            /* look whether the folder's name and its own are theirs still (`is_named`), and how many it has */
+    DCONFDB_TAKING_LOOK,            /* look whether its name is its own still (`is_named`), how many it has, and whether the folder's path leads elsewhere
+                                     * (`is_moved`) */
     DCONFDB_TAKING_TAKE_NAME,       /* take the lock's name from it */
-    DCONFDB_TAKING_HAD = 13,        /* over: it is had */
+    DCONFDB_TAKING_PAUSE,           /* wait for a fifth of a millisecond: another thread forks, or is having children heeded */
+    DCONFDB_TAKING_HAD,             /* over: it is had */
     DCONFDB_TAKING_NOT_YET,         /* over: it can't be locked, and what is open stays for the next try */
     DCONFDB_TAKING_NOT_HAD          /* over: what is open is to be closed */
 };
@@ -1538,12 +1564,25 @@ enum {
 
 uint32_t dconfdb_tell_next(const DconfdbTelling *known);
 
+/* What becomes of the paths that are seen otherwise than what was told last. */
+enum {
+    DCONFDB_HANDED_NOT,    /* they couldn't be handed out: what was told still is, and the files are looked at again */
+    DCONFDB_HANDED_PARTLY, /* they were, and what is the newest was told; but nobody looked at the files, which are looked at again */
+    DCONFDB_HANDED_WHOLE   /* they were, and the files were looked at */
+};
+
+uint32_t dconfdb_handed(bool has_paths, bool has_looked);
+
+/* Whether the main context of somebody who listens is asked to say that it turns. `has_turned`: one does; `is_asked`: this one is asked already. */
+bool dconfdb_asks_context(bool has_turned, bool is_asked);
+
 /* What is known of a change that the D-Bus service is called for, of those that wait, and of the service. */
 typedef struct {
     uint64_t size;                  /* how many bytes it was sent in; of what is told, how many the paths have */
     uint64_t waiting, waiting_size; /* how many changes wait, and how many bytes they have together */
     uint64_t names;                 /* how many databases are in use */
     uint64_t answered;              /* of those that wait, how many a try that isn't over has answered: it is known what came of them */
+    uint64_t edits, resets;         /* how many edits those that are written together have, and how many of these reset a directory */
     uint32_t said;                  /* by dconfdb_failing_met, of the fault by which it can't be written */
     uint32_t kind;                  /* of a text, what it is as a path, by dconfdb_path_kind */
     bool is_used;                   /* its database is in use */
@@ -1593,11 +1632,12 @@ enum {
     DCONFDB_SERVED_BESIDE,   /* an edit stands beside others of its change */
     DCONFDB_SERVED_PASSES,   /* it came in another thread than the main one */
     DCONFDB_SERVED_PROFILE,  /* the file was read that is to be the profile of its database alone */
-    DCONFDB_SERVED_HEARD,    /* it is told: does somebody listen? */
+    DCONFDB_SERVED_READS,    /* it waits, and is to be read: in the thread in which it came? */
     DCONFDB_SERVED_FOLDER,   /* a folder may have that file */
     DCONFDB_SERVED_USED,     /* its database is open, or can't be opened (`is_open`) */
     DCONFDB_SERVED_ANSWERED, /* it is answered */
-    DCONFDB_SERVED_CALLED    /* the service is called */
+    DCONFDB_SERVED_CALLED,   /* the service is called */
+    DCONFDB_SERVED_TELLS     /* those that are written together are to be told: in the turn to write? */
 };
 
 /* What becomes of it then. */
@@ -1612,7 +1652,7 @@ enum {
     DCONFDB_SERVED_TOO_MUCH, /* too much waits */
     DCONFDB_SERVED_TOO_MANY_NAMES,
     DCONFDB_SERVED_LATE,     /* the service ends: that is its answer, and nothing of it is written; or the thread is left, whatever it is at */
-    DCONFDB_SERVED_LATER,    /* it is for a later write; or the main thread is to take it */
+    DCONFDB_SERVED_LATER,    /* it is for a later write; or the main thread is to take it, or the one that writes to read it; or it is told after the turn */
     DCONFDB_SERVED_PROFILES, /* the profile's store has its database */
     DCONFDB_SERVED_ALONE,    /* the store of its database alone has it; or an edit is made, or not, by itself */
     DCONFDB_SERVED_ENDS,     /* the service ends, and takes what it was sent before; or the thread is left, and nothing is said: all are answered */
@@ -2097,6 +2137,16 @@ enum {
 };
 
 uint32_t dconfdb_file_after(bool is_same, bool is_of_folder);
+
+/* Whether, in that folder of a site (DCONFDB_WITHIN_*), the keys of another database are set than before. */
+bool dconfdb_begins_sources(uint32_t within);
+
+/* Whether a file that can't be read as a text, by that errno, is read as a database. */
+bool dconfdb_reads_on(uint32_t fault);
+
+/* Any bytes as a string of JSON, in its quotation marks, with U+FFFD for each byte that is no part of a character. `len` as dconfdb_list has it.
+ * MEMORY, and then nothing is written. */
+uint32_t dconfdb_json_string(const uint8_t *bytes, size_t bytes_len, uint8_t *room, size_t room_len, size_t *len);
 
 /* The folder of the sources and databases that `update` takes if none is named, by the kind of store that the machine has. */
 void dconfdb_machines_folder(bool is_dconfs, DconfdbBytes *folder);

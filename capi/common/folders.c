@@ -148,14 +148,25 @@ int folder_sync_name(int folder)
     return file_fault(DCONFDB_TO_SYNC_NAME, sync_folder(folder, ".."));
 }
 
+/* A task of those by which a folder is made. */
+static int bring(uint32_t task, int above, const char *name)
+{
+    switch (task) {
+    case DCONFDB_BRING_NAME: return folder_sync_name(above);
+    case DCONFDB_BRING_MAKE: return file_fault(DCONFDB_TO_MAKE, make_in(above, name));
+    default: return sync_folder(above, "."); /* DCONFDB_BRING_FOLDER */
+    }
+}
+
 /* Makes a folder that is missing, so that its name is on the disk, and before it that of the one that it is in: who made that may have been killed
  * before it was. Another program may do so at the same time, and not have come to that. */
 static int make_one(int above, const char *name)
 {
-    int fault = folder_sync_name(above);
-    if (fault == 0)
-        fault = file_fault(DCONFDB_TO_MAKE, make_in(above, name));
-    return fault != 0 ? fault : sync_folder(above, ".");
+    int fault = 0;
+    uint32_t task = DCONFDB_BRING_BEGINS;
+    while ((task = dconfdb_bring_after(DCONFDB_TO_BRING_MADE, task, (uint32_t)fault, false)) != DCONFDB_BRING_OVER)
+        fault = bring(task, above, name);
+    return fault;
 }
 
 /* ---- a path */

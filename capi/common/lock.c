@@ -17,6 +17,7 @@
 #include <stdio.h>
 #include <sys/file.h>
 #include <sys/stat.h>
+#include <time.h>
 #include <unistd.h>
 
 /* Opened to be written, since a network's file system can lock no other file. No link is followed, and no pipe waited
@@ -266,19 +267,14 @@ static DconfdbStood look_above(Awaited *awaited)
     return stood;
 }
 
-static DconfdbStood make_unnamed_first(Awaited *awaited)
-{
-    return file_stood(NULL, make_unnamed(awaited->lock->folder, &awaited->lock->file));
-}
+typedef int Makes(int folder, int *file);
 
-static DconfdbStood make_renamed_first(Awaited *awaited)
+/* In one of three ways. */
+static DconfdbStood make_file(Awaited *awaited)
 {
-    return file_stood(NULL, make_renamed(awaited->lock->folder, &awaited->lock->file));
-}
-
-static DconfdbStood make_at_once(Awaited *awaited)
-{
-    return file_stood(NULL, make_own(awaited->lock->folder, &awaited->lock->file));
+    static Makes *const ways[DCONFDB_TAKING_LIST] = {
+        [DCONFDB_TAKING_MAKE_UNNAMED] = make_unnamed, [DCONFDB_TAKING_MAKE_RENAMED] = make_renamed, [DCONFDB_TAKING_MAKE] = make_own};
+    return file_stood(NULL, ways[awaited->taking.task](awaited->lock->folder, &awaited->lock->file));
 }
 
 /* What a child of fork() may have, too, isn't listed: the lock would be that child's, too. */
@@ -306,7 +302,8 @@ static DconfdbStood look_at_names(Awaited *awaited)
     bool has_folder = stat(awaited->folder, &named) == 0 && fstat(lock->folder, &opened) == 0 && are_of_one_file(&named, &opened);
     bool has_name = fstatat(lock->folder, LOCK_NAME, &named, AT_SYMLINK_NOFOLLOW) == 0 && fstat(lock->file, &file) == 0 && are_of_one_file(&named, &file);
     DconfdbStood stood = file_stood(&file, 0);
-    stood.is_named = has_folder && has_name;
+    stood.is_named = has_name;
+    stood.is_moved = !has_folder;
     return stood;
 }
 
@@ -315,6 +312,14 @@ static DconfdbStood look_at_names(Awaited *awaited)
 static DconfdbStood take_name(Awaited *awaited)
 {
     return file_stood(NULL, unlinkat(awaited->lock->folder, LOCK_NAME, 0) != 0 ? errno : 0);
+}
+
+/* Who forks, or has forks heeded, is done in a moment. */
+static DconfdbStood take_pause(Awaited *awaited)
+{
+    (void)awaited;
+    nanosleep(&(const struct timespec){0, 200000}, NULL);
+    return file_stood(NULL, 0);
 }
 
 typedef DconfdbStood Does(Awaited *awaited);
@@ -327,13 +332,14 @@ static DconfdbStood does(Awaited *awaited)
         [DCONFDB_TAKING_MAKE_FOLDER] = make_folder,
         [DCONFDB_TAKING_OPEN] = open_old,
         [DCONFDB_TAKING_LOOK_ABOVE] = look_above,
-        [DCONFDB_TAKING_MAKE_UNNAMED] = make_unnamed_first,
-        [DCONFDB_TAKING_MAKE_RENAMED] = make_renamed_first,
-        [DCONFDB_TAKING_MAKE] = make_at_once,
+        [DCONFDB_TAKING_MAKE_UNNAMED] = make_file,
+        [DCONFDB_TAKING_MAKE_RENAMED] = make_file,
+        [DCONFDB_TAKING_MAKE] = make_file,
         [DCONFDB_TAKING_LIST] = list_it,
         [DCONFDB_TAKING_LOCK] = lock_it,
         [DCONFDB_TAKING_LOOK] = look_at_names,
         [DCONFDB_TAKING_TAKE_NAME] = take_name,
+        [DCONFDB_TAKING_PAUSE] = take_pause,
     };
     return tasks[awaited->taking.task](awaited);
 }
@@ -357,19 +363,13 @@ static uint32_t try_it(void *it, int *fault)
     return taking->tried;
 }
 
-static int wait_for_lock(Awaited *awaited, int milliseconds)
-{
-    return try_for(awaited->has_end ? DCONFDB_WAIT_FOR_LOCK : DCONFDB_WAIT_WITHOUT_END, (uint32_t)milliseconds, try_it, awaited,
-                   &awaited->lock->is_others);
-}
-
 static int take(const char *folder, int milliseconds, bool makes, FolderLock *lock)
 {
     Awaited awaited = {.folder = folder, .has_end = milliseconds != WITHOUT_END, .makes = makes, .lock = lock};
     int cancels = hold_cancellation();
     lock->folder = lock->file = NO_FOLDER;
     lock->is_others = false;
-    int fault = wait_for_lock(&awaited, milliseconds);
+    int fault = try_for(awaited.has_end ? DCONFDB_WAIT_FOR_LOCK : DCONFDB_WAIT_WITHOUT_END, (uint32_t)milliseconds, try_it, &awaited, &lock->is_others);
     if (fault != 0)
         close_awaited(&awaited);
     cancel_as_before(cancels);

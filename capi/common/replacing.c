@@ -269,10 +269,29 @@ static int settle_at(int folder, const char *name)
     return fault;
 }
 
+/* A task of those by which what a folder has is brought to the disk. */
+static int bring(uint32_t task, int folder, const char *name)
+{
+    switch (task) {
+    case DCONFDB_BRING_FILE: return settle_at(folder, name);
+    case DCONFDB_BRING_NAME: return folder_sync_name(folder);
+    default: return fsync(folder) != 0 ? errno : 0; /* DCONFDB_BRING_FOLDER */
+    }
+}
+
+/* All of them, in their order. NULL: no file. */
+static int bring_all(uint32_t what, int folder, const char *name)
+{
+    int fault = 0;
+    uint32_t task = DCONFDB_BRING_BEGINS;
+    while ((task = dconfdb_bring_after(what, task, (uint32_t)fault, name != NULL)) != DCONFDB_BRING_OVER)
+        fault = bring(task, folder, name);
+    return fault;
+}
+
 int replacing_settle(const Replacing *it, bool is_readable)
 {
-    int fault = is_readable ? settle_at(it->folder, it->name) : 0;
-    return fault != 0 ? fault : replacing_sync_folder(it);
+    return bring_all(DCONFDB_TO_BRING_FILE, it->folder, is_readable ? it->name : NULL);
 }
 
 int folder_settle(const char *folder, const char *name)
@@ -280,11 +299,7 @@ int folder_settle(const char *folder, const char *name)
     int at = open(folder, O_RDONLY | O_DIRECTORY | O_CLOEXEC);
     if (at < 0)
         return file_fault(DCONFDB_TO_LOOK, errno);
-    int fault = name ? settle_at(at, name) : 0;
-    if (fault == 0 && fsync(at) != 0)
-        fault = errno;
-    if (fault == 0)
-        fault = folder_sync_name(at);
+    int fault = bring_all(DCONFDB_TO_BRING_BOTH, at, name);
     close(at);
     return fault;
 }

@@ -40,7 +40,9 @@ static void ask_whether_it_turns(DconfdbBackend *self)
 {
     GMainContext *context = g_main_context_ref_thread_default();
     g_mutex_lock(&self->lock);
-    bool is_new = !self->has_turned && g_hash_table_add(self->asked, context);
+    bool is_new = dconfdb_asks_context(self->has_turned, g_hash_table_contains(self->asked, context));
+    if (is_new)
+        g_hash_table_add(self->asked, context);
     g_mutex_unlock(&self->lock);
     if (is_new) {
         Asked *asked = g_new(Asked, 1);

@@ -162,14 +162,14 @@ static void finds_telling(void)
 }
 
 /* What is known of a change is read alone: the numbers, what is said, and the fields of which these are so. */
-enum { SERVED_SIZE = 0, SERVED_WAITING = 8, SERVED_WAITING_SIZE = 16, SERVED_NAMES = 24, SERVED_ANSWERED = 32, SERVED_SAID = 40, SERVED_KIND = 44,
-       SERVED_FLAGS = 48,
+enum { SERVED_SIZE = 0, SERVED_WAITING = 8, SERVED_WAITING_SIZE = 16, SERVED_NAMES = 24, SERVED_ANSWERED = 32, SERVED_EDITS = 40, SERVED_RESETS = 48,
+       SERVED_SAID = 56, SERVED_KIND = 60, SERVED_FLAGS = 64,
        SERVED_IS_USED = SERVED_FLAGS, SERVED_IS_NORMAL, SERVED_HAS_EDITS, SERVED_IS_WRITTEN, SERVED_IS_CLOSED, SERVED_ENDS, SERVED_IS_AMID,
        SERVED_IS_SAME, SERVED_IS_OPEN, SERVED_IS_PROFILE_OPEN, SERVED_HAS_SAME_FILE, SERVED_HAD_NAME, SERVED_IS_BUS_CLOSED, SERVED_IS_SHORT,
        SERVED_IS_AGAIN, SERVED_IS_COVERED, SERVED_SETS, SERVED_IS_USERS, SERVED_IS_UNMADE, SERVED_IS_SERVICE_DB, SERVED_IS_BEHIND,
-       SERVED_HAS_PROFILE, SERVED_IS_FIRST, SERVED_IS_ABSOLUTE, SERVED_IS_LAST, SERVED_WANTS_NONE, SERVED_IS_NOTED, SERVED = 80 };
+       SERVED_HAS_PROFILE, SERVED_IS_FIRST, SERVED_IS_ABSOLUTE, SERVED_IS_LAST, SERVED_WANTS_NONE, SERVED_IS_NOTED, SERVED = 96 };
 
-static bool is_served(uint32_t done, const uint64_t numbers[5], uint32_t said, unsigned fields, uint32_t next)
+static bool is_served(uint32_t done, const uint64_t numbers[7], uint32_t said, unsigned fields, uint32_t next)
 {
     _Alignas(16) uint8_t known[SERVED] = {0};
     memcpy(known, numbers, SERVED_SAID);
@@ -182,7 +182,7 @@ static bool is_served(uint32_t done, const uint64_t numbers[5], uint32_t said, u
 }
 
 /* Of what stands in it. */
-static void finds_sent(const uint64_t none[5])
+static void finds_sent(const uint64_t none[7])
 {
     enum { WRITTEN = 8, SHORT = 1 << 13, AGAIN = SHORT << 1, COVERED = SHORT << 2, SETS = SHORT << 3, USERS = SHORT << 4, UNMADE = SHORT << 5,
            SERVICE_DB = SHORT << 6, BEHIND = SHORT << 7, HAS_PROFILE = SHORT << 8, IS_FIRST = SHORT << 9, USED = 1, ENDS = 32 };
@@ -209,10 +209,12 @@ static void finds_sent(const uint64_t none[5])
 }
 
 /* Of a call, and of where a database is. */
-static void finds_called(const uint64_t none[5])
+static void finds_called(const uint64_t none[7])
 {
     enum { OPEN = 1 << 8, IS_ABSOLUTE = 1 << 23, IS_LAST = IS_ABSOLUTE << 1, WANTS_NONE = IS_ABSOLUTE << 2, IS_NOTED = IS_ABSOLUTE << 3 };
-    is_so(is_served(16, none, 0, 0, 0) && is_served(17, none, 0, 0, 14) && is_served(17, none, 0, IS_ABSOLUTE, 0) && is_served(17, none, 0, IS_LAST, 0),
+    is_so(is_served(16, none, 0, 0, 0) && is_served(16, (const uint64_t[7]){4097}, 0, 0, 9), "DconfdbServed");
+    is_so(is_served(21, none, 0, 0, 0) && is_served(21, (const uint64_t[7]){[5] = 17}, 0, 0, 9) && is_served(21, (const uint64_t[7]){[6] = 1}, 0, 0, 9), "DconfdbServed");
+    is_so(is_served(17, none, 0, 0, 14) && is_served(17, none, 0, IS_ABSOLUTE, 0) && is_served(17, none, 0, IS_LAST, 0),
           "DconfdbServed");
     is_so(is_served(18, none, 0, 0, 2) && is_served(18, none, 0, OPEN, 0) && is_served(19, none, 0, 0, 0) && is_served(19, none, 0, WANTS_NONE, 14),
           "DconfdbServed");
@@ -224,12 +226,12 @@ static void finds_called(const uint64_t none[5])
 }
 
 /* Of what happens at the end, and before it is written, one field counts, or a few. */
-static void finds_ending(const uint64_t none[5], const uint64_t one[5])
+static void finds_ending(const uint64_t none[7], const uint64_t one[7])
 {
     enum { EDITS = 4 | 2, ENDS = 32, AMID = 64, SAME = 128, OPEN = 256, PROFILE = 512, SAME_FILE = 1024, HAD_NAME = 2048, BUS_CLOSED = 4096 };
     is_so(is_served(2, none, 0, EDITS, 0) && is_served(2, none, 0, ENDS | EDITS, 2) && is_served(4, none, 0, 0, 8) && is_served(4, none, 0, AMID, 0), "DconfdbServed");
     is_so(is_served(5, none, 0, 0, 9) && is_served(5, none, 0, SAME, 0) && is_served(7, none, 0, 0, 0), "DconfdbServed");
-    is_so(is_served(7, one, 0, 0, 8) && is_served(7, (const uint64_t[5]){1, 1, 1, 1, 1}, 0, 0, 12), "DconfdbServed");
+    is_so(is_served(7, one, 0, 0, 8) && is_served(7, (const uint64_t[7]){1, 1, 1, 1, 1}, 0, 0, 12), "DconfdbServed");
     is_so(is_served(6, none, 0, OPEN, 2) && is_served(6, none, 0, PROFILE, 2) && is_served(6, none, 0, OPEN | PROFILE, 11)
               && is_served(6, none, 0, OPEN | PROFILE | SAME_FILE, 10), "DconfdbServed");
     is_so(is_served(8, none, 0, 0, 13) && is_served(8, none, 0, HAD_NAME, 12) && is_served(8, none, 0, BUS_CLOSED, 12), "DconfdbServed");
@@ -238,8 +240,8 @@ static void finds_ending(const uint64_t none[5], const uint64_t one[5])
 static void finds_served(void)
 {
     enum { USED = 1, NORMAL = 2, HAS_EDITS = 4, IS_WRITTEN = 8, IS_CLOSED = 16, PLAIN = NORMAL | HAS_EDITS };
-    static const uint64_t few[5] = {1, 1, 1, 1, 0}, large[5] = {67108865, 1, 1, 1, 0}, many[5] = {1, 10000, 1, 1, 0}, full[5] = {1, 1, 268435456, 1, 0},
-                          named[5] = {1, 1, 1, 64, 0}, odd[5] = {32769, 1, 1, 1, 0};
+    static const uint64_t few[7] = {1, 1, 1, 1}, large[7] = {67108865, 1, 1, 1}, many[7] = {1, 10000, 1, 1}, full[7] = {1, 1, 268435456, 1},
+                          named[7] = {1, 1, 1, 64}, odd[7] = {32769, 1, 1, 1};
     is_so(is_served(0, few, 0, 0, 0) && is_served(0, large, 0, 0, 5) && is_served(0, many, 0, 0, 6) && is_served(0, full, 0, 0, 6), "DconfdbServed");
     is_so(is_served(0, named, 0, 0, 7) && is_served(0, named, 0, USED, 0) && is_served(1, odd, 0, 0, 4) && is_served(1, odd, 0, NORMAL, 0),
           "DconfdbServed");
@@ -250,13 +252,15 @@ static void finds_served(void)
     lies("DconfdbServed", "waiting_size", SERVED_WAITING_SIZE, WORD);
     lies("DconfdbServed", "names", SERVED_NAMES, WORD);
     lies("DconfdbServed", "answered", SERVED_ANSWERED, WORD);
+    lies("DconfdbServed", "edits", SERVED_EDITS, WORD);
+    lies("DconfdbServed", "resets", SERVED_RESETS, WORD);
     lies("DconfdbServed", "said", SERVED_SAID, NUMBER);
     lies("DconfdbServed", "is_used", SERVED_IS_USED, FLAG);
     lies("DconfdbServed", "is_normal", SERVED_IS_NORMAL, FLAG);
     lies("DconfdbServed", "has_edits", SERVED_HAS_EDITS, FLAG);
     lies("DconfdbServed", "is_written", SERVED_IS_WRITTEN, FLAG);
     lies("DconfdbServed", "is_closed", SERVED_IS_CLOSED, FLAG);
-    finds_ending((const uint64_t[5]){0, 0, 0, 0, 0}, few);
+    finds_ending((const uint64_t[7]){0}, few);
     finds_sent(few);
     finds_called(few);
     lies("DconfdbServed", "ends", SERVED_ENDS, FLAG);

@@ -285,7 +285,7 @@ static void finds_made(void)
 /* ---- a file of root's, of 65,537 bytes, with one name, that is read, is a lock, or has links in it */
 
 enum { STOOD_FAULT = 0, STOOD_MODE = 4, STOOD_USER = 8, STOOD_LINKS = 16, STOOD_LEN = 24, STOOD_MOST = 32, STOOD_TRIED = 40, STOOD_MAY_MAP = 48,
-       STOOD_MAY_STOP = 49, STOOD_IS_NAMED = 50, STOOD_IS_ROOT = 51, STOOD_MAY_MAKE = 52, STOOD = 56 };
+       STOOD_MAY_STOP = 49, STOOD_IS_NAMED = 50, STOOD_IS_MOVED = 51, STOOD_IS_ROOT = 52, STOOD_MAY_MAKE = 53, STOOD = 56 };
 enum { TO_READ = 2, TO_HOLD = 4, TO_FOLLOW = 5, TO_ENTER = 14, LINKS = 40 };
 
 /* What becomes of it if it is of that user, and this field is another number. */
@@ -321,6 +321,7 @@ static void finds_stood(void)
     is_so(stands(TO_READ, 7, STOOD_MOST, WORD, 65536) == 5 && stands(TO_READ, 7, STOOD_MAY_MAP, FLAG, 1) == 2, "DconfdbStood");
     is_so(stands(TO_READ, 7, STOOD_MAY_STOP, FLAG, 1) == 3 && stands(TO_HOLD, 7, STOOD_FAULT, NUMBER, 0) == 0, "DconfdbStood");
     is_so(stands(TO_HOLD, 7, STOOD_LINKS, WORD, 2) == 4 && stands(TO_HOLD, 7, STOOD_IS_NAMED, FLAG, 0) == 1, "DconfdbStood");
+    is_so(stands(TO_HOLD, 7, STOOD_IS_MOVED, FLAG, 1) == 1, "DconfdbStood");
     is_so(stands(TO_FOLLOW, 7, STOOD_FAULT, NUMBER, 0) == 5 && stands(TO_FOLLOW, 7, STOOD_IS_ROOT, FLAG, 0) == 0, "DconfdbStood");
     is_so(stands(TO_FOLLOW, 0, STOOD_FAULT, NUMBER, 0) == 0 && stands(TO_FOLLOW, 0, STOOD_TRIED, WORD, LINKS) == 5, "DconfdbStood");
     is_so(stands(TO_FOLLOW, 0, STOOD_TRIED, WORD, LINKS - 1) == 0, "DconfdbStood");
@@ -336,6 +337,7 @@ static void finds_stood(void)
     lies("DconfdbStood", "may_map", STOOD_MAY_MAP, FLAG);
     lies("DconfdbStood", "may_stop", STOOD_MAY_STOP, FLAG);
     lies("DconfdbStood", "is_named", STOOD_IS_NAMED, FLAG);
+    lies("DconfdbStood", "is_moved", STOOD_IS_MOVED, FLAG);
     lies("DconfdbStood", "is_root", STOOD_IS_ROOT, FLAG);
     lies("DconfdbStood", "may_make", STOOD_MAY_MAKE, FLAG);
     printf("TAKES(DconfdbStood, %d);\n", STOOD);

@@ -41,7 +41,7 @@ typedef struct { uint32_t fault, mode; } Said;
 /* A try of which so much was said. */
 static Written taking_by(const Said *said, size_t count)
 {
-    enum { MAY_MAKE = 52, STOOD = 56, TAKING = 24 };
+    enum { MAY_MAKE = 53, STOOD = 56, TAKING = 24 };
     _Alignas(16) uint8_t stood[STOOD] = {[MAY_MAKE] = 1};
     Written taking = room_of("DconfdbTaking");
     memset(taking.bytes, 0, TAKING);
@@ -58,7 +58,7 @@ static Written taking_by(const Said *said, size_t count)
 static void finds_taking(void)
 {
     enum { MISSING = 2, FORKED = 11, EXISTS = 17, FULL = 28, REGULAR = 0100600 };
-    static const Said made[] = {{MISSING, 0}, {0, 0}, {0, 0}, {0, REGULAR}, {FORKED, 0}, {0, 0}, {0, REGULAR}, {FORKED, 0}, {0, 0}, {MISSING, 0}, {0, 0}, {EXISTS, 0}, {MISSING, 0},
+    static const Said made[] = {{MISSING, 0}, {0, 0}, {0, 0}, {0, REGULAR}, {FORKED, 0}, {0, 0}, {0, 0}, {0, REGULAR}, {FORKED, 0}, {0, 0}, {0, 0}, {MISSING, 0}, {0, 0}, {EXISTS, 0}, {MISSING, 0},
                                 {0, 0}, {EXISTS, 0}, {MISSING, 0}, {0, 0}, {EXISTS, 0}, {MISSING, 0}, {0, 0}, {EXISTS, 0}, {MISSING, 0}, {0, 0}, {EXISTS, 0}, {MISSING, 0}, {0, 0}, {FULL, 0}};
     static const Said moved[] = {{0, 0}, {0, REGULAR}, {0, 0}, {0, 0}, {0, REGULAR}};
     Written taking = taking_by(made, sizeof made / sizeof *made), again = taking_by(moved, sizeof moved / sizeof *moved);

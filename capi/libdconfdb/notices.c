@@ -112,16 +112,18 @@ int dconfdb_store_fd(DconfdbStore *store, DconfdbError *error)
 
 /* ---- what is told */
 
-/* What differs from what was told last. Amid a change of another thread nobody looks. */
-static char *differences(Notices *it, DconfdbStore *store, bool *has_looked, size_t *size, DconfdbError *error)
+/* What differs from what was told last, and what becomes of that (DCONFDB_HANDED_*). Amid a change of another thread nobody looks. */
+static char *differences(Notices *it, DconfdbStore *store, uint32_t *handed, size_t *size, DconfdbError *error)
 {
-    DconfdbSnapshot *now = newest_unless_amid(store, has_looked, error);
-    if (!now)
-        return NULL;
-    char *paths = dconfdb_snapshot_differences(now, it->told, size, error);
-    dconfdb_snapshot_unref(paths ? it->told : now);
-    if (paths)
+    bool has_looked = false;
+    DconfdbSnapshot *now = newest_unless_amid(store, &has_looked, error), *last = now;
+    char *paths = now ? dconfdb_snapshot_differences(now, it->told, size, error) : NULL;
+    *handed = dconfdb_handed(paths, has_looked);
+    if (*handed != DCONFDB_HANDED_NOT) {
+        last = it->told;
         it->told = now;
+    }
+    dconfdb_snapshot_unref(last);
     return paths;
 }
 
@@ -135,10 +137,10 @@ static char *look(Notices *it, DconfdbStore *store, size_t *size, DconfdbError *
     }
     if (watch_ask(it->watch) == WATCH_FILES)
         watch_anew(it, store);
-    bool has_looked = false;
-    char *paths = differences(it, store, &has_looked, size, error);
+    uint32_t handed;
+    char *paths = differences(it, store, &handed, size, error);
     /* If it can't be set for that it is readable after the second. */
-    (void)set_clock_at(it, watch_answer(it->watch, paths && has_looked));
+    (void)set_clock_at(it, watch_answer(it->watch, handed == DCONFDB_HANDED_WHOLE));
     return paths;
 }
 
@@ -148,8 +150,8 @@ char *dconfdb_store_dispatch(DconfdbStore *store, size_t *size, DconfdbError *er
     pthread_mutex_lock(&it->lock);
     if (!it->told)
         it->told = dconfdb_store_snapshot(store);
-    bool has_looked;
-    char *paths = it->watch ? look(it, store, size, error) : differences(it, store, &has_looked, size, error);
+    uint32_t handed;
+    char *paths = it->watch ? look(it, store, size, error) : differences(it, store, &handed, size, error);
     pthread_mutex_unlock(&it->lock);
     return paths;
 }

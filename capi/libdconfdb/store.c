@@ -101,7 +101,7 @@ static char *files_at(StorePlace *place, int *profiles, size_t *size, bool *are_
     if (!store)
         return NULL;
     *are_all = store_find_files(store, &fault);
-    char *names = fault.code == DCONFDB_ERROR_MEMORY ? NULL : store_file_names(store, profiles, size);
+    char *names = dconfdb_is_list_refused((uint32_t)fault.code) ? NULL : store_file_names(store, profiles, size);
     if (!names)
         refuse_memory(error);
     dconfdb_store_close(store);

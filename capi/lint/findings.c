@@ -47,31 +47,18 @@ static void put_line(const Place *at, const char *text)
 
 /* ---- an object */
 
-/* The next character of a text, or a byte that is none of UTF-8; as JSON has it. It gives where the text goes on. */
-static const char *put_character(const char *at, size_t left)
-{
-    gunichar is = g_utf8_get_char_validated(at, (gssize)left);
-    if (is >= 0x110000) { /* the two answers that it is none */
-        fputs("\\ufffd", stdout);
-        return at + 1;
-    }
-    const char *next = g_utf8_next_char(at);
-    if (is == '"' || is == '\\')
-        printf("\\%c", (int)is);
-    else if (is < ' ')
-        printf("\\u%04x", (unsigned)is);
-    else
-        fwrite(at, 1, (size_t)(next - at), stdout);
-    return next;
-}
-
 static void put_string(const char *text)
 {
-    const char *end = text + strlen(text);
-    putchar('"');
-    while (text < end)
-        text = put_character(text, (size_t)(end - text));
-    putchar('"');
+    size_t len = 2 * strlen(text) + 2, room_len; /* mostly enough */
+    uint8_t *room = NULL;
+    do {
+        room_len = len;
+        room = g_realloc(room, room_len);
+        if (dconfdb_json_string((const uint8_t *)text, strlen(text), room, room_len, &len) != DCONFDB_OK)
+            g_error("no memory is left");
+    } while (len > room_len);
+    fwrite(room, 1, len, stdout);
+    g_free(room);
 }
 
 /* A name that is not UTF-8 has its bytes, too. */

@@ -41,7 +41,7 @@ static int read_as(const char *file, uint32_t kind, FileWanted *is_wanted, FileB
 static int read_file(const char *file, FileBytes *bytes, FileState *state)
 {
     int fault = read_as(file, DCONFDB_SIZE_PROFILE, NULL, bytes, state);
-    if (fault == EOVERFLOW)
+    if (dconfdb_reads_on((uint32_t)fault))
         fault = read_as(file, DCONFDB_SIZE_DATABASE, dconfdb_is_database_head, bytes, state);
     return fault;
 }

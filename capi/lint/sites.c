@@ -164,10 +164,11 @@ static Asked asked_in(const Walked *it, const Name *name, const char *path)
 static void walk_into(const Walked *it, const char *path, uint32_t within, bool is_hidden)
 {
     Walked inside = {it->lint, path, within, is_hidden};
-    if (within == DCONFDB_WITHIN_SOURCES)
+    bool begins = dconfdb_begins_sources(within);
+    if (begins)
         inside.lint.set = g_hash_table_new_full(g_str_hash, g_str_equal, g_free, g_free);
     walk(&inside);
-    if (within == DCONFDB_WITHIN_SOURCES)
+    if (begins)
         g_hash_table_unref(inside.lint.set);
 }
 

@@ -139,8 +139,9 @@ static uint32_t ordered_of(const DconfdbEdit *edit, const DconfdbEdit *last, con
 }
 
 /* In the order of their paths' bytes, and of one path as they were sent. */
-static void sort(GArray *edits)
+static void sort(Change *change)
 {
+    GArray *edits = change->edits;
     DconfdbEdit *all = (DconfdbEdit *)(gpointer)edits->data;
     const DconfdbEdit *above = NULL;
     guint count = 0;
@@ -149,9 +150,11 @@ static void sort(GArray *edits)
         uint32_t is = ordered_of(&all[at], count > 0 ? &all[count - 1] : NULL, above);
         if (is == DCONFDB_SERVED_PASSED)
             continue;
-        count += is == DCONFDB_SERVED_GOES_ON;
+        bool is_next = is == DCONFDB_SERVED_GOES_ON, is_reset = is_directory(all[at].path);
+        count += is_next;
+        change->resets += is_next && is_reset;
         all[count - 1] = all[at];
-        if (is_directory(all[at].path))
+        if (is_reset)
             above = &all[count - 1];
     }
     g_array_set_size(edits, count);
@@ -174,5 +177,5 @@ void change_read(Change *change)
         read_entry(change, entry);
         g_variant_unref(entry); /* its path is in `normal` */
     }
-    sort(change->edits);
+    sort(change);
 }

@@ -1,9 +1,6 @@
 /* What comes waits to be written, in the order in which it comes: by the main thread, or, of a database that is in use, by GDBus's own. */
 #include "service.h"
 
-/* Of a change that may be read in GDBus's own thread: what comes behind it waits meanwhile. */
-static const size_t FEW_BYTES = 4096;
-
 /* `lock` is held. */
 static void add(Service *service, Change *change)
 {
@@ -50,11 +47,18 @@ static bool may_wait(const Service *service, const Writer *writer, GDBusMessage 
     return dconfdb_served_after(DCONFDB_SERVED_PASSES, &known) == DCONFDB_SERVED_GOES_ON;
 }
 
+/* Whether it is read where it came, if nobody else reads: what comes behind it waits meanwhile. */
+static bool is_read_here(const Change *change)
+{
+    const DconfdbServed known = {.size = change->size};
+    return dconfdb_served_after(DCONFDB_SERVED_READS, &known) == DCONFDB_SERVED_GOES_ON;
+}
+
 /* Adds it, or NULL where the main thread is to take it. It has `reading` then, if that could be had. `lock` is held. */
 static Change *admit(Service *service, Writer *writer, GDBusMessage *call, bool *reads)
 {
     Change *change = may_wait(service, writer, call) ? change_new(writer, call) : NULL;
-    *reads = change && change->size <= FEW_BYTES && g_mutex_trylock(&service->reading);
+    *reads = change && is_read_here(change) && g_mutex_trylock(&service->reading);
     if (change)
         add(service, change);
     else

@@ -69,6 +69,7 @@ typedef struct {
     GVariant *asked;   /* as it was sent; once it is read, in normal form, and in one block, which the edits lend */
     bool is_read, is_normal;
     GArray *edits;     /* in the order of their paths' bytes, one of each: a directory's comes before those of what is in it */
+    size_t resets;     /* how many of them reset a directory */
     GPtrArray *unfit;  /* paths that are too long to be a key's */
     GStringChunk *types;
     char *tag;         /* NULL: nobody has asked for it */
@@ -150,9 +151,6 @@ typedef struct {
 
 void newest_begin(Newest *newest);
 void newest_end(Newest *newest);
-
-/* Whether it is told: as if somebody listened. */
-bool is_heard(void);
 
 /* Tells a change that is made after those before, with its tag: the paths of which another value is seen by it. Its edits are in `made`. */
 void tell_change(Writer *writer, Newest *newest, const GPtrArray *made, const char *tag);

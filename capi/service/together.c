@@ -15,11 +15,13 @@ static GArray *resets_of(const GList *first)
     GArray *resets = g_array_new(FALSE, FALSE, sizeof(DconfdbTime));
     for (const GList *at = first; at; at = at->next) {
         const Change *change = at->data;
-        for (size_t i = 0; i < change->edits->len; i++) {
+        for (size_t i = 0, left = change->resets; left > 0; i++) {
             const char *path = edit_of(change, i)->path;
             DconfdbTime asked = asked_at(change, path);
-            if (is_directory(path))
+            if (is_directory(path)) {
                 g_array_append_val(resets, asked);
+                left--;
+            }
         }
     }
     return resets;

@@ -172,17 +172,12 @@ static void keep_each_once(GPtrArray *paths)
     g_ptr_array_set_size(paths, (gint)count);
 }
 
-bool is_heard(void)
-{
-    const DconfdbServed nothing = {.size = 0};
-    return dconfdb_served_after(DCONFDB_SERVED_HEARD, &nothing) == DCONFDB_SERVED_GOES_ON;
-}
-
-/* Tells what is otherwise, and these paths, if there are any. Without memory all may be otherwise. */
+/* Tells what is otherwise, and these paths, if there are any. Without memory all may be otherwise. Who listens to a bus isn't known: it counts as if
+ * somebody did. */
 static void tell(const Writer *writer, const DconfdbSnapshot *before, const DconfdbSnapshot *now, const GArray *keys, GPtrArray *paths, const char *tag)
 {
     Told told;
-    DconfdbTelling telling = {.is_other = before != now, .has_edits = keys->len + paths->len > 0, .is_listened = is_heard()};
+    DconfdbTelling telling = {.is_other = before != now, .has_edits = keys->len + paths->len > 0, .is_listened = true};
     telling.is_found = seen_otherwise(&told, before, now, (const SeenKey *)(gpointer)keys->data, keys->len, NULL);
     if (telling.is_found)
         add_all(paths, told.paths);

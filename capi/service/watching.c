@@ -177,7 +177,7 @@ static gboolean pass_time(gpointer data)
 {
     Writer *writer = data;
     writer->waits = 0;
-    watch_pass_time(writer->watch, is_heard());
+    watch_pass_time(writer->watch, true); /* who listens to a bus isn't known */
     go_on(writer);
     return G_SOURCE_REMOVE;
 }

@@ -2,7 +2,6 @@
  * next, and what becomes of each change, is said by proved calls. */
 #define _GNU_SOURCE
 #include "faults.h"
-#include "kinds.h"
 #include "service.h"
 #include "threads.h"
 #include "tried.h"
@@ -12,13 +11,12 @@
 
 enum { MILLISECOND = 1000 }; /* in microseconds */
 
-static const size_t FEW_EDITS = 16;
-
 /* Changes that are written together. */
 typedef struct {
     Writer *writer;
     const GList *first; /* of the changes */
     size_t count;       /* of their edits */
+    size_t resets;      /* how many of these reset a directory */
     Batch batch;
     DconfdbSnapshot *then; /* what was there once they were written, until they are told; else NULL */
     GTree *last;           /* the last edit of each path */
@@ -48,6 +46,7 @@ static void read_all(Run *run)
         read_change(run->writer->service, change);
         change->first = run->count;
         run->count += change->edits->len;
+        run->resets += change->resets;
     }
 }
 
@@ -225,13 +224,11 @@ static void end_try(Service *service, bool is_over)
         change_free(g_queue_pop_head_link(&over)->data);
 }
 
-/* Whether it is told in a moment, for which others may wait for their turn. */
-static bool is_short(const Run *run)
+/* Whether others may wait for their turn until it is told. */
+static bool is_told_in_turn(const Run *run)
 {
-    size_t at = 0;
-    while (at < run->count && !is_directory(run->batch.edits[at]->path))
-        at++;
-    return at == run->count && at <= FEW_EDITS;
+    const DconfdbServed known = {.edits = run->count, .resets = run->resets};
+    return dconfdb_served_after(DCONFDB_SERVED_TELLS, &known) == DCONFDB_SERVED_GOES_ON;
 }
 
 /* What came of it, and the newest settings: all are answered, or none. GDBus's thread, which sends that, may wait for this processor. */
@@ -250,7 +247,7 @@ static void know(Run *run, bool is_done, DconfdbSnapshot *now)
     has_answered(service);
     sched_yield();
     run->then = dconfdb_snapshot_ref(now);
-    if (is_short(run))
+    if (is_told_in_turn(run))
         tell_all(run);
 }
 

@@ -110,6 +110,12 @@ uint32_t dconfdb_handing_after(uint32_t what, uint32_t done, uint32_t fault, con
     return handing_given(what, done, fault, file, number);
 }
 
+uint32_t dconfdb_bring_after(uint32_t what, uint32_t done, uint32_t fault, bool has_file)
+{
+    CHECK(what <= DCONFDB_TO_BRING_BOTH && done < DCONFDB_BRING_OVER, "answer: a task that was done");
+    return bring_given(what, done, fault, has_file);
+}
+
 void dconfdb_taking_answered(DconfdbTaking *taking, const DconfdbStood *stood)
 {
     CHECK(__CPROVER_r_ok(stood, sizeof *stood), "answer: what the system says");

@@ -109,14 +109,14 @@ static bool open_anew(Watching *watch, Looking *it)
 /* Tells what is new: after a look that failed nothing is. False: it failed. */
 static bool tell_newest(Watching *watch, Looking *it)
 {
-    DconfdbSnapshot *now = dconfdb_store_snapshot(watch->store);
-    if (!tell(watch, now, &it->error)) {
-        dconfdb_snapshot_unref(now);
-        return false;
+    DconfdbSnapshot *now = dconfdb_store_snapshot(watch->store), *last = now;
+    bool is_told = tell(watch, now, &it->error);
+    if (dconfdb_handed(is_told, true) != DCONFDB_HANDED_NOT) {
+        last = watch->before;
+        watch->before = now;
     }
-    dconfdb_snapshot_unref(watch->before);
-    watch->before = now;
-    return true;
+    dconfdb_snapshot_unref(last);
+    return is_told;
 }
 
 static void read_files(Watching *watch, uint32_t task, Looking *it)
@@ -149,7 +149,7 @@ static bool look(Watching *watch)
     it.known.keeps_profile = dconfdb_keeps_profile(DCONFDB_WATCHER_COMMAND);
     while ((task = dconfdb_glance_after(task, &it.known)) < DCONFDB_GLANCE_SEEN)
         carry_out(watch, task, &it);
-    bool is_done = task == DCONFDB_GLANCE_SEEN && it.is_told;
+    bool is_done = dconfdb_handed(it.is_told, task == DCONFDB_GLANCE_SEEN) == DCONFDB_HANDED_WHOLE;
     warned_renew(&watch->warned, watch->store, is_done ? NULL : &it.error, true, say, NULL);
     return is_done;
 }

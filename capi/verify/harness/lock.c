@@ -139,6 +139,7 @@ static bool is_state_of(uint32_t task, const Awaited *it)
     case DCONFDB_TAKING_OPEN_FOLDER:
     case DCONFDB_TAKING_MAKE_FOLDER:
     case DCONFDB_TAKING_NOT_HAD: return true;
+    case DCONFDB_TAKING_PAUSE: return !is_listed;
     case DCONFDB_TAKING_LIST: return has_folder && has_file && !is_listed;
     case DCONFDB_TAKING_LOCK:
     case DCONFDB_TAKING_NOT_YET: return is_listed && !is_locked;
@@ -176,7 +177,7 @@ static void some_state(Awaited *it)
         }
     }
     it->taking = (DconfdbTaking){.task = any_u32(), .openings = any_u32(), .forks = any_u32(), .has_made = any_bool(), .is_again = any_bool()};
-    GIVEN(it->taking.task >= DCONFDB_TAKING_OPEN_FOLDER && it->taking.task <= DCONFDB_TAKING_TAKE_NAME);
+    GIVEN(it->taking.task >= DCONFDB_TAKING_OPEN_FOLDER && it->taking.task <= DCONFDB_TAKING_PAUSE);
     GIVEN(it->taking.openings < 2 && it->taking.forks < 2 && is_state_of(it->taking.task, it));
 }
 
@@ -191,8 +192,8 @@ static void is_well_done(uint32_t task, const Awaited *it)
 {
     if (task == DCONFDB_TAKING_OPEN_FOLDER) {
         bool has_failed = it->taking.task == DCONFDB_TAKING_NOT_HAD && it->taking.fault == (asking == getpid() ? EAGAIN : ENOMEM);
-        CHECK(is_heeded || has_failed || (asking == getpid() && it->taking.task == DCONFDB_TAKING_OPEN_FOLDER),
-              "answer: where children of fork() can't be heeded nothing is locked, and where another thread asks for it all is tried again");
+        CHECK(is_heeded || has_failed || (asking == getpid() && it->taking.task == DCONFDB_TAKING_PAUSE),
+              "answer: where children of fork() can't be heeded nothing is locked, and where another thread asks for it all is tried again after a pause");
         CHECK(unheeded == (is_heeded ? 0 : ENOMEM), "answer: whether they are is known");
     }
     if (task == DCONFDB_TAKING_OPEN && was_done(OPENAT)) {
@@ -235,7 +236,7 @@ static unsigned done;
 
 static DconfdbStood does(Awaited *it)
 {
-    CHECK(it->taking.task >= DCONFDB_TAKING_OPEN_FOLDER && it->taking.task <= DCONFDB_TAKING_TAKE_NAME, "step: a task");
+    CHECK(it->taking.task >= DCONFDB_TAKING_OPEN_FOLDER && it->taking.task <= DCONFDB_TAKING_PAUSE, "step: a task");
     CHECK(it->makes || (it->taking.task != DCONFDB_TAKING_MAKE_FOLDER && (it->taking.task < DCONFDB_TAKING_LOOK_ABOVE || it->taking.task > DCONFDB_TAKING_MAKE)),
           "step: nothing is made unasked, and no disk is waited for");
     done++;

@@ -2,6 +2,7 @@
 #define MOST_DATABASES 2
 #define FEW_DATABASES 2
 #include "libdconfdb/notices.c"
+#include "machines/given.h"
 #include "store.h"
 #include "world.h"
 
@@ -51,6 +52,11 @@ DconfdbSnapshot *newest_unless_amid(DconfdbStore *at, bool *has_looked, DconfdbE
     CHECK(at == &store && is_held(&notices.lock), "order: the notices' mutex comes before the store's");
     *has_looked = any_bool();
     return *has_looked && any_bool() ? NULL : dconfdb_store_snapshot(at);
+}
+
+uint32_t dconfdb_handed(bool has_paths, bool has_looked)
+{
+    return handed_given(has_paths, has_looked);
 }
 
 bool refuse_memory(DconfdbError *error)

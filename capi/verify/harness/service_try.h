@@ -151,7 +151,7 @@ uint32_t dconfdb_path_kind(const uint8_t *text, size_t len, uint32_t wanted, boo
 {
     CHECK(__CPROVER_r_ok(text, len) && wanted == DCONFDB_PATH_WANTED && !is_relative, "memory: a path that is there");
     *is_short = any_bool();
-    return any_bool() ? DCONFDB_PATH_DIRECTORY : any_u32();
+    return an_edit_resets ? DCONFDB_PATH_DIRECTORY : DCONFDB_PATH_KEY;
 }
 
 bool dconfdb_is_unmade(const DconfdbTried *edit) { return edit->is_refused || edit->is_left_out || (edit->is_written && !(edit->is_now || edit->is_again || edit->is_there)); }
@@ -233,6 +233,7 @@ void writer_has_written(Writer *writer)
 static void tries_once(void)
 {
     set_up();
+    an_edit_resets = any_bool();
     one_writer.store = (DconfdbStore *)(void *)&one_writer;
     other_writer.store = (DconfdbStore *)(void *)&other_writer;
     may_keep();

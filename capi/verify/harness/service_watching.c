@@ -198,7 +198,6 @@ bool watch_begin_with(Watch *watch, const StorePlace *place, const char *others,
 }
 int watch_descriptor(const Watch *watch) { (void)watch; return descriptor; }
 void watch_hear(Watch *watch) { (void)watch; }
-bool is_heard(void) { return any_bool(); }
 void watch_pass_time(Watch *watch, bool listens) { (void)watch, (void)listens; }
 
 /* ---- epoll, which may have no room for another file */

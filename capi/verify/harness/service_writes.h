@@ -14,6 +14,7 @@ enum { CHANGES = 3 };
 static Service service;
 static Writer one_writer = {.service = &service, .name = "a"}, other_writer = {.service = &service, .name = "b"};
 static DconfdbEdit an_edit = {.path = "/a"};
+static bool an_edit_resets; /* it is of a directory */
 static bool has_come[CHANGES], is_gone[CHANGES];
 
 /* Each is an object by itself, for CBMC's sake. */
@@ -47,6 +48,7 @@ static void reads(Change *change)
     change->is_read = true;
     change->is_normal = any_bool();
     change->edits->len = any_bool() ? 1 : 0;
+    change->resets = an_edit_resets ? change->edits->len : 0;
     change->unfit->len = any_bool() ? 1 : 0;
 }
 

@@ -95,6 +95,12 @@ char *store_file_names(const DconfdbStore *store, int *profiles, size_t *size)
     return malloc(2);
 }
 
+bool dconfdb_is_list_refused(uint32_t code)
+{
+    (void)code;
+    return any_bool();
+}
+
 uint32_t files_look(const DconfdbStore *store, int turn, DconfdbSnapshot **newer, DconfdbError *error)
 {
     (void)error;

@@ -112,9 +112,9 @@ static void compare_taking(void)
                                 .is_again = (i / 648 & 2) != 0};
         for (uint32_t fault = 0; fault < 2 * FAULTS; fault++)
             compare_taking_of(taking, &(DconfdbStood){.fault = fault / 2, .mode = 0100600, .links = 1, .is_named = true, .may_make = (fault & 1) != 0});
-        for (uint32_t k = 0; k < 128; k++)
+        for (uint32_t k = 0; k < 256; k++)
             compare_taking_of(taking, &(DconfdbStood){.mode = modes[k % 4], .user = k / 4 % 2, .links = 1 + k / 8 % 2, .is_named = (k & 16) != 0, .is_root = (k & 32) != 0,
-                                                      .may_make = (k & 64) != 0});
+                                                      .may_make = (k & 64) != 0, .is_moved = (k & 128) != 0});
     }
 }
 
@@ -133,9 +133,9 @@ static void compare_standings(void)
     static const uint64_t sizes[] = {0, 1, 65536, 65537};
     static const uint64_t tries[] = {0, 1, 39, 40, 98, 99, 997, 998};
     for (uint32_t fault = 0; fault < FAULTS; fault++) {
-        for (uint32_t i = 0; i < 64; i++)
+        for (uint32_t i = 0; i < 128; i++)
             compare_standing(&(DconfdbStood){.fault = fault, .mode = 0100600, .links = 1, .tried = tries[i % 8], .is_named = (i & 8) != 0, .is_root = (i & 16) != 0,
-                                             .may_make = (i & 32) != 0});
+                                             .may_make = (i & 32) != 0, .is_moved = (i & 64) != 0});
     }
     for (uint32_t mode = 0; mode < 65536; mode++)
         compare_standing(&(DconfdbStood){.mode = mode, .size = 1, .most = 1, .links = mode % 3, .user = mode / 8192, .is_root = true});
@@ -155,6 +155,22 @@ static void compare_settling(void)
     }
 }
 
+static void compare_brought(void)
+{
+    for (uint32_t i = 0; i < 3 * 2 * 2 * (DCONFDB_BRING_OVER + 1); i++) {
+        if (dconfdb_bring_after(i % 3, i / 12, i / 3 % 2 * 5, i / 6 % 2) != bring_given(i % 3, i / 12, i / 3 % 2 * 5, i / 6 % 2))
+            fail("bring_after", "another task than is given");
+    }
+    for (uint32_t i = 0; i < 4; i++) {
+        if (dconfdb_handed(i & 1, i & 2) != handed_given(i & 1, i & 2))
+            fail("handed", "another fate than is given");
+    }
+    for (uint32_t code = 0; code < 2 * FAULTS; code++) {
+        if (dconfdb_is_list_refused(code) != is_list_refused_given(code))
+            fail("is_list_refused", "another answer than is given");
+    }
+}
+
 static void compare_flags(void)
 {
     for (uint32_t i = 0; i < 4 * (DCONFDB_FLAG_OVER + 1); i++) {
@@ -165,7 +181,7 @@ static void compare_flags(void)
 
 static void compare_served_of(DconfdbServed known)
 {
-    for (uint32_t done = DCONFDB_SERVED_CAME; done <= DCONFDB_SERVED_CALLED; done++) {
+    for (uint32_t done = DCONFDB_SERVED_CAME; done <= DCONFDB_SERVED_TELLS; done++) {
         if (dconfdb_served_after(done, &known) != served_given(done, &known))
             fail("served_after", "another fate than is given");
     }
@@ -174,7 +190,7 @@ static void compare_served_of(DconfdbServed known)
 /* By each bit that is known; and at each bound, and beyond it. */
 static void compare_served(void)
 {
-    static const uint64_t sizes[] = {0, 32768, 32769, 16777216, 16777217, 67108864, 67108865};
+    static const uint64_t sizes[] = {0, 4096, 4097, 32768, 32769, 16777216, 16777217, 67108864, 67108865};
     for (uint32_t bits = 0; bits < 4U * 4096; bits++) {
         DconfdbServed known = {.said = bits / 4096, .is_used = bits & 1, .is_normal = bits & 2, .has_edits = bits & 4, .is_written = bits & 8,
                                .is_closed = bits & 16, .ends = bits & 32, .is_amid = bits & 64, .is_same = bits & 128, .is_open = bits & 256,
@@ -182,8 +198,10 @@ static void compare_served(void)
                                .sets = bits & 2, .is_again = bits & 4, .is_covered = bits & 8, .is_users = bits & 16, .is_unmade = bits & 32, .is_service_db = bits & 64,
                                .is_behind = bits & 2, .has_profile = bits & 8, .is_first = bits & 4, .is_absolute = bits & 1, .is_last = bits & 2, .wants_none = bits & 1,
                                .is_noted = bits & 1};
-        for (uint32_t i = 0; i < 7 * 8; i++) {
+        for (uint32_t i = 0; i < 9 * 8; i++) {
             known.size = sizes[i / 8];
+            known.edits = i & 1 ? 16 : i & 2 ? 17 : 0;
+            known.resets = i & 4 ? 1 : 0;
             known.waiting = i & 1 ? 9999 : i & 2 ? 10000 : 0;
             known.waiting_size = i & 2 ? 268435455 : i & 4 ? 268435456 : 0;
             known.names = i & 4 ? 63 : 64;
@@ -232,6 +250,7 @@ void compare_answers(void)
     compare_taking();
     compare_standings();
     compare_settling();
+    compare_brought();
     compare_flags();
     compare_served();
     compare_rounds();

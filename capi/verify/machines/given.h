@@ -110,7 +110,7 @@ static inline uint32_t standing_given(uint32_t purpose, const DconfdbStood *stoo
     if (purpose >= DCONFDB_TO_ENTER)
         return stands_on_way(purpose, stood, told);
     if (purpose == DCONFDB_TO_HOLD)
-        return stood->fault != 0 || !stood->is_named ? DCONFDB_IS_NOTHING : stood->links > 1 ? DCONFDB_IS_OTHER : DCONFDB_IS_GOOD;
+        return stood->fault != 0 || stood->is_moved || !stood->is_named ? DCONFDB_IS_NOTHING : stood->links > 1 ? DCONFDB_IS_OTHER : DCONFDB_IS_GOOD;
     if (purpose == DCONFDB_TO_FOLLOW)
         return stands_followed(stood, told);
     if (purpose >= DCONFDB_TO_OPEN && purpose <= DCONFDB_TO_LOCK)
@@ -257,7 +257,7 @@ static inline void taking_forked(DconfdbTaking *taking)
 {
     if (taking->forks + 1 < MOST_FORKS) {
         taking->forks++;
-        taking->task = DCONFDB_TAKING_OPEN_FOLDER;
+        taking->task = DCONFDB_TAKING_PAUSE;
     } else {
         taking_over(taking, DCONFDB_TAKING_NOT_HAD, DCONFDB_TRIED_LOCK, 11);
     }
@@ -347,6 +347,7 @@ static inline void taking_given(DconfdbTaking *taking, const DconfdbStood *stood
         else
             taking_moved(taking);
         break;
+    case DCONFDB_TAKING_PAUSE: taking->task = DCONFDB_TAKING_OPEN_FOLDER; break;
     case DCONFDB_TAKING_NOT_YET: taking_begun(taking, DCONFDB_TAKING_LOCK, false); break;
     default: taking_begun(taking, DCONFDB_TAKING_OPEN_FOLDER, false); break;
     }
@@ -385,6 +386,32 @@ static inline uint32_t settling_given(uint32_t task, bool yes, const DconfdbSett
     default:
         return yes ? DCONFDB_SETTLING_KNOWN : DCONFDB_SETTLING_DONE;
     }
+}
+
+/* What is brought to the disk next. */
+static inline uint32_t bring_given(uint32_t what, uint32_t done, uint32_t fault, bool has_file)
+{
+    if (fault != 0)
+        return DCONFDB_BRING_OVER;
+    switch (done) {
+    case DCONFDB_BRING_BEGINS: return what == DCONFDB_TO_BRING_MADE ? DCONFDB_BRING_NAME : has_file ? DCONFDB_BRING_FILE : DCONFDB_BRING_FOLDER;
+    case DCONFDB_BRING_NAME: return what == DCONFDB_TO_BRING_MADE ? DCONFDB_BRING_MAKE : DCONFDB_BRING_OVER;
+    case DCONFDB_BRING_MAKE:
+    case DCONFDB_BRING_FILE: return DCONFDB_BRING_FOLDER;
+    case DCONFDB_BRING_FOLDER: return what == DCONFDB_TO_BRING_BOTH ? DCONFDB_BRING_NAME : DCONFDB_BRING_OVER;
+    default: return DCONFDB_BRING_OVER;
+    }
+}
+
+/* What becomes of the paths that are seen otherwise, and which fault keeps a store's files from being listed: that no memory is left. */
+static inline uint32_t handed_given(bool has_paths, bool has_looked)
+{
+    return !has_paths ? DCONFDB_HANDED_NOT : has_looked ? DCONFDB_HANDED_WHOLE : DCONFDB_HANDED_PARTLY;
+}
+
+static inline bool is_list_refused_given(uint32_t code)
+{
+    return code == DCONFDB_MEMORY;
 }
 
 /* What is done about the flag of dconf's readers. */

@@ -63,7 +63,8 @@ static inline uint32_t served_given(uint32_t done, const DconfdbServed *known)
     case DCONFDB_SERVED_BESIDE: return DCONFDB_SERVED_ALONE;
     case DCONFDB_SERVED_PASSES: return !known->is_used || known->is_behind || known->ends ? DCONFDB_SERVED_LATER : served_came(known);
     case DCONFDB_SERVED_PROFILE: return known->has_profile ? DCONFDB_SERVED_PASSED : DCONFDB_SERVED_GOES_ON;
-    case DCONFDB_SERVED_HEARD: return DCONFDB_SERVED_GOES_ON;
+    case DCONFDB_SERVED_READS: return known->size > 4096 ? DCONFDB_SERVED_LATER : DCONFDB_SERVED_GOES_ON;
+    case DCONFDB_SERVED_TELLS: return known->resets > 0 || known->edits > 16 ? DCONFDB_SERVED_LATER : DCONFDB_SERVED_GOES_ON;
     case DCONFDB_SERVED_FOLDER: return known->is_absolute || known->is_last ? DCONFDB_SERVED_GOES_ON : DCONFDB_SERVED_PASSED;
     case DCONFDB_SERVED_USED: return known->is_open ? DCONFDB_SERVED_GOES_ON : DCONFDB_SERVED_FAILED;
     case DCONFDB_SERVED_ANSWERED: return known->wants_none ? DCONFDB_SERVED_PASSED : DCONFDB_SERVED_GOES_ON;

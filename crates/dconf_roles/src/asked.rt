@@ -1,6 +1,6 @@
 //! The files that are asked for, one beside the other.
 ghost use Rattle.std.specs.Prelude.{◌≡◌};
-ghost use Rattle.dconf_roles.specs.Asked.{beside, beside_number};
+ghost use Rattle.dconf_roles.specs.Asked.{begins_sources, beside, beside_number, reads_on};
 
 /// What a file is beside the one before it, in the order of their paths.
 #[derive(Clone, Copy)]
@@ -35,4 +35,18 @@ pub fn beside_number(is_same: bool, is_of_folder: bool) -> u32
         FileBeside::Next => 1,
         FileBeside::First => 2,
     }
+}
+
+/// Whether, below a folder of a site, the keys of another database are set than before: in NAME.d (2), but not in its `locks`, nor elsewhere.
+pub fn begins_sources(within: u32) -> bool
+    ensures { result ≡ begins_sources within }
+{
+    within == 2
+}
+
+/// Whether a file that failed to be read as a text, by that errno, is read as a database: it has more bytes than a text may have.
+pub fn reads_on(errno: u32) -> bool
+    ensures { result ≡ reads_on errno }
+{
+    errno == 75
 }

@@ -22,7 +22,7 @@ mod roles;
 mod sites;
 mod slips;
 
-pub use asked::{FileBeside, beside_number};
+pub use asked::{FileBeside, begins_sources, beside_number, reads_on};
 pub use findings::{Finding, FindingKnown, finding_for, finding_number, finding_of};
 pub use folders::{is_read, role_of, sources_in, within_number};
 pub use machines::machines_folder;

@@ -4,8 +4,9 @@ use Rattle.std.proofs.lemmas.Bool.{eqb-false, ltb-true, ltb-false, ne_eqb}
 use Rattle.std.specs.Prelude.{◌&&◌, if◌then◌else◌, nat_lt, ◌==◌}
 use Rattle.dconf_rounds.specs.declared.telling.Telling.{Telling}
 use Rattle.dconf_rounds.specs.declared.telling.Telling.TheVariants.{Nothing, Take, TellAndTake, Tell, All, CatchUp, Rights, Values, Warn, Print, Over}
+use Rattle.dconf_rounds.specs.declared.telling.PathsHanded.TheVariants as handing
 use Rattle.dconf_rounds.specs.declared.telling.TellKnown.{TellKnown}
-use Rattle.dconf_rounds.specs.Telling.{is_all, is_sent, is_silent, is_taken, tell_next, IsGoodTelling, IsGoodOrder, WhatIsHeardIsTold}
+use Rattle.dconf_rounds.specs.Telling.{is_all, is_sent, is_silent, is_taken, tell_next, IsGoodTelling, IsGoodOrder, WhatIsHeardIsTold, WhatIsNotHandedOutIsKept}
 
 -- ---- the lists
 
@@ -178,3 +179,22 @@ good_order k =
 
 pub what_is_heard_is_told : WhatIsHeardIsTold
 what_is_heard_is_told k = (good_telling k, good_order k)
+
+-- ---- what counts as told
+
+pub what_is_not_handed_out_is_kept : WhatIsNotHandedOutIsKept
+what_is_not_handed_out_is_kept false looked = record {
+  kept = λ e. refl;
+  told = λ e. absurd (let bad : false ≡ true = e in cc);
+  whole = λ e. absurd (let bad : handing.Not ≡ handing.Whole = e in cc);
+}
+what_is_not_handed_out_is_kept true true = record {
+  kept = λ e. absurd (let bad : true ≡ false = e in cc);
+  told = λ e n. let bad : handing.Whole ≡ handing.Not = n in cc;
+  whole = λ e. (refl, refl);
+}
+what_is_not_handed_out_is_kept true false = record {
+  kept = λ e. absurd (let bad : true ≡ false = e in cc);
+  told = λ e n. let bad : handing.Partly ≡ handing.Not = n in cc;
+  whole = λ e. absurd (let bad : handing.Partly ≡ handing.Whole = e in cc);
+}

@@ -1,7 +1,9 @@
 -- Who is told that something is seen otherwise than before, list by list, and path by path.
-use Rattle.std.specs.Prelude.{ℕ, ◌≡◌, ◌<◌, Bool, true, false, not, ◌&&◌, ◌||◌, if◌then◌else◌, ◌==◌, nat_lt}
+use Rattle.std.specs.Prelude.{ℕ, ◌≡◌, ◌≢◌, ◌<◌, Bool, true, false, not, ◌&&◌, ◌||◌, if◌then◌else◌, ◌==◌, nat_lt}
 use Rattle.dconf_seen.specs.declared.seen.Word.{Word}
 use Rattle.dconf_seen.specs.Reading.{found_by, found_number}
+use Rattle.dconf_rounds.specs.declared.telling.PathsHanded.{PathsHanded}
+use Rattle.dconf_rounds.specs.declared.telling.PathsHanded.TheVariants as handing
 use Rattle.dconf_rounds.specs.declared.telling.TellKnown.{TellKnown}
 use Rattle.dconf_rounds.specs.declared.telling.Telling.{Telling}
 use Rattle.dconf_rounds.specs.declared.telling.Telling.TheVariants.{Nothing, Take, TellAndTake, Tell, All, CatchUp, Rights, Values, Warn, Print, Over}
@@ -95,3 +97,26 @@ pub record IsGoodOrder (k : TellKnown) : Type 0 where
 
 abbrev pub WhatIsHeardIsTold : Type 0
 WhatIsHeardIsTold = (k : TellKnown) → IsGoodTelling k × IsGoodOrder k
+
+-- ---- what counts as told
+
+abbrev pub handed : Bool → Bool → PathsHanded
+handed has_paths has_looked = if not has_paths then handing.Not else if has_looked then handing.Whole else handing.Partly
+
+abbrev pub handed_number : PathsHanded → ℕ
+handed_number handing.Not = 0
+handed_number handing.Partly = 1
+handed_number handing.Whole = 2
+
+-- law: nothing counts as told that wasn't handed out, and what was handed out isn't told again; and the files count as looked at only if they were
+pub record IsHandedOut (has_paths has_looked : Bool) : Type 0 where
+  pub kept : has_paths ≡ false → handed has_paths has_looked ≡ handing.Not
+  pub told : has_paths ≡ true → handed has_paths has_looked ≢ handing.Not
+  pub whole : handed has_paths has_looked ≡ handing.Whole → (has_paths ≡ true) × (has_looked ≡ true)
+
+abbrev pub WhatIsNotHandedOutIsKept : Type 0
+WhatIsNotHandedOutIsKept = (has_paths has_looked : Bool) → IsHandedOut has_paths has_looked
+
+-- who only gets and sets runs no main loop: a main context of one who listens says whether it turns, and that is asked of each once, until one does
+abbrev pub asks_context : Bool → Bool → Bool
+asks_context has_turned is_asked = not (has_turned || is_asked)

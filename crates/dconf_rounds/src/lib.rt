@@ -7,7 +7,7 @@
 ghost use Rattle.dconf_rounds.specs.Rounds.{NothingDueIsPassedOver};
 ghost use Rattle.dconf_rounds.specs.Glances.{NothingNewIsMissed};
 ghost use Rattle.dconf_rounds.specs.Syncs.{YesMeansAllIsThere};
-ghost use Rattle.dconf_rounds.specs.Telling.{WhatIsHeardIsTold};
+ghost use Rattle.dconf_rounds.specs.Telling.{WhatIsHeardIsTold, WhatIsNotHandedOutIsKept};
 ghost use Rattle.dconf_rounds.specs.Writers.{WhatWaitsIsWrittenOrTold};
 
 mod glances;
@@ -21,7 +21,10 @@ pub use rounds::{
     Known, Task, WritingKnown, has_work, is_at_work, is_open, task_after, task_number,
 };
 pub use syncs::{SyncKnown, SyncTask, sync_after, sync_number};
-pub use telling::{TellKnown, Telling, passes_over, tell_next, telling_number};
+pub use telling::{
+    PathsHanded, TellKnown, Telling, asks_context, handed, handed_number, passes_over, tell_next,
+    telling_number,
+};
 pub use writers::{
     EndTask, LineTask, NeedTask, WriterKnown, end_after, line_after, need_after, writer_number,
 };
@@ -59,4 +62,9 @@ pub fn what_is_heard_is_told()
 /// thread, which goes on, and for what waits in a child of fork(), which is its parent's: there a sync does nothing.
 pub fn what_waits_is_written_or_told()
     ensures { WhatWaitsIsWrittenOrTold }
+{}
+
+/// What wasn't handed out doesn't count as told, and what was isn't told again; and the files count as looked at only if they were.
+pub fn what_is_not_handed_out_is_kept()
+    ensures { WhatIsNotHandedOutIsKept }
 {}

@@ -1,7 +1,7 @@
 //! Who is told that something is seen otherwise than before, list by list, and path by path.
 ghost use Rattle.std.specs.Prelude.{◌≡◌};
 ghost use Rattle.dconf_seen.specs.Reading.{known_word};
-ghost use Rattle.dconf_rounds.specs.Telling.{is_news, is_silent, list_after, passes_over, tell_next, telling_number};
+ghost use Rattle.dconf_rounds.specs.Telling.{asks_context, handed, handed_number, is_news, is_silent, list_after, passes_over, tell_next, telling_number};
 
 use dconf_seen::{Known, found_by, found_number};
 
@@ -165,4 +165,47 @@ pub fn passes_over(known: &Known) -> bool
         ..*known
     };
     found_number(found_by(false, false, *known)) != found_number(found_by(false, false, of_any))
+}
+
+/// What becomes of the paths that are seen otherwise than what was told last.
+#[derive(Clone, Copy)]
+pub enum PathsHanded {
+    /// They couldn't be handed out: what was told last still is, and the files are looked at again.
+    Not,
+    /// They were: what is the newest was told. But nobody looked at the files, which are looked at again.
+    Partly,
+    /// The same, and the files were looked at.
+    Whole,
+}
+
+/// What becomes of them.
+pub fn handed(has_paths: bool, has_looked: bool) -> PathsHanded
+    ensures { result ≡ handed has_paths has_looked }
+{
+    if !has_paths {
+        return PathsHanded::Not;
+    }
+    if has_looked {
+        PathsHanded::Whole
+    } else {
+        PathsHanded::Partly
+    }
+}
+
+/// The same as a number: 0 not, 1 partly, 2 whole.
+pub fn handed_number(has_paths: bool, has_looked: bool) -> u32
+    ensures { result ≡ handed_number (handed has_paths has_looked) }
+{
+    match handed(has_paths, has_looked) {
+        PathsHanded::Not => 0,
+        PathsHanded::Partly => 1,
+        PathsHanded::Whole => 2,
+    }
+}
+
+/// Whether the main context of somebody who listens is asked to say that it turns: none is known to turn yet, and this one isn't asked already.
+pub fn asks_context(has_turned: bool, is_asked: bool) -> bool
+    ensures { result ≡ asks_context has_turned is_asked }
+{
+    !(has_turned || is_asked)
 }

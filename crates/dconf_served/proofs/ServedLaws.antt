@@ -203,6 +203,17 @@ untold : (written unmade : Bool) → written ≡ false → told_by written unmad
 untold false unmade w = refl
 untold true unmade w = absurd (let bad : true ≡ false = w in cc)
 
+-- ---- who waits for it, by whether it is large; and by whether it resets directories, and has many edits
+
+at_once : (large : Bool) → (if large then Later else GoesOn) ≡ GoesOn → large ≡ false
+at_once true e = absurd (let bad : Later ≡ GoesOn = e in cc)
+at_once false e = refl
+
+in_turn : (resets many : Bool) → (if resets || many then Later else GoesOn) ≡ GoesOn → (resets ≡ false) × (many ≡ false)
+in_turn true many e = absurd (let bad : Later ≡ GoesOn = e in cc)
+in_turn false true e = absurd (let bad : Later ≡ GoesOn = e in cc)
+in_turn false false e = (refl, refl)
+
 -- ---- the laws
 
 pub nothing_is_answered_unwritten : NothingIsAnsweredUnwritten
@@ -221,6 +232,8 @@ what_waits_is_bounded k = record {
   names = λ e u. unused k.is_used (nat_le 64 k.names) (goes_on k.is_service_db (nat_lt 67108864 k.size) (not k.is_used && nat_le 64 k.names) (has_room k) e).1 u;
   told = named (nat_lt 16777216 k.size);
   kind = is_ours k.is_service_db (nat_lt 67108864 k.size) (not k.is_used && nat_le 64 k.names) (has_room k);
+  reads = at_once (nat_lt 4096 k.size);
+  turn = in_turn (nat_lt 0 k.resets) (nat_lt 16 k.edits);
 }
 
 at_the_end : (amid : Bool) (w l s o e c : Bool) → ((if amid then GoesOn else Late) ≡ Late) ⊎ ((amid ≡ true) × (s ≡ true → by w l s o e c ≢ GoesOn))
@@ -311,6 +324,5 @@ pub what_is_asked_is_said : WhatIsAskedIsSaid
 what_is_asked_is_said k = record {
   answer = says_so k.wants_none;
   wanted = wants_none k.wants_none;
-  heard = refl;
   noted = goes_if k.is_noted;
 }

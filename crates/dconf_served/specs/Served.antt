@@ -29,6 +29,10 @@ is_odd k = not k.is_normal && nat_lt 32768 k.size
 abbrev pub read : ServedKnown → Served
 read k = if is_odd k then Odd else GoesOn
 
+-- in the thread in which it came, where what comes behind it waits meanwhile: if it has at most 4 KiB
+abbrev pub read_where_it_came : ServedKnown → Served
+read_where_it_came k = if nat_lt 4096 k.size then Later else GoesOn
+
 -- ---- what it says: each path that was sent, in the order of their bytes, and of those of one path as they were sent
 
 abbrev pub is_path : ServedKnown → Bool
@@ -74,9 +78,9 @@ told k = if nat_lt 16777216 k.size then TooLarge else GoesOn
 abbrev pub shown : ServedKnown → Served
 shown k = if k.is_users && k.is_first then GoesOn else PassedOver
 
--- who listens to a bus isn't known: it counts as if somebody did
-abbrev pub heard : ServedKnown → Served
-heard k = GoesOn
+-- in the turn to write, for which others wait meanwhile: at most 16 edits, and no reset of a directory, of which any number of paths may be told
+abbrev pub told_in_turn : ServedKnown → Served
+told_in_turn k = if nat_lt 0 k.resets || nat_lt 16 k.edits then Later else GoesOn
 
 -- who calls is answered, unless no answer is wanted
 abbrev pub answered : ServedKnown → Served
@@ -126,8 +130,8 @@ served_after done k = if done == 0 then came k else if done == 1 then read k els
     if done == 4 then ended k else if done == 5 then joined k else if done == 6 then placed k else if done == 7 then left k else
     if done == 8 then named k else if done == 9 then entered k else if done == 10 then ordered k else if done == 11 then shown k else
     if done == 12 then made k else if done == 13 then beside k else if done == 14 then passed k else
-    if done == 15 then profiled k else if done == 16 then heard k else if done == 17 then based k else if done == 18 then used k else
-    if done == 19 then answered k else if done == 20 then noted k else tried k
+    if done == 15 then profiled k else if done == 16 then read_where_it_came k else if done == 17 then based k else if done == 18 then used k else
+    if done == 19 then answered k else if done == 20 then noted k else if done == 21 then told_in_turn k else tried k
 
 abbrev pub served_number : Served → ℕ
 served_number GoesOn = 0
@@ -170,6 +174,9 @@ pub record IsBounded (k : ServedKnown) : Type 0 where
   pub names : came k ≡ GoesOn → k.is_used ≡ false → nat_le 64 k.names ≡ false
   pub told : served_after 3 k ≡ GoesOn → nat_lt 16777216 k.size ≡ false
   pub kind : came k ≡ GoesOn → k.is_service_db ≡ false
+  -- nobody waits for long: not what comes behind one that is read where it came, nor other programs for what is told in the turn
+  pub reads : served_after 16 k ≡ GoesOn → nat_lt 4096 k.size ≡ false
+  pub turn : served_after 21 k ≡ GoesOn → (nat_lt 0 k.resets ≡ false) × (nat_lt 16 k.edits ≡ false)
 
 abbrev pub WhatWaitsIsBounded : Type 0
 WhatWaitsIsBounded = (k : ServedKnown) → IsBounded k
@@ -248,8 +255,6 @@ pub record IsAsked (k : ServedKnown) : Type 0 where
   -- an answer is kept back only from who wants none
   pub answer : served_after 19 k ≡ PassedOver → k.wants_none ≡ true
   pub wanted : k.wants_none ≡ true → served_after 19 k ≡ PassedOver
-  -- as nobody knows who listens, nothing is kept back for that
-  pub heard : served_after 16 k ≡ GoesOn
   -- calls are noted only if the environment asks for it
   pub noted : served_after 20 k ≡ GoesOn → k.is_noted ≡ true
 

@@ -20,7 +20,7 @@ pub fn nothing_is_answered_unwritten()
 {}
 
 /// However much is asked for, so many changes wait at most, each of so many bytes, and of so many databases, none of which is one that no profile
-/// can name; and a notice names so many bytes of paths.
+/// can name; and a notice names so many bytes of paths. Only a small change is read where others wait for that, and only a few edits are told in the turn.
 pub fn what_waits_is_bounded()
     ensures { WhatWaitsIsBounded }
 {}
@@ -53,7 +53,7 @@ pub fn what_came_first_is_first()
     ensures { WhatCameFirstIsFirst }
 {}
 
-/// Who calls is answered unless no answer is wanted, it is told as if somebody listened, and calls are noted only where the environment asks for it.
+/// Who calls is answered unless no answer is wanted, and calls are noted only where the environment asks for it.
 pub fn what_is_asked_is_said()
     ensures { WhatIsAskedIsSaid }
 {}

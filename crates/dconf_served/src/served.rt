@@ -1,6 +1,6 @@
 //! What becomes of a call that changes settings, and of the service that takes it.
 ghost use Rattle.std.specs.Prelude.{◌≡◌};
-ghost use Rattle.dconf_served.specs.Served.{answered, based, came, ended, entered, has_room, is_odd, is_path, is_settled, joined, lasts, left, made, named, noted, ordered, passed, placed, profiled, read, served_after, served_number, shown, told, tried, used};
+ghost use Rattle.dconf_served.specs.Served.{answered, based, came, ended, entered, has_room, is_odd, is_path, is_settled, joined, lasts, left, made, named, noted, ordered, passed, placed, profiled, read, read_where_it_came, served_after, served_number, shown, told, told_in_turn, tried, used};
 
 /// A change has so many bytes at most.
 const LARGEST: u64 = 67_108_864;
@@ -18,6 +18,12 @@ const MOST_ODD: u64 = 32_768;
 
 /// A notice names paths of so many bytes at most.
 const MOST_TOLD: u64 = 16_777_216;
+
+/// A change of so many bytes at most is read in the thread in which it came: what comes behind it waits meanwhile.
+const FEW_BYTES: u64 = 4096;
+
+/// So many edits at most are told in the turn to write: others wait for theirs meanwhile.
+const FEW_EDITS: u64 = 16;
 
 /// What becomes of a change.
 #[derive(Clone, Copy)]
@@ -40,7 +46,7 @@ pub enum Served {
     TooManyNames,
     /// The service ends: nothing of it is written any more, and that is its answer; or the thread that may still be at it is left.
     Late,
-    /// It is for a later write: it is of another database; or the main thread is to take it.
+    /// It is for a later write: it is of another database; or another thread is to take it, or to read it; or it is told after the turn.
     Later,
     /// Its database is the profile's, with its locks.
     Profiles,
@@ -73,6 +79,9 @@ pub struct ServedKnown {
     pub names: u64,
     /// How many of the changes that wait are answered already, by a try that isn't over.
     pub answered: u64,
+    /// How many edits those that are written together have, and how many of these reset a directory: what is told of that has no bound.
+    pub edits: u64,
+    pub resets: u64,
     /// What is said of the fault by which it can't be written: 1 it is said, 2 it was; else it doesn't last yet.
     pub said: u32,
     /// What a text is as the path of what is asked for there: 0 a key's, 1 a directory's; else it is none.
@@ -132,7 +141,7 @@ pub struct ServedKnown {
 /// path is read, 10 it comes behind those before it in the order of their bytes, 12 an edit was tried, and is told of, 13 it stands beside others
 /// of its change; and 19 it is answered. Of its database 15: the file was read that is to be the profile of that alone, 17 a folder may have that file, 18
 /// it was to be opened, unless it is in use. And of the service: 7 each caller is answered who can be at its end, 8 it hasn't its name, 11 it tells of a
-/// database, 16 it is asked whether somebody listens, 20 it was called.
+/// database, 20 it was called. In which thread, and when: 16 one that waits is to be read, 21 those that are written are to be told.
 pub fn served_after(done: u32, known: &ServedKnown) -> Served
     ensures { result ≡ served_after done known.now }
 {
@@ -152,17 +161,18 @@ pub fn served_after(done: u32, known: &ServedKnown) -> Served
         13 => Served::Alone, // a locked key keeps no other one from being set
         14 => passed(known),
         15 => profiled(known),
-        16 => Served::GoesOn, // who listens to a bus isn't known
+        16 => read_where_it_came(known),
         17 => based(known),
         18 => used(known),
         19 => answered(known),
         20 => noted(known),
+        21 => told_in_turn(known),
         _ => tried(known),
     }
 }
 
 /// The same as a number: 0 it goes on, 1 it is acknowledged, 2 failed, 3 closed, 4 odd, 5 too large, 6 too much waits, 7 too many databases, 8
-/// the service ends, 9 it is for a later write, or for the main thread, 10 the profile's store has it, 11 a store of its own has it, 12 the service ends in peace, 13
+/// the service ends, 9 it is for later, or for another thread, 10 the profile's store has it, 11 a store of its own has it, 12 the service ends in peace, 13
 /// another one has the name, 14 it is passed over, 15 left out, 16 it takes the place of the one before it, 17 no such database is served.
 pub fn served_number(done: u32, known: &ServedKnown) -> u32
     ensures { result ≡ served_number (served_after done known.now) }
@@ -218,6 +228,16 @@ fn read(known: &ServedKnown) -> Served
 {
     if is_odd(known) {
         return Served::Odd;
+    }
+    Served::GoesOn
+}
+
+/// A small one is read before the thread that writes has its turn; any other one by that.
+fn read_where_it_came(known: &ServedKnown) -> Served
+    ensures { result ≡ read_where_it_came known.now }
+{
+    if known.size > FEW_BYTES {
+        return Served::Later;
     }
     Served::GoesOn
 }
@@ -327,6 +347,16 @@ fn told(known: &ServedKnown) -> Served
 {
     if known.size > MOST_TOLD {
         return Served::TooLarge;
+    }
+    Served::GoesOn
+}
+
+/// What is told in a moment is told before the turn is over; all else after it.
+fn told_in_turn(known: &ServedKnown) -> Served
+    ensures { result ≡ told_in_turn known.now }
+{
+    if known.resets > 0 || known.edits > FEW_EDITS {
+        return Served::Later;
     }
     Served::GoesOn
 }

@@ -1,3 +1,4 @@
 pub mod VerdictLaws
 pub mod AnswerLaws
+pub mod BroughtLaws
 pub mod StandingLaws

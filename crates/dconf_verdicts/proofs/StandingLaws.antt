@@ -44,14 +44,15 @@ lock_good false regular true missing errno e = cc
 lock_good false regular false true errno e = cc
 lock_good false regular false false errno e = cc
 
-abbrev held : Bool → Bool → Bool → Standing
-held done named more = if not done || not named then Nothing else if more then Other else Good
+abbrev held : Bool → Bool → Bool → Bool → Standing
+held done moved named more = if not done || (moved || not named) then Nothing else if more then Other else Good
 
-held_good : (done named more : Bool) → held done named more ≡ Good → (named ≡ true) × (more ≡ false)
-held_good false named more e = cc
-held_good true false more e = cc
-held_good true true true e = cc
-held_good true true false e = (refl, refl)
+held_good : (done moved named more : Bool) → held done moved named more ≡ Good → (named ≡ true) × (moved ≡ false) × (more ≡ false)
+held_good false moved named more e = cc
+held_good true true named more e = cc
+held_good true false false more e = cc
+held_good true false true true e = cc
+held_good true false true false e = (refl, refl, refl)
 
 abbrev follow : Bool → Bool → Bool → Bool → Standing
 follow root done alone few = if root && not (done && alone) then Fault 13 else if few then Good else Fault 40
@@ -113,7 +114,7 @@ each_is_safe s = record {
   regular = take_good (s.fault == 0) s.fault (is_regular s.mode) (fault_of_mode s.mode) (nat_lt s.most s.size) (s.size == 0) (nat_lt 65536 s.size) s.may_map s.may_stop;
   mapped = take_map (s.fault == 0) s.fault (is_regular s.mode) (fault_of_mode s.mode) (nat_lt s.most s.size) (s.size == 0) (nat_lt 65536 s.size) s.may_map s.may_stop;
   lock = lock_good (s.fault == 0) (is_regular s.mode) (is_no_file s.fault) (s.fault == 2) s.fault;
-  held = held_good (s.fault == 0) s.is_named (nat_lt 1 s.links);
+  held = held_good (s.fault == 0) s.is_moved s.is_named (nat_lt 1 s.links);
   followed = follow_good s.is_root (s.fault == 0) (is_roots_alone s) (nat_lt s.tried 40);
   ends = follow_few s.is_root (s.fault == 0) (is_roots_alone s) (nat_lt s.tried 40);
   opened = open_good s.is_root (s.fault == 0) s.is_named s.fault;

@@ -57,3 +57,8 @@ code_of Memory = 1
 code_of TooLarge = 18
 code_of System = 64
 code_of Busy = 65
+
+-- Of the files that a store has, all that are known are listed, though the profile can't be read, or names what can't be: who opens it is told. Where no memory is left
+-- none are.
+abbrev pub is_list_refused : ℕ → Bool
+is_list_refused code = code == code_of Memory

@@ -1,3 +1,4 @@
+pub mod Brought
 pub mod Entries
 pub mod Errnos
 pub mod Faults

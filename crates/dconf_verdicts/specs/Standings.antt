@@ -52,7 +52,7 @@ lock_opened s =
 
 -- What is locked has both names still, the folder's and the lock's: else it is looked for anew. A file with another name loses the lock's.
 abbrev pub lock_held : Seen → Standing
-lock_held s = if not (s.fault == 0) || not s.is_named then Nothing else if nat_lt 1 s.links then Other else Good
+lock_held s = if not (s.fault == 0) || (s.is_moved || not s.is_named) then Nothing else if nat_lt 1 s.links then Other else Good
 
 -- ---- folders on the way
 
@@ -188,8 +188,8 @@ pub record IsSafe (s : Seen) : Type 0 where
   pub regular : (standing_of Take s ≡ Good) → (is_regular s.mode ≡ true) × (nat_lt s.most s.size ≡ false)
   pub mapped : (standing_of Take s ≡ Map) → (is_regular s.mode ≡ true) × (nat_lt s.most s.size ≡ false)
   pub lock : (standing_of OpenLock s ≡ Good) → is_regular s.mode ≡ true
-  -- a lock that is had has its name, and no other
-  pub held : (standing_of HoldLock s ≡ Good) → (s.is_named ≡ true) × (nat_lt 1 s.links ≡ false)
+  -- a lock that is had has its name, and no other, in the folder that has its own
+  pub held : (standing_of HoldLock s ≡ Good) → (s.is_named ≡ true) × (s.is_moved ≡ false) × (nat_lt 1 s.links ≡ false)
   -- root follows only root's links; and nobody follows links without end
   pub followed : (s.is_root ≡ true) → (standing_of Follow s ≡ Good) → is_roots_alone s ≡ true
   pub ends : (standing_of Follow s ≡ Good) → nat_lt s.tried 40 ≡ true

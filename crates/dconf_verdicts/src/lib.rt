@@ -5,11 +5,13 @@
 #![tactic(auto)]
 
 ghost use Rattle.dconf_verdicts.specs.Answers.{EachHasOneAnswer};
+ghost use Rattle.dconf_verdicts.specs.Brought.{NamesFollowBytes};
 ghost use Rattle.dconf_verdicts.specs.Entries.{NewestIsKept};
 ghost use Rattle.dconf_verdicts.specs.Faults.{EachIsOne, OnlyFinalDrops};
 ghost use Rattle.dconf_verdicts.specs.Standings.{EachIsSafe};
 
 mod answers;
+mod brought;
 mod entry;
 mod errnos;
 mod faults;
@@ -19,13 +21,14 @@ mod told;
 mod ways;
 
 pub use answers::{FaultAnswer, FileCall, answer_number, answer_of};
+pub use brought::{Bring, bring_after, bring_number};
 pub use entry::{Entry, NewEdit, entry_number, entry_of, is_news, is_there};
 pub use errnos::kind_of;
 pub use faults::{
     ChangeFault, FaultClass, FaultKind, Verdict, class_of, is_files_own, verdict_number, verdict_of,
 };
 pub use standing::{Purpose, Seen, Standing, standing_numbers, standing_of};
-pub use told::{Told, told_code, told_of};
+pub use told::{Told, is_list_refused, told_code, told_of};
 pub use ways::name_synced;
 
 /// A change is refused only where it sets what may not be written. Else it waits, if anything of it may be written: also where it says
@@ -55,4 +58,10 @@ pub fn each_call_has_one_answer()
 /// put there; and a folder's name is on the disk only where the host says so.
 pub fn each_file_is_safe()
     ensures { EachIsSafe }
+{}
+
+/// Nothing is made in a folder before its own name is on the disk; the bytes of a file are there before its name, and that before anybody
+/// is told so.
+pub fn names_follow_bytes()
+    ensures { NamesFollowBytes }
 {}

@@ -40,8 +40,10 @@ pub struct Seen {
     pub may_map: bool,
     /// Its head may say that the rest isn't wanted.
     pub may_stop: bool,
-    /// The names still stand for what is open; or what has the name is the same file.
+    /// The name still stands for what is open; or what has the name is the same file.
     pub is_named: bool,
+    /// The path of the folder that it is in leads elsewhere by now.
+    pub is_moved: bool,
     /// Root asks.
     pub is_root: bool,
     /// What is missing may be made.
@@ -221,7 +223,7 @@ fn lock_opened(seen: &Seen) -> Standing
 fn lock_held(seen: &Seen) -> Standing
     ensures { result ≡ lock_held seen.now }
 {
-    if seen.fault != 0 || !seen.is_named {
+    if seen.fault != 0 || (seen.is_moved || !seen.is_named) {
         Standing::Nothing
     } else if seen.links > 1 {
         Standing::Other

@@ -1,6 +1,6 @@
 //! What a program is told of an errno, whose call of the library failed.
 ghost use Rattle.std.specs.Prelude.{◌≡◌};
-ghost use Rattle.dconf_verdicts.specs.Errnos.{code_of, file_told, told_of};
+ghost use Rattle.dconf_verdicts.specs.Errnos.{code_of, file_told, is_list_refused, told_of};
 
 /// By what it is told.
 #[derive(Clone, Copy)]
@@ -35,6 +35,13 @@ pub fn told_code(of_lock: bool, errno: u32) -> u32
         Told::System => 64,
         Told::Busy => 65,
     }
+}
+
+/// Whether that code, of what was wrong with the profile, keeps the files of a store from being listed.
+pub fn is_list_refused(code: u32) -> bool
+    ensures { result ≡ is_list_refused code }
+{
+    code == 1
 }
 
 fn file_told(errno: u32) -> Told

@@ -9,7 +9,7 @@ use Rattle.dconf_verdicts.specs.declared.standing.Purpose.TheVariants.{Look, Ope
 use Rattle.dconf_verdicts.specs.Standings.{standing_of}
 use Rattle.dconf_waits.specs.declared.taking.TakingRecord.{TakingRecord}
 use Rattle.dconf_waits.specs.Takings.{above_seen, begun, by_names, by_old, by_removal, failed, file_made, folder_made, folder_opened, forked, is_for_others, listed, locked, missing, moved, opened_anew, over, taken, to, unmade}
-use Rattle.dconf_waits.specs.TakingLaws.{EachTryEnds, EndsIn, is_over, makes_at, NothingIsMadeUnasked}
+use Rattle.dconf_waits.specs.TakingLaws.{EachTryEnds, EndsIn, ForksArePausedFor, is_over, makes_at, NothingIsMadeUnasked}
 
 -- ---- what is left
 
@@ -25,10 +25,10 @@ folders_left task is = if task == 2 then 0 else made_left is
 
 -- a folder that is to be opened has all openings of the lock's file before it
 abbrev openings_left : ℕ → ℕ → ℕ
-openings_left task openings = if nat_lt task 3 then 100 else 99 - openings
+openings_left task openings = if task == 12 then 100 else if nat_lt task 3 then 100 else 99 - openings
 
 abbrev place : ℕ → ℕ
-place task = if task == 1 then 12 else if task == 2 then 13 else 13 - task
+place task = if task == 1 then 12 else if task == 2 then 13 else if task == 12 then 13 else 13 - task
 
 abbrev left_at : ℕ → TakingRecord → ℕ
 left_at task t =
@@ -48,7 +48,7 @@ less_open a k f o n p q h g = omega arith
 less_made : (a k f o p : ℕ) → f ≡ 1 → 16000 * a + (1450 * k + 1413) < 16000 * a + (1450 * k + (1450 * f + (14 * o + p)))
 less_made a k f o p h = omega arith
 
-less_forked : (a k n f o p : ℕ) → n < k → 16000 * a + (1450 * n + (1450 * f + 1412)) < 16000 * a + (1450 * k + (1450 * f + (14 * o + p)))
+less_forked : (a k n f o p : ℕ) → n < k → 16000 * a + (1450 * n + (1450 * f + 1413)) < 16000 * a + (1450 * k + (1450 * f + (14 * o + p)))
 less_forked a k n f o p h = omega arith
 
 less_again : (a k f o p : ℕ) → a ≡ 1 → 15912 < 16000 * a + (1450 * k + (1450 * f + (14 * o + p)))
@@ -57,14 +57,14 @@ less_again a k f o p h = omega arith
 -- ---- where it goes
 
 abbrev Falls : ℕ → TakingRecord → Type 0
-Falls n u = (is_over u ≡ true) ⊎ ((0 < u.task) × (u.task < 12) × (left u < n))
+Falls n u = (is_over u ≡ true) ⊎ ((0 < u.task) × (u.task < 13) × (left u < n))
 
 by_test : (is : Bool) (n : ℕ) (u v : TakingRecord) → (is ≡ true → Falls n u) → (is ≡ false → Falls n v) → Falls n (if is then u else v)
 by_test true n u v p q = p refl
 by_test false n u v p q = q refl
 
-goes_to : (n k : ℕ) (u : TakingRecord) → u.task ≡ k → 0 < k → k < 12 → left u < n → Falls n u
-goes_to n k u e a b h = inr (subst (λ (x : ℕ). 0 < x) (sym e) a, subst (λ (x : ℕ). x < 12) (sym e) b, h)
+goes_to : (n k : ℕ) (u : TakingRecord) → u.task ≡ k → 0 < k → k < 13 → left u < n → Falls n u
+goes_to n k u e a b h = inr (subst (λ (x : ℕ). 0 < x) (sym e) a, subst (λ (x : ℕ). x < 13) (sym e) b, h)
 
 one_left : (a b : Bool) → (a && not b) ≡ true → made_left b ≡ 1
 one_left true false h = refl
@@ -97,7 +97,7 @@ later_falls : (t : TakingRecord) (k next : ℕ) → 2 < k → k < next → next 
     → left (to t next) ≡ 16000 * again_left t.is_again + (1450 * (9 - t.forks) + (1450 * made_left t.has_made + (14 * (99 - t.openings) + (13 - next))))
     → Falls (16000 * again_left t.is_again + (1450 * (9 - t.forks) + (1450 * made_left t.has_made + (14 * (99 - t.openings) + (13 - k))))) (to t next)
 later_falls t k next a b c is =
-    goes_to _ next (to t next) refl (omega (arith, a, b)) c
+    goes_to _ next (to t next) refl (omega (arith, a, b)) (omega (arith, c))
     (subst
     (λ (x : ℕ). x < 16000 * again_left t.is_again + (1450 * (9 - t.forks) + (1450 * made_left t.has_made + (14 * (99 - t.openings) + (13 - k))))) (sym is)
     (less_place (again_left t.is_again) (9 - t.forks) (made_left t.has_made) (99 - t.openings) (13 - k) (13 - next) (omega (arith, a, b, c))))
@@ -105,9 +105,9 @@ later_falls t k next a b c is =
 forked_falls : (t : TakingRecord) (o p : ℕ)
     → Falls (16000 * again_left t.is_again + (1450 * (9 - t.forks) + (1450 * made_left t.has_made + (14 * o + p)))) (forked t)
 forked_falls t o p =
-    by_test (nat_lt t.forks 9) _ (record t { task = 1; forks = t.forks + 1 }) (over t 15 1 11)
+    by_test (nat_lt t.forks 9) _ (record t { task = 12; forks = t.forks + 1 }) (over t 15 1 11)
     (λ is. (let fewer : t.forks < 9 = ltb-true t.forks 9 is in
-    goes_to _ 1 (record t { task = 1; forks = t.forks + 1 }) refl (omega arith) (omega arith)
+    goes_to _ 12 (record t { task = 12; forks = t.forks + 1 }) refl (omega arith) (omega arith)
     (less_forked (again_left t.is_again) (9 - t.forks) (9 - (t.forks + 1)) (made_left t.has_made) o p (omega (arith, fewer)))))
     (λ is. inl refl)
 
@@ -187,6 +187,10 @@ removal_falls t standing.Map = moved_falls t (made_left t.has_made) (99 - t.open
 removal_falls t standing.Head = moved_falls t (made_left t.has_made) (99 - t.openings) 2
 removal_falls t standing.Other = moved_falls t (made_left t.has_made) (99 - t.openings) 2
 
+pause_falls : (t : TakingRecord) → Falls (left_at 12 t) (to t 1)
+pause_falls t =
+    goes_to _ 1 (to t 1) refl (omega arith) (omega arith) (less_place (again_left t.is_again) (9 - t.forks) (made_left t.has_made) 100 13 12 (omega arith))
+
 -- ---- each of them
 
 abbrev taken_at : ℕ → TakingRecord → Seen → TakingRecord
@@ -196,9 +200,9 @@ taken_at task t s =
     if task == 5 then file_made t s.fault else if task == 6 then file_made t s.fault else if task == 7 then file_made t s.fault else
     if task == 8 then listed t s.fault else if task == 9 then locked t s.fault else
     if task == 10 then by_names t (standing_of HoldLock s) else if task == 11 then by_removal t (standing_of Look s) else
-    if task == 14 then record (begun t) { task = 9 } else begun t
+    if task == 12 then to t 1 else if task == 14 then record (begun t) { task = 9 } else begun t
 
-task_falls : (k : ℕ) (t : TakingRecord) (s : Seen) → t.task ≡ k → 0 < k → k < 12 → Falls (left_at k t) (taken_at k t s)
+task_falls : (k : ℕ) (t : TakingRecord) (s : Seen) → t.task ≡ k → 0 < k → k < 13 → Falls (left_at k t) (taken_at k t s)
 task_falls zero t s e a b = absurd (omega (arith, a))
 task_falls (suc zero) t s e a b = opened_falls t s.may_make s.fault
 task_falls (suc (suc zero)) t s e a b = folder_falls t s.fault
@@ -211,19 +215,20 @@ task_falls (suc (suc (suc (suc (suc (suc (suc (suc zero)))))))) t s e a b = list
 task_falls (suc (suc (suc (suc (suc (suc (suc (suc (suc zero))))))))) t s e a b = locked_falls t s.fault
 task_falls (suc (suc (suc (suc (suc (suc (suc (suc (suc (suc zero)))))))))) t s e a b = names_fall t (standing_of HoldLock s)
 task_falls (suc (suc (suc (suc (suc (suc (suc (suc (suc (suc (suc zero))))))))))) t s e a b = removal_falls t (standing_of Look s)
-task_falls (suc (suc (suc (suc (suc (suc (suc (suc (suc (suc (suc (suc n)))))))))))) t s e a b = absurd (omega (arith, b))
+task_falls (suc (suc (suc (suc (suc (suc (suc (suc (suc (suc (suc (suc zero)))))))))))) t s e a b = pause_falls t
+task_falls (suc (suc (suc (suc (suc (suc (suc (suc (suc (suc (suc (suc (suc n))))))))))))) t s e a b = absurd (omega (arith, b))
 
-each_falls : (t : TakingRecord) (s : Seen) → 0 < t.task → t.task < 12 → Falls (left t) (taken t s)
+each_falls : (t : TakingRecord) (s : Seen) → 0 < t.task → t.task < 13 → Falls (left t) (taken t s)
 each_falls t s a b = task_falls t.task t s refl a b
 
 -- ---- it ends
 
-ends : (n : ℕ) (answers : List Seen) (t : TakingRecord) → 0 < t.task → t.task < 12 → left t < n → n ≤ length answers → EndsIn answers t
+ends : (n : ℕ) (answers : List Seen) (t : TakingRecord) → 0 < t.task → t.task < 13 → left t < n → n ≤ length answers → EndsIn answers t
 ends zero answers t a b h l = absurd (omega (arith, h))
 ends (suc n) [] t a b h l = absurd (omega (arith, l))
 ends (suc n) (s ∷ more) t a b h l =
     ⊎_elim (λ (is : is_over (taken t s) ≡ true). inl is)
-    (λ (r : (0 < (taken t s).task) × ((taken t s).task < 12) × (left (taken t s) < left t)). inr (ends n more (taken t s) r.0 r.1 (omega (arith, r.2, h)) (omega (arith, l))))
+    (λ (r : (0 < (taken t s).task) × ((taken t s).task < 13) × (left (taken t s) < left t)). inr (ends n more (taken t s) r.0 r.1 (omega (arith, r.2, h)) (omega (arith, l))))
     (each_falls t s a b)
 
 -- the first answer begins it
@@ -231,7 +236,7 @@ begin : (t : TakingRecord) (s : Seen) (more : List Seen) (k : ℕ) → t.task �
 begin t s more k e l is =
     let same : taken t s ≡ begun t = ap (λ (n : ℕ). taken_at n t s) e ∙ is in
     let low : 0 < 1 = omega arith in
-    let high : 1 < 12 = omega arith in
+    let high : 1 < 13 = omega arith in
     let few : 31912 < 31913 = omega arith in
     inr (subst (EndsIn more) (sym same) (ends 31913 more (begun t) low high few (omega (arith, l))))
 
@@ -239,7 +244,7 @@ again : (t : TakingRecord) (s : Seen) (more : List Seen) → t.task ≡ 14 → 3
 again t s more e l =
     let same : taken t s ≡ record (begun t) { task = 9 } = ap (λ (n : ℕ). taken_at n t s) e in
     let low : 0 < 9 = omega arith in
-    let high : 9 < 12 = omega arith in
+    let high : 9 < 13 = omega arith in
     let few : 31890 < 31913 = omega arith in
     inr (subst (EndsIn more) (sym same) (ends 31913 more (record (begun t) { task = 9 }) low high few (omega (arith, l))))
 
@@ -287,7 +292,7 @@ removal_unmaking t standing.Head = moved_unmaking t
 removal_unmaking t standing.Other = moved_unmaking t
 
 forked_unmaking : (t : TakingRecord) → Unmaking (forked t)
-forked_unmaking t = either (nat_lt t.forks 9) (record t { task = 1; forks = t.forks + 1 }) (over t 15 1 11) refl refl
+forked_unmaking t = either (nat_lt t.forks 9) (record t { task = 12; forks = t.forks + 1 }) (over t 15 1 11) refl refl
 
 listed_unmaking : (t : TakingRecord) (fault : ℕ) → Unmaking (listed t fault)
 listed_unmaking t fault = either (fault == 0) (to t 9) _ refl (forked_unmaking t)
@@ -312,7 +317,8 @@ beyond m t s b =
     unless (m == 9) _ _ (far m 9 (omega arith) b) (
     unless (m == 10) _ _ (far m 10 (omega arith) b) (
     unless (m == 11) _ _ (far m 11 (omega arith) b) (
-    unless (m == 14) _ _ (far m 14 (omega arith) b) refl)))))))))))
+    unless (m == 12) _ _ (far m 12 (omega arith) b) (
+    unless (m == 14) _ _ (far m 14 (omega arith) b) refl))))))))))))
 
 task_unmaking : (k : ℕ) (t : TakingRecord) (s : Seen) → s.may_make ≡ false → makes_at k ≡ false → Unmaking (taken_at k t s)
 task_unmaking zero t s h m = refl
@@ -335,3 +341,114 @@ task_unmaking (suc (suc (suc (suc (suc (suc (suc (suc (suc (suc (suc (suc (suc (
 
 pub nothing_is_made_unasked : NothingIsMadeUnasked
 nothing_is_made_unasked t s h m = task_unmaking t.task t s h m
+
+-- ---- forks are paused for: nothing else counts them
+
+abbrev Pausing : TakingRecord → TakingRecord → Type 0
+Pausing t u = nat_lt t.forks u.forks ≡ true → u.task ≡ 12
+
+same : (t u : TakingRecord) → u.forks ≡ t.forks → Pausing t u
+same t u e h = absurd (let less : t.forks < u.forks = ltb-true t.forks u.forks h in omega (arith, less, e))
+
+fresh : (t u : TakingRecord) → u.forks ≡ 0 → Pausing t u
+fresh t u e h = absurd (let less : t.forks < u.forks = ltb-true t.forks u.forks h in omega (arith, less, e))
+
+choose : (is : Bool) (t u v : TakingRecord) → Pausing t u → Pausing t v → Pausing t (if is then u else v)
+choose true t u v p q = p
+choose false t u v p q = q
+
+goes_on : (t : TakingRecord) (task : ℕ) → Pausing t (to t task)
+goes_on t task = same t (to t task) refl
+
+stops : (t : TakingRecord) (task tried fault : ℕ) → Pausing t (over t task tried fault)
+stops t task tried fault = same t (over t task tried fault) refl
+
+forked_pauses : (t : TakingRecord) → Pausing t (forked t)
+forked_pauses t = choose (nat_lt t.forks 9) t (record t { task = 12; forks = t.forks + 1 }) (over t 15 1 11) (λ h. refl) (stops t 15 1 11)
+
+failed_pauses : (t : TakingRecord) (fault : ℕ) → Pausing t (failed t fault)
+failed_pauses t fault = choose ((fault == 2) && not t.has_made) t (to t 2) (over t 15 3 fault) (goes_on t 2) (stops t 15 3 fault)
+
+missing_pauses : (t : TakingRecord) (may_make : Bool) (fault : ℕ) → Pausing t (missing t may_make fault)
+missing_pauses t may_make fault = choose may_make t (failed t fault) (over t 15 3 fault) (failed_pauses t fault) (stops t 15 3 fault)
+
+unmade_pauses : (t : TakingRecord) (may_make : Bool) → Pausing t (unmade t may_make)
+unmade_pauses t may_make = choose may_make t (to t 4) (over t 15 3 2) (goes_on t 4) (stops t 15 3 2)
+
+moved_pauses : (t : TakingRecord) → Pausing t (moved t)
+moved_pauses t =
+    choose t.is_again t (over t 15 2 0) (record (begun t) { is_again = true }) (stops t 15 2 0) (fresh t (record (begun t) { is_again = true }) refl)
+
+opened_pauses : (t : TakingRecord) (may_make : Bool) (fault : ℕ) → Pausing t (folder_opened t may_make fault)
+opened_pauses t may_make fault =
+    choose (fault == 0) t (record t { task = 3; openings = 0 }) _ (same t (record t { task = 3; openings = 0 }) refl)
+    (choose (fault == 11) t (forked t) (missing t may_make fault) (forked_pauses t) (missing_pauses t may_make fault))
+
+folder_pauses : (t : TakingRecord) (fault : ℕ) → Pausing t (folder_made t fault)
+folder_pauses t fault =
+    choose (fault == 0) t (record t { task = 1; has_made = true }) (over t 15 3 fault) (same t (record t { task = 1; has_made = true }) refl) (stops t 15 3 fault)
+
+old_pauses : (t : TakingRecord) (may_make : Bool) (st : Standing) → Pausing t (by_old t may_make st)
+old_pauses t may_make standing.Good = goes_on t 8
+old_pauses t may_make (standing.Fault fault) = missing_pauses t may_make fault
+old_pauses t may_make standing.Nothing = unmade_pauses t may_make
+old_pauses t may_make standing.Map = unmade_pauses t may_make
+old_pauses t may_make standing.Head = unmade_pauses t may_make
+old_pauses t may_make standing.Other = unmade_pauses t may_make
+
+above_pauses : (t : TakingRecord) (s : Seen) → Pausing t (above_seen t s)
+above_pauses t s =
+    choose (not (s.fault == 0)) t (failed t s.fault) _ (failed_pauses t s.fault) (choose (is_for_others s) t (to t 5) (to t 7) (goes_on t 5) (goes_on t 7))
+
+anew_pauses : (t : TakingRecord) → Pausing t (opened_anew t)
+anew_pauses t =
+    choose (nat_lt t.openings 99) t (record t { task = 3; openings = t.openings + 1 }) (over t 15 3 17)
+    (same t (record t { task = 3; openings = t.openings + 1 }) refl) (stops t 15 3 17)
+
+file_pauses : (t : TakingRecord) (fault : ℕ) → Pausing t (file_made t fault)
+file_pauses t fault =
+    choose (fault == 0) t (to t 8) _ (goes_on t 8) (
+    choose (fault == 17) t (opened_anew t) _ (anew_pauses t) (
+    choose (t.task == 5) t (to t 6) _ (goes_on t 6) (
+    choose (t.task == 6) t (to t 7) (failed t fault) (goes_on t 7) (failed_pauses t fault))))
+
+listed_pauses : (t : TakingRecord) (fault : ℕ) → Pausing t (listed t fault)
+listed_pauses t fault = choose (fault == 0) t (to t 9) (forked t) (goes_on t 9) (forked_pauses t)
+
+locked_pauses : (t : TakingRecord) (fault : ℕ) → Pausing t (locked t fault)
+locked_pauses t fault = choose (fault == 0) t (to t 10) (over t 14 1 fault) (goes_on t 10) (stops t 14 1 fault)
+
+names_pause : (t : TakingRecord) (st : Standing) → Pausing t (by_names t st)
+names_pause t standing.Good = stops t 13 1 0
+names_pause t standing.Other = goes_on t 11
+names_pause t standing.Nothing = moved_pauses t
+names_pause t standing.Map = moved_pauses t
+names_pause t standing.Head = moved_pauses t
+names_pause t (standing.Fault fault) = moved_pauses t
+
+removal_pauses : (t : TakingRecord) (st : Standing) → Pausing t (by_removal t st)
+removal_pauses t (standing.Fault fault) = stops t 15 2 fault
+removal_pauses t standing.Good = moved_pauses t
+removal_pauses t standing.Nothing = moved_pauses t
+removal_pauses t standing.Map = moved_pauses t
+removal_pauses t standing.Head = moved_pauses t
+removal_pauses t standing.Other = moved_pauses t
+
+each_pauses : (t : TakingRecord) (s : Seen) → Pausing t (taken t s)
+each_pauses t s =
+    choose (t.task == 1) t (folder_opened t s.may_make s.fault) _ (opened_pauses t s.may_make s.fault) (
+    choose (t.task == 2) t (folder_made t s.fault) _ (folder_pauses t s.fault) (
+    choose (t.task == 3) t (by_old t s.may_make (standing_of OpenLock s)) _ (old_pauses t s.may_make (standing_of OpenLock s)) (
+    choose (t.task == 4) t (above_seen t s) _ (above_pauses t s) (
+    choose (t.task == 5) t (file_made t s.fault) _ (file_pauses t s.fault) (
+    choose (t.task == 6) t (file_made t s.fault) _ (file_pauses t s.fault) (
+    choose (t.task == 7) t (file_made t s.fault) _ (file_pauses t s.fault) (
+    choose (t.task == 8) t (listed t s.fault) _ (listed_pauses t s.fault) (
+    choose (t.task == 9) t (locked t s.fault) _ (locked_pauses t s.fault) (
+    choose (t.task == 10) t (by_names t (standing_of HoldLock s)) _ (names_pause t (standing_of HoldLock s)) (
+    choose (t.task == 11) t (by_removal t (standing_of Look s)) _ (removal_pauses t (standing_of Look s)) (
+    choose (t.task == 12) t (to t 1) _ (goes_on t 1) (
+    choose (t.task == 14) t (record (begun t) { task = 9 }) (begun t) (fresh t (record (begun t) { task = 9 }) refl) (fresh t (begun t) refl)))))))))))))
+
+pub forks_are_paused_for : ForksArePausedFor
+forks_are_paused_for t s = record { pause = each_pauses t s; after = λ e. ap (λ (n : ℕ). taken_at n t s) e }

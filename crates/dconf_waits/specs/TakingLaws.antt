@@ -2,7 +2,7 @@
 use Rattle.std.specs.Prelude.{ℕ, ◌≡◌, ◌⊎◌, ◌≤◌, Bool, true, false, ◌&&◌, ◌||◌, ◌==◌, nat_lt, List, [], ◌∷◌, length}
 use Rattle.dconf_verdicts.specs.declared.standing.Seen.{Seen}
 use Rattle.dconf_waits.specs.declared.taking.TakingRecord.{TakingRecord}
-use Rattle.dconf_waits.specs.Takings.{taken}
+use Rattle.dconf_waits.specs.Takings.{taken, to}
 
 -- the lock is had, others have it, or it isn't had
 abbrev pub is_over : TakingRecord → Bool
@@ -28,3 +28,11 @@ makes_at task = (task == 2) || (nat_lt 3 task && nat_lt task 8)
 -- law: who may make nothing makes nothing, and waits for no disk, as long as each answer says so
 abbrev pub NothingIsMadeUnasked : Type 0
 NothingIsMadeUnasked = (t : TakingRecord) (s : Seen) → s.may_make ≡ false → makes_at t.task ≡ false → makes_at (taken t s).task ≡ false
+
+-- law: between two tries of one thread while another one forks, or has forks heeded, there is a pause, and after it all is opened anew
+pub record IsPausedFor (t : TakingRecord) (s : Seen) : Type 0 where
+  pub pause : nat_lt t.forks (taken t s).forks ≡ true → (taken t s).task ≡ 12
+  pub after : t.task ≡ 12 → taken t s ≡ to t 1
+
+abbrev pub ForksArePausedFor : Type 0
+ForksArePausedFor = (t : TakingRecord) (s : Seen) → IsPausedFor t s

@@ -40,9 +40,9 @@ moved t = if t.is_again then over t 15 2 0 else record (begun t) { is_again = tr
 
 -- ---- the tasks
 
--- Another thread forked meanwhile: all is opened anew, so often, and then it counts as taken by that (EAGAIN).
+-- Another thread forked meanwhile: all is opened anew after a pause (12), so often, and then it counts as taken by that (EAGAIN).
 abbrev pub forked : TakingRecord → TakingRecord
-forked t = if nat_lt t.forks 9 then record t { task = 1; forks = t.forks + 1 } else over t 15 1 11
+forked t = if nat_lt t.forks 9 then record t { task = 12; forks = t.forks + 1 } else over t 15 1 11
 
 -- 1: the folder is opened, or another thread is about to have forks heeded (EAGAIN), which is as if it forked
 abbrev pub folder_opened : TakingRecord → Bool → ℕ → TakingRecord
@@ -103,4 +103,4 @@ taken t s =
     if t.task == 5 then file_made t s.fault else if t.task == 6 then file_made t s.fault else if t.task == 7 then file_made t s.fault else
     if t.task == 8 then listed t s.fault else if t.task == 9 then locked t s.fault else
     if t.task == 10 then by_names t (standing_of HoldLock s) else if t.task == 11 then by_removal t (standing_of Look s) else
-    if t.task == 14 then record (begun t) { task = 9 } else begun t
+    if t.task == 12 then to t 1 else if t.task == 14 then record (begun t) { task = 9 } else begun t

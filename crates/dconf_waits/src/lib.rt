@@ -4,7 +4,7 @@
 //! few numbers, take no memory, and can be copied.
 #![tactic(auto)]
 
-ghost use Rattle.dconf_waits.specs.TakingLaws.{EachTryEnds, NothingIsMadeUnasked};
+ghost use Rattle.dconf_waits.specs.TakingLaws.{EachTryEnds, ForksArePausedFor, NothingIsMadeUnasked};
 ghost use Rattle.dconf_waits.specs.WaitLaws.{HoweverLongItWaits};
 
 mod taking;
@@ -30,4 +30,9 @@ pub fn each_try_ends()
 /// Who may make nothing takes the lock that is there, or none: no folder and no file is made, and nothing is brought to the disk.
 pub fn nothing_is_made_unasked()
     ensures { NothingIsMadeUnasked }
+{}
+
+/// While another thread forks, or is about to have forks heeded, a thread pauses before it opens all anew.
+pub fn forks_are_paused_for()
+    ensures { ForksArePausedFor }
 {}

@@ -7,7 +7,8 @@ ghost use Rattle.dconf_verdicts.specs.Standings.{standing_of};
 use dconf_files::lock_bits;
 use dconf_verdicts::{Purpose, Seen, Standing, standing_of};
 
-/// How often the file is opened anew, as others made it meanwhile, but for the last time; and how often as another thread forked, or had forks heeded.
+/// How often the file is opened anew, as others made it meanwhile, but for the last time; and how often, after a pause, as another thread forked, or had
+/// forks heeded.
 const BEFORE_LAST_OPENING: u32 = 99;
 
 const BEFORE_LAST_FORK: u32 = 9;
@@ -42,8 +43,10 @@ const LIST: u32 = 8;
 const LOCK: u32 = 9;
 /// to look at its names;
 const LOOK: u32 = 10;
-/// to take the lock's name from it.
+/// to take the lock's name from it;
 const TAKE_NAME: u32 = 11;
+/// to wait for a moment: another thread forks, or is about to have forks heeded.
+const PAUSE: u32 = 12;
 // It is over:
 /// it is had;
 const HAD: u32 = 13;
@@ -64,8 +67,8 @@ const BY_OPENING: u32 = 3;
 #[derive(Clone, Copy)]
 pub struct TakingRecord {
     /// What is to be done next: 1 open the folder, 2 make it, 3 open what has the lock's name, 4 bring the folder's name to the disk and look at it, 5 make a file that has no
-    /// name at first, 6 one that has another name at first, 7 one by its name, 8 list it, 9 lock it, 10 look at its names, 11 take its name; or
-    /// it is over: 13 it is had, 14 others have it, 15 it isn't had, and what is open is to be closed.
+    /// name at first, 6 one that has another name at first, 7 one by its name, 8 list it, 9 lock it, 10 look at its names, 11 take its name, 12 wait for a
+    /// moment; or it is over: 13 it is had, 14 others have it, 15 it isn't had, and what is open is to be closed.
     pub task: u32,
     /// Which call was the last, once it is over, as [`WaitRecord::answered`](crate::WaitRecord::answered) has it,
     pub tried: u32,
@@ -108,6 +111,7 @@ impl TakingRecord {
             LOCK => self.locked(seen.fault),
             LOOK => self.by_names(standing_of(Purpose::HoldLock, seen)),
             TAKE_NAME => self.by_removal(standing_of(Purpose::Look, seen)),
+            PAUSE => self.to(OPEN_FOLDER),
             NOT_YET => self.begun().to(LOCK),
             _ => self.begun(),
         };
@@ -216,7 +220,7 @@ impl TakingRecord {
     {
         if self.forks < BEFORE_LAST_FORK {
             TakingRecord {
-                task: OPEN_FOLDER,
+                task: PAUSE,
                 forks: self.forks + 1,
                 ..self
             }

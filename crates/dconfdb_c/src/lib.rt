@@ -14,6 +14,7 @@ mod fates;
 mod fault;
 mod file;
 mod get;
+mod json;
 mod keyfile;
 mod left;
 mod list;

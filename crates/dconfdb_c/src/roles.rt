@@ -1,7 +1,7 @@
 //! As what the files of a site are looked at, and what is found there.
 ghost use Rattle.std.specs.Prelude.{◌≡◌, ◌≢◌, ◌≤◌, false, if◌then◌else◌, map, true};
 ghost use Rattle.std.specs.List.{list_any};
-ghost use Rattle.dconf_roles.specs.Asked.{beside, beside_number};
+ghost use Rattle.dconf_roles.specs.Asked.{begins_sources, beside, beside_number, reads_on};
 ghost use Rattle.dconf_roles.specs.Folders.{is_read, looked_within, role_of, sources_in, within_number};
 ghost use Rattle.dconf_roles.specs.Findings.{finding_for, finding_number};
 ghost use Rattle.dconf_roles.specs.Machines.{machines_folder};
@@ -15,9 +15,9 @@ ghost use Rattle.dconf_roles.specs.Slips.{is_slip};
 
 use crate::open::DconfdbText;
 use dconf_roles::{
-    EntryKnown, FindingKnown, Name, Nearing, beside_number, entry_number, finding_number,
-    is_nearer, is_over, is_read, machines_folder, next_place, reading_number, role_of, sources_in,
-    stem_len, within_number,
+    EntryKnown, FindingKnown, Name, Nearing, begins_sources, beside_number, entry_number,
+    finding_number, is_nearer, is_over, is_read, machines_folder, next_place, reading_number,
+    reads_on, role_of, sources_in, stem_len, within_number,
 };
 use std::alloc::Global;
 
@@ -69,6 +69,22 @@ pub extern "C" fn dconfdb_file_after(is_same: bool, is_of_folder: bool) -> u32
     ensures { result ≡ beside_number (beside is_same is_of_folder) }
 {
     beside_number(is_same, is_of_folder)
+}
+
+/// Whether, below a folder of a site, the keys of another database are set than before.
+#[unsafe(no_mangle)]
+pub extern "C" fn dconfdb_begins_sources(within: u32) -> bool
+    ensures { result ≡ begins_sources within }
+{
+    begins_sources(within)
+}
+
+/// Whether a file that failed to be read as a text, by that errno, is read as a database.
+#[unsafe(no_mangle)]
+pub extern "C" fn dconfdb_reads_on(errno: u32) -> bool
+    ensures { result ≡ reads_on errno }
+{
+    reads_on(errno)
 }
 
 /// The folder of the sources and databases that `update` takes if none is named, by the kind of store that the machine has.

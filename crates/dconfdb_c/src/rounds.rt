@@ -3,12 +3,12 @@
 ghost use Rattle.std.specs.Prelude.{◌≡◌};
 ghost use Rattle.dconf_rounds.specs.Glances.{glance_after, glance_number};
 ghost use Rattle.dconf_rounds.specs.Rounds.{has_work, is_at_work, is_open, task_after, task_number};
-ghost use Rattle.dconf_rounds.specs.Telling.{tell_next, telling_number};
+ghost use Rattle.dconf_rounds.specs.Telling.{asks_context, handed, handed_number, tell_next, telling_number};
 ghost use Rattle.dconf_rounds.specs.Writers.{writer_number};
 
 use dconf_rounds::{
-    GlanceKnown, Known, TellKnown, WriterKnown, WritingKnown, glance_number, has_work, is_at_work,
-    is_open, task_number, telling_number, writer_number,
+    GlanceKnown, Known, TellKnown, WriterKnown, WritingKnown, asks_context, glance_number,
+    handed_number, has_work, is_at_work, is_open, task_number, telling_number, writer_number,
 };
 
 /// Whether what was begun in one process is at work in this one: it has not ended, and this is no child of that process by fork().
@@ -81,4 +81,22 @@ pub extern "C" fn dconfdb_tell_next(known: &TellKnown) -> u32
     ensures { result ≡ telling_number (tell_next known.now) }
 {
     telling_number(known)
+}
+
+/// What becomes of the paths that are seen otherwise than what was told last: 0 they couldn't be handed out, so that what was told still is, and the files
+/// are looked at again; 1 they were, and what is the newest was told, but nobody looked at the files, which are looked at again; 2 they were, and the files
+/// were looked at.
+#[unsafe(no_mangle)]
+pub extern "C" fn dconfdb_handed(has_paths: bool, has_looked: bool) -> u32
+    ensures { result ≡ handed_number (handed has_paths has_looked) }
+{
+    handed_number(has_paths, has_looked)
+}
+
+/// Whether the main context of somebody who listens is asked to say that it turns.
+#[unsafe(no_mangle)]
+pub extern "C" fn dconfdb_asks_context(has_turned: bool, is_asked: bool) -> bool
+    ensures { result ≡ asks_context has_turned is_asked }
+{
+    asks_context(has_turned, is_asked)
 }

@@ -6,12 +6,12 @@ ghost use Rattle.dconf_served.specs.Served.{served_after, served_number};
 use dconf_served::{ServedKnown, begins_number, served_number};
 
 /// What becomes of a call that changes settings, once it came (`done` is 0), or came in another thread than the main one (14), once it is read (1), after each try to write it (2), when it is told
-/// (3), if somebody listens (16), when it is answered (19), at the service's end (4), when others are taken to be written (5), and once the stores were
+/// (3), and whether that is in the turn to write (21); whether it is read where it came (16), when it is answered (19), at the service's end (4), when others are taken to be written (5), and once the stores were
 /// opened that may have its database (6, 18), for one of which a folder may have the file (17) that was read, and is to be the profile of that alone (15); of a
 /// path in it, once that is read (9), and behind those before it (10); of an edit, when it was tried (12), and beside others of its change (13); and
 /// of the service, at its end (7), when it hasn't its name (8), when it tells of a database (11), and when it is called (20): 0 it goes on, 1 it is acknowledged, 2 it
 /// failed, 3 nobody with these rights may write there, 4 it is odd, 5 too large, 6 too much waits, 7 too many databases are in use, 8 the service
-/// ends, 9 it is for a later write, or for the main thread, 10 the profile's store has it, 11 a store of its own has it, or an edit stands alone, 12 the service ends in
+/// ends, 9 it is for later, or for another thread, 10 the profile's store has it, 11 a store of its own has it, or an edit stands alone, 12 the service ends in
 /// peace, 13 another one has the name, 14 it is passed over, 15 left out, 16 it takes the place of the one before it, 17 no such database is served.
 #[unsafe(no_mangle)]
 pub extern "C" fn dconfdb_served_after(done: u32, known: &ServedKnown) -> u32

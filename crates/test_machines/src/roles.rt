@@ -1,8 +1,8 @@
 //! As what the files of a site are looked at, and what is found there.
 use dconf_roles::{
-    EntryKnown, FindingKnown, Name, Nearing, Role, beside_number, entry_number, finding_number,
-    is_nearer, is_over, is_read, machines_folder, next_place, reading_number, role_of, sources_in,
-    stem_len, within_number,
+    EntryKnown, FindingKnown, Name, Nearing, Role, begins_sources, beside_number, entry_number,
+    finding_number, is_nearer, is_over, is_read, machines_folder, next_place, reading_number,
+    reads_on, role_of, sources_in, stem_len, within_number,
 };
 use std::alloc::{AllocError, Global};
 use std::test::Fail;
@@ -70,6 +70,11 @@ fn folders_are_taken_one_by_one() -> bool {
     beside_number(false, false) == 2
         && beside_number(false, true) == 1
         && beside_number(true, true) == 0
+        && begins_sources(2)
+        && !begins_sources(1)
+        && !begins_sources(3)
+        && reads_on(75)
+        && !reads_on(2)
 }
 
 fn folders_have_their_roles() -> bool {

@@ -1,8 +1,9 @@
 //! What is done in turn by who writes what waits, by who has it written, or ends, or wants to know that it is on the disk, and by who looks at
 //! the files.
 use dconf_rounds::{
-    GlanceKnown, Known, SyncKnown, TellKnown, WriterKnown, WritingKnown, glance_number, has_work,
-    is_at_work, is_open, passes_over, sync_number, task_number, telling_number, writer_number,
+    GlanceKnown, Known, SyncKnown, TellKnown, WriterKnown, WritingKnown, asks_context,
+    glance_number, handed_number, has_work, is_at_work, is_open, passes_over, sync_number,
+    task_number, telling_number, writer_number,
 };
 use dconf_seen::Known as SeenKey;
 use std::test::Fail;
@@ -317,6 +318,15 @@ fn notices_are_told() -> bool {
         && telling_number(&unheard) == 0
         && telling_number(&last) == 3
         && telling_number(&none) == 0
+}
+
+fn what_is_handed_out_is_told() -> bool {
+    handed_number(false, true) == 0
+        && handed_number(true, false) == 1
+        && handed_number(true, true) == 2
+        && asks_context(false, false)
+        && !asks_context(false, true)
+        && !asks_context(true, false)
 }
 
 fn rights_are_told_before_values() -> bool {
@@ -673,7 +683,11 @@ fn who_writes_knows_what_is_closed() -> bool {
 fn tasks_come_in_their_order(rt: HostRuntime) -> Result<(), Fail> {
     assert!(rt; tasks_are_due() && threads_end() && syncs_are_answered() && looks_end());
     assert!(rt;
-        notices_are_told() && odd_keys_are_known() && work_is_known() && who_may_write_is_known()
+        notices_are_told()
+            && what_is_handed_out_is_told()
+            && odd_keys_are_known()
+            && work_is_known()
+            && who_may_write_is_known()
     );
     assert!(rt; who_writes_knows_what_is_closed());
     Ok(())

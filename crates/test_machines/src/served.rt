@@ -9,6 +9,8 @@ const PLAIN: ServedKnown = ServedKnown {
     waiting_size: 0,
     names: 1,
     answered: 0,
+    edits: 16,
+    resets: 0,
     said: 0,
     kind: 0,
     is_used: true,
@@ -246,7 +248,28 @@ fn a_call_is_answered() -> bool {
         && served_number(19, &none) == 14
         && served_number(20, &PLAIN) == 14
         && served_number(20, &noted) == 0
-        && served_number(16, &PLAIN) == 0
+}
+
+fn nobody_waits_for_long() -> bool {
+    let small = ServedKnown {
+        size: 4096,
+        ..PLAIN
+    };
+    let larger = ServedKnown {
+        size: 4097,
+        ..PLAIN
+    };
+    let many = ServedKnown { edits: 17, ..PLAIN };
+    let reset = ServedKnown {
+        edits: 1,
+        resets: 1,
+        ..PLAIN
+    };
+    served_number(16, &small) == 0
+        && served_number(16, &larger) == 9
+        && served_number(21, &PLAIN) == 0
+        && served_number(21, &many) == 9
+        && served_number(21, &reset) == 9
 }
 
 fn a_database_has_its_place() -> bool {
@@ -345,6 +368,11 @@ fn calls_are_answered_once_they_are_written(rt: HostRuntime) -> Result<(), Fail>
     assert!(rt; what_came_first_is_first());
     assert!(rt; each_path_counts() && the_last_of_a_path_counts() && sites_are_not_told());
     assert!(rt; each_edit_is_told_of() && no_service_db_is_served() && it_serves_at_last());
-    assert!(rt; a_good_profile_stays() && a_call_is_answered() && a_database_has_its_place());
+    assert!(rt;
+        a_good_profile_stays()
+            && a_call_is_answered()
+            && nobody_waits_for_long()
+            && a_database_has_its_place()
+    );
     Ok(())
 }

@@ -24,6 +24,7 @@ const FILE: Seen = Seen {
     may_map: false,
     may_stop: false,
     is_named: true,
+    is_moved: false,
     is_root: false,
     may_make: true,
 };
@@ -66,7 +67,7 @@ fn locks_are_taken() -> bool {
         (9, FILE),
         (10, moved),
     ];
-    let heeded = [(1, failed(BUSY)), (1, FILE), (3, failed(FULL))];
+    let heeded = [(1, failed(BUSY)), (12, FILE), (1, FILE), (3, failed(FULL))];
     goes(TakingRecord::new(), &had, (13, 1, 0))
         && goes(TakingRecord::new(), &heeded, (15, 3, FULL))
         && goes(TakingRecord::new(), &busy, (14, 1, BUSY))
@@ -132,21 +133,30 @@ fn nothing_is_made_unasked() -> bool {
         && goes(TakingRecord::new(), &[(1, missing)], (15, 3, MISSING))
         && goes(
             TakingRecord::new(),
+            &[(1, failed(BUSY)), (12, FILE), (1, missing)],
+            (15, 3, MISSING),
+        )
+        && goes(
+            TakingRecord::new(),
             &[(1, there), (3, missing)],
             (15, 3, MISSING),
         )
         && goes(TakingRecord::new(), &[(1, there), (3, linked)], (15, 3, 22))
 }
 
-/// The tenth fork is one more than may be.
+/// The tenth fork is one more than may be; after each before it there is a pause.
 fn forks_are_minded() -> bool {
     let mut taking = TakingRecord::new();
     taking.answered(&FILE);
-    for _ in 0..10 {
+    for _ in 0..9 {
         taking.answered(&FILE);
         taking.answered(&FILE);
         taking.answered(&failed(BUSY));
+        taking.answered(&FILE);
     }
+    taking.answered(&FILE);
+    taking.answered(&FILE);
+    taking.answered(&failed(BUSY));
     (taking.task, taking.tried, taking.fault) == (15, 1, BUSY)
 }
 

@@ -1,8 +1,8 @@
 //! What becomes of a change that is asked for, and of one that waits; and what a fault means to it.
 use dconf_files::{FileStamp, FileTime, bits_for, lock_bits, sameness_number};
 use dconf_verdicts::{
-    NewEdit, Seen, Standing, answer_number, entry_number, is_news, is_there, name_synced,
-    standing_numbers, told_code, verdict_number,
+    NewEdit, Seen, Standing, answer_number, bring_number, entry_number, is_list_refused, is_news,
+    is_there, name_synced, standing_numbers, told_code, verdict_number,
 };
 use dconf_waiting::{
     Failing, FaultSeen, Patience, Progress, Tally, Waiter, WaitingEdit, fate_number, found,
@@ -80,6 +80,24 @@ fn are_told() -> bool {
         && told_code(true, 12) == 1
         && told_code(true, 11) == 65
         && told_code(true, 2) == 64
+        && is_list_refused(1)
+        && !is_list_refused(64)
+        && !is_list_refused(0)
+}
+
+/// A folder in another one; a file that can be read, and one that can't; and a file and its folder.
+fn are_brought_to_the_disk() -> bool {
+    bring_number(0, 0, 0, true) == 1
+        && bring_number(0, 1, 0, true) == 2
+        && bring_number(0, 2, 0, true) == 4
+        && bring_number(0, 4, 0, true) == 5
+        && bring_number(0, 1, 5, true) == 5
+        && bring_number(1, 0, 0, true) == 3
+        && bring_number(1, 3, 0, true) == 4
+        && bring_number(1, 0, 0, false) == 4
+        && bring_number(1, 4, 0, false) == 5
+        && bring_number(2, 4, 0, true) == 1
+        && bring_number(2, 1, 0, true) == 5
 }
 
 /// A file of root's, of 65,537 bytes, with one name.
@@ -94,6 +112,7 @@ const STOOD: Seen = Seen {
     may_map: false,
     may_stop: false,
     is_named: true,
+    is_moved: false,
     is_root: true,
     may_make: true,
 };
@@ -110,6 +129,10 @@ fn files_stand() -> bool {
     let shared = Seen { links: 2, ..STOOD };
     let moved = Seen {
         is_named: false,
+        ..STOOD
+    };
+    let astray = Seen {
+        is_moved: true,
         ..STOOD
     };
     let mapped = Seen {
@@ -135,6 +158,7 @@ fn files_stand() -> bool {
         && standing_numbers(4, &STOOD) == (0, 0)
         && standing_numbers(4, &shared) == (4, 0)
         && standing_numbers(4, &moved) == (1, 0)
+        && standing_numbers(4, &astray) == (1, 0)
         && of_mode(5, 0o041_755) == (0, 0)
         && of_mode(5, 0o041_775) == (5, 13)
         && of_mode(5, 0o041_777) == (5, 13)
@@ -524,7 +548,7 @@ fn files_are_told_apart(rt: HostRuntime) -> Result<(), Fail> {
 #[test]
 fn changes_and_faults_are_judged(rt: HostRuntime) -> Result<(), Fail> {
     assert!(rt; are_entered() && are_dropped() && are_told() && are_answered());
-    assert!(rt; files_stand() && names_stand() && ways_stand());
+    assert!(rt; are_brought_to_the_disk() && files_stand() && names_stand() && ways_stand());
     Ok(())
 }
 

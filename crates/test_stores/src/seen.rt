@@ -5,7 +5,9 @@ use dconf_seen::{
     Found, Known, Own, Shown, Word, covers, found_by, found_number, may_be_made, meets, own_by,
     shown_as,
 };
-use dconf_texts::{PathKind, is_short, kind_at, kind_below, kind_of, number_of_kind, wanted_kind};
+use dconf_texts::{
+    PathKind, is_short, kind_at, kind_below, kind_of, number_of_kind, string_of, wanted_kind,
+};
 use dconf_told::{
     DconfdbFileSeen, DconfdbKeyAsked, DconfdbView, DconfdbWaits, are_seen_alike, is_changed,
     may_write, own_keys, own_texts, relocked, relocked_texts, remembered, remembered_texts, told,
@@ -280,6 +282,20 @@ fn are_kinds() -> bool {
         && wanted_kind(2, PathKind::Key) == PathKind::NoDirectory
         && wanted_kind(0, PathKind::Key) == PathKind::Key
         && wanted_kind(1, PathKind::HasNul) == PathKind::HasNul
+}
+
+/// A character of three bytes whose last one is missing, a byte that begins none, and what must be escaped.
+const NOT_ALL_UTF8: &[u8] = b"\xe2\x82\xff\xe2\x82\xac\"\n";
+
+#[test]
+fn makes_strings_of_json(rt: HostRuntime) -> Result<(), Fail> {
+    let alloc = rt.alloc();
+    let read = string_of(alloc, NOT_ALL_UTF8)?;
+    let wanted = "\"\u{fffd}\u{fffd}\u{fffd}\u{20ac}\\\"\\n\"";
+    if read.as_str() != wanted || string_of(alloc, b"")?.as_str() != "\"\"" {
+        return Err(Fail::new("bytes are another string"));
+    }
+    Ok(())
 }
 
 #[test]
