@@ -1,6 +1,6 @@
 -- What a run did, by what its command decided and by how the answer came about.
-use Rattle.std.proofs.Common.{◌≡◌, ◌+◌, ◌∷◌, ◌⊎◌, ◌∙◌, inl, inr, ℕ, Bool, true, false, zero, suc, List, [], Option, Some, None, Ok, Err, refl, sym, ap, subst, arith}
-use Rattle.std.specs.Prelude.{◌≢◌, IfSome, IsTrue, codes}
+use Rattle.std.proofs.Common.{◌≡◌, ◌+◌, ◌∷◌, ◌⊎◌, ◌∙◌, inl, inr, ℕ, Bool, true, false, zero, suc, List, [], Option, Some, None, Ok, Err, refl, sym, ap, subst, arith, unwrap_or}
+use Rattle.std.specs.Prelude.{◌≢◌, IfSome, IsTrue, codes, slice_get}
 use Rattle.std.specs.Str.{bytes_eq}
 use Rattle.std.proofs.Math.Dec.{eqb}
 use Rattle.std.proofs.lemmas.Bool.Decides.{eqb_tells}
@@ -20,8 +20,8 @@ use Rattle.dconf_streams.specs.declared.answer.Answer.TheVariants as answers
 use Rattle.refused.specs.declared.Refused.TheVariants as refusals
 use Rattle.dconf_streams.specs.Answers.{Answered, RefusesFor, outcome_of}
 use Rattle.dconf_cli.specs.Endings.{Ends, EndsBy}
-use Rattle.dconf_streams.specs.Readings.{AllRead, AreReadFrom, Decides, Gave, Reading, Tells}
-use Rattle.dconf_cli.specs.Runs.{IsFormed, IsOwn, KeepsFiles, NamesFile, RanAnywhere, SaysFailedInput}
+use Rattle.dconf_streams.specs.Readings.{AllRead, AreReadFrom, Decides, Gave, IsKept, Reading, Tells}
+use Rattle.dconf_cli.specs.Runs.{IsFormed, IsOwn, KeepsFiles, KeepsWithoutMemory, NamesFile, RanAnywhere, SaysFailedInput}
 use Rattle.dconf_streams.specs.Streams.{NoneFailed}
 use Rattle.dconf_cli.proofs.StreamsLeft.{not_rose}
 
@@ -101,6 +101,10 @@ line_status output why e = ap (λ (o : Output). o.status) e
 
 line_formed : (output : Output) (why : List ℕ) → output ≡ refused_output why → IsFormed output
 line_formed output why e = inr (line_status output why e, ap (λ (o : Output). o.out) e)
+
+-- the one for a file isn't the one for memory
+other_lines : (name : List ℕ) → refused_output (device_text name) ≡ refused_output (codes "Memory") → ⊥
+other_lines name e = let bad : 68 ≡ 77 = ap (λ (o : Output). unwrap_or (slice_get o.err 7) 0) e in omega (arith, bad)
 
 not_both : (n : ℕ) → n ≡ 0 → n ≡ 1 → ⊥
 not_both n z o = omega arith
@@ -197,6 +201,21 @@ module _ {F : Type 0} (ghosts : Ghosts F) (command : Command) (input : Input) (m
       → (output ≡ refused_output why) ⊎ NoMemory output
   refusal_says None why is e = inr e.0
   refusal_says (Some o) why is e = inl (subst (λ (x : Outcome). EndsBy ghosts mid new x x.change output) is e).0
+
+  -- and so does the line for memory
+  memory_stays_by : (o : Outcome) (change : Option Replacement) → o.change ≡ change → (o.change ≡ None) ⊎ (o.output.status ≡ 0) → NoMemory output
+      → EndsBy ghosts mid new o change output → new ≡ mid
+  memory_stays_by o None same done none e = e.1
+  memory_stays_by o (Some r) same (inl is) none e = let bad : None ≡ Some r = sym is ∙ same in cc
+  memory_stays_by o (Some r) same (inr zero_is) none (inl e) =
+      absurd (not_both output.status (ap (λ (x : Output). x.status) e.0 ∙ zero_is) (line_status output (codes "Memory") none))
+  memory_stays_by o (Some r) same (inr zero_is) none (inr (inl e)) = absurd (other_lines r.name (sym e.0 ∙ none))
+  memory_stays_by o (Some r) same (inr zero_is) none (inr (inr e)) = e.1
+
+  memory_stays : (o : Option Outcome) → IfSome o (λ x. (x.change ≡ None) ⊎ (x.output.status ≡ 0)) → NoMemory output → Ends ghosts mid new o output
+      → new ≡ mid
+  memory_stays None done none e = e.1
+  memory_stays (Some o) done none e = memory_stays_by o o.change refl done none e
 
   formed_by : (o : Outcome) (change : Option Replacement) → IsFormed o.output → EndsBy ghosts mid new o change output → IsFormed output
   formed_by o None form e = subst (λ (x : Output). IsFormed x) (sym e.0) form
@@ -309,6 +328,11 @@ module _ {F : Type 0} (ghosts : Ghosts F) (command : Command) (input : Input) (o
     device = λ rose. named rose d.tells;
     form = formed ghosts command input mid new output (outcome_of answer) (outcome_formed answer) e;
   }
+
+  pub keeps_without_memory : KeepsWithoutMemory ghosts old new output
+  keeps_without_memory none =
+      let stays : new ≡ mid = memory_stays ghosts command input mid new output (outcome_of answer) (changes_done answer) none e in
+      subst (λ (f : F). IsKept ghosts old f) (sym stays) d.kept
 
   pub zero_keeps : output.status ≡ 0 → ghosts.failed new ≡ ghosts.failed old
   zero_keeps zero_is = go d.tells

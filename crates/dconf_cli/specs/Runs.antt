@@ -7,7 +7,8 @@ use Rattle.dconf_model.specs.Commands.{Command}
 use Rattle.dconf_model.specs.Reads.{Input, ReadResults}
 use Rattle.dconf_model.specs.Outcomes.{Output, refused_output}
 use Rattle.dconf_model.specs.Runs.{Answers, IsNewName, MayMake, NoMemory, ReadsFrom}
-use Rattle.dconf_streams.specs.Readings.{BreaksAt, Gave, Reading}
+use Rattle.dconf_folders.specs.declared.folder.Folder.{Ghosts}
+use Rattle.dconf_streams.specs.Readings.{BreaksAt, Gave, IsKept, Reading}
 
 -- the line for an input that failed, or the one for memory
 abbrev pub SaysFailedInput : Output → Type 0
@@ -32,6 +33,10 @@ pub record RanAnywhere (failures_old failures_new : ℕ) (command : Command) (in
   pub answers : (reads : ReadResults) → Gave reads 0 log → Answers command input reads output
   pub device : failures_new ≢ failures_old → NamesFile command input log output ⊎ NoMemory output
   pub form : IsFormed output
+
+-- Where memory ran out nothing was done to the folder, whatever its reads gave.
+abbrev pub KeepsWithoutMemory : {F : Type 0} → Ghosts F → F → F → Output → Type 0
+KeepsWithoutMemory ghosts old new output = NoMemory output → IsKept ghosts old new
 
 -- a file of the command's own: the one that it replaces, or the new one that takes its name
 abbrev pub IsOwn : Command → Input → List Event → List ℕ → Type 0

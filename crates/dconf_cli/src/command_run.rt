@@ -10,7 +10,7 @@ ghost use Rattle.dconf_streams.specs.Inputs.{ReadsText, Took};
 ghost use Rattle.dconf_streams.specs.Streams.{NoneFailed};
 ghost use Rattle.dconf_commands.specs.Loads.{reads_input};
 ghost use Rattle.dconf_cli.specs.Outputs.{Leaves};
-ghost use Rattle.dconf_cli.specs.Runs.{KeepsFiles, RanAnywhere, SaysFailedInput};
+ghost use Rattle.dconf_cli.specs.Runs.{KeepsFiles, KeepsWithoutMemory, RanAnywhere, SaysFailedInput};
 
 use crate::outcome::bring_about;
 use dconf_args::Command;
@@ -64,6 +64,11 @@ pub fn run<F: Folder, I: Read, O: Write, E: Write>(
     // In any folder: what the reads that it made give, whatever they gave, and of which file a read failed.
     ensures anywhere { (i : Input) × Took I.remaining input.old input.new i
         × ((output : Output) × RanAnywhere (F.failed folder.old) (F.failed folder.new) (command_of command) i output
+        × Leaves O.contents E.contents out.old out.new err.old err.new output result) }
+    // And where it says that memory ran out, nothing was done to the folder, whatever that answered.
+    ensures memory { (i : Input) × Took I.remaining input.old input.new i
+        × ((output : Output) × RanAnywhere (F.failed folder.old) (F.failed folder.new) (command_of command) i output
+        × KeepsWithoutMemory F.Folder folder.old folder.new output
         × Leaves O.contents E.contents out.old out.new err.old err.new output result) }
     // Of an input that failed it says so, whatever was read of it before.
     ensures failed_input { failures_of input.new ≢ failures_of input.old → (output : Output) × SaysFailedInput output

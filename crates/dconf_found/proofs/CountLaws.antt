@@ -1,6 +1,6 @@
 -- What counts of a bad database, by the fault of what was tried.
 use Rattle.std.proofs.Common.{◌≡◌, ◌⊎◌, inl, inr, ℕ, List, Option, Some, None, refl, sym, ◌∙◌, ap}
-use Rattle.dconf_model.specs.Databases.{IsBad, IsTooBig, Verdict, IsGood}
+use Rattle.dconf_model.specs.Databases.{IsTooBig, IsGood}
 use Rattle.dconf_model.specs.Opening.{IsOpenFault, OpenFault}
 use Rattle.dconf_model.specs.Opening.OpenFault.{short, bad_signature, bad_version, bad_root, bad_table}
 use Rattle.dconf_model.specs.Salvaging.{IsSalvaged}
@@ -8,7 +8,7 @@ use Rattle.dconf_model.specs.Settings.{Settings}
 use Rattle.dconf_model.proofs.ProgramLaws.{not_bad}
 use Rattle.dconfdb_calls.specs.Keyless.{IsKeyless, IsNotKeyless}
 use Rattle.dconfdb_calls.specs.Numbers.{number_of}
-use Rattle.dconfdb_calls.specs.Opened.{open_number}
+use Rattle.dconfdb_calls.specs.Opened.{IsToldOf, open_number}
 use Rattle.dconfdb_calls.specs.Salvaged.{IsSalvageOf, IsUnsalvaged, IsUnwritten}
 use Rattle.dconfdb_calls.specs.declared.fault.Fault.{Fault}
 use Rattle.dconfdb_calls.specs.declared.fault.Fault.TheVariants.{Memory, TooBig, Unsound}
@@ -26,19 +26,20 @@ no_database file fault (inr (d, inl e)) none = absurd (none.0 e)
 no_database file fault (inr (d, inr (s, is, inl e))) none = absurd (none.0 e)
 no_database file fault (inr (d, inr (s, is, inr (e, big)))) none = absurd (none.1 e)
 
-pub counts_salvaged : (file it : List ℕ) (lost : Loss) → ((v : Verdict) × IsBad (Some file) v) → ((mended : List ℕ) → ¬ IsKeyless file mended)
+pub counts_salvaged : (file it : List ℕ) (lost : Loss) → IsToldOf (Some file) (number_of lost.bad.fault) lost.bad.unsound
+    → ((mended : List ℕ) → ¬ IsKeyless file mended)
     → IsSalvageOf file it lost.keys lost.locks → CountsBad file (Some it) (Some lost)
 counts_salvaged file it lost bad other salvaged =
-    (bad.0, bad.1, inr (inl (record { it = it; lost = lost; other = other; salvaged = salvaged; counted_is = refl; loss_is = refl })))
+    (bad.0, bad.1, inr (inl (record { it = it; lost = lost; other = other; salvaged = salvaged; counted_is = refl; loss_is = refl; told = bad })))
 
 pub counts_nothing : (file : List ℕ) (fault : Fault) (bad_file : BadFile) (counted : Option (List ℕ)) (loss : Option Loss)
-    → ((v : Verdict) × IsBad (Some file) v) → IsUnsalvaged file fault → IsOfNoDatabase fault → counted ≡ None → loss ≡ Some (nothing_of bad_file)
+    → IsToldOf (Some file) (number_of bad_file.fault) bad_file.unsound → IsUnsalvaged file fault → IsOfNoDatabase fault → counted ≡ None → loss ≡ Some (nothing_of bad_file)
     → CountsBad file counted loss
 counts_nothing file fault bad_file counted loss bad unsalvaged none c l =
     let open_fault = no_database file fault unsalvaged none in (
       bad.0,
       bad.1,
-      inr (inr (record { lost = nothing_of bad_file; fault = open_fault.0; none = open_fault.1; counted_is = c; loss_is = l; keys = refl; locks = refl })),
+      inr (inr (record { lost = nothing_of bad_file; fault = open_fault.0; none = open_fault.1; counted_is = c; loss_is = l; keys = refl; locks = refl; told = bad })),
     )
 
 -- a sound one counts as itself, whole

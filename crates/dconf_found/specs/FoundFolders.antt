@@ -18,12 +18,14 @@ use Rattle.dconf_model.specs.Opening.{IsOpenFault, OpenFault}
 use Rattle.dconf_model.specs.Salvaging.{IsSalvaged}
 use Rattle.dconf_model.specs.Settings.{Settings}
 use Rattle.dconfdb_calls.specs.Keyless.{IsKeyless}
+use Rattle.dconfdb_calls.specs.Numbers.{number_of}
+use Rattle.dconfdb_calls.specs.Opened.{IsToldOf}
 use Rattle.dconfdb_calls.specs.Salvaged.{IsSalvageOf}
 use Rattle.dconfdb_calls.specs.declared.fault.Fault.{Fault}
 use Rattle.dconfdb_calls.specs.declared.fault.Fault.TheVariants.{Memory, TooBig}
 use Rattle.dconfdb_calls.specs.declared.opened.BadFile.{BadFile}
 
--- it is a database of another kind: what is salvaged, so many values and locks
+-- it is a database of another kind: what is salvaged, so many values and locks. What is told of it is why it is no sound one.
 pub record CountsSalvaged (file : List ℕ) (counted : Option (List ℕ)) (loss : Option Loss) : Type 0 where
   pub it : List ℕ
   pub lost : Loss
@@ -31,6 +33,7 @@ pub record CountsSalvaged (file : List ℕ) (counted : Option (List ℕ)) (loss 
   pub salvaged : IsSalvageOf file it lost.keys lost.locks
   pub counted_is : counted ≡ Some it
   pub loss_is : loss ≡ Some lost
+  pub told : IsToldOf (Some file) (number_of lost.bad.fault) lost.bad.unsound
 
 -- it is none: nothing
 pub record CountsNothing (file : List ℕ) (counted : Option (List ℕ)) (loss : Option Loss) : Type 0 where
@@ -41,6 +44,7 @@ pub record CountsNothing (file : List ℕ) (counted : Option (List ℕ)) (loss :
   pub loss_is : loss ≡ Some lost
   pub keys : lost.keys ≡ 0
   pub locks : lost.locks ≡ 0
+  pub told : IsToldOf (Some file) (number_of lost.bad.fault) lost.bad.unsound
 
 -- of one that dconf made of no key counts the sound database that it stands for
 abbrev pub CountsBad : List ℕ → Option (List ℕ) → Option Loss → Type 0

@@ -1,9 +1,11 @@
 //! What counts of a database's file where a bad one is not refused.
 ghost use Rattle.std.specs.Prelude.{◌≡◌, ℕ, List, IfOk, IfNone, IfSome, IsErrOf, None, Some, option_map, vec_items};
-ghost use Rattle.dconf_model.specs.Databases.{IsBad, IsGood, IsTooBig, Verdict};
+ghost use Rattle.dconf_model.specs.Databases.{IsGood, IsTooBig};
 ghost use Rattle.dconf_model.specs.Salvaging.{IsSalvaged};
 ghost use Rattle.dconf_model.specs.Settings.{Settings};
 ghost use Rattle.dconfdb_calls.specs.Keyless.{IsKeyless};
+ghost use Rattle.dconfdb_calls.specs.Numbers.{number_of};
+ghost use Rattle.dconfdb_calls.specs.Opened.{IsToldOf};
 ghost use Rattle.dconf_found.specs.FoundFolders.{Counts, CountsBad, IsOfNoDatabase, IsTooBigToCount, nothing_of};
 
 use dconf_folders::FolderFault;
@@ -45,7 +47,7 @@ pub fn counted(alloc: Global, file: Vec<u8>) -> Result<Counting, FolderFault>
 
 /// Why the bytes are no sound database, if they aren't.
 fn fault_of(file: &[u8]) -> Option<BadFile>
-    ensures bad { IfSome result (λ _. (v : Verdict) × IsBad (Some file.now) v) }
+    ensures bad { IfSome result (λ bad. IsToldOf (Some file.now) (number_of bad.fault) bad.unsound) }
     ensures good { IfNone result (IsGood (Some file.now)) }
 {
     match open_layer(file, true) {
@@ -56,7 +58,7 @@ fn fault_of(file: &[u8]) -> Option<BadFile>
 
 /// What counts of a bad one.
 fn counted_bad(alloc: Global, file: &[u8], bad: BadFile) -> Result<Counting, FolderFault>
-    requires { (v : Verdict) × IsBad (Some file.now) v }
+    requires { IsToldOf (Some file.now) (number_of bad.fault) bad.unsound }
     ensures counts { IfOk result (λ it. CountsBad file.now (option_map vec_items it.file) it.loss) }
     ensures too_big { IsErrOf result FolderFault.TooBig → (s : Settings) × IsSalvaged file.now s × IsTooBig s }
     ensures device { IsErrOf result FolderFault.Device → ⊥ }
@@ -73,7 +75,7 @@ fn counted_bad(alloc: Global, file: &[u8], bad: BadFile) -> Result<Counting, Fol
 
 /// What counts of one that is not dconf's without keys.
 fn salvaged(alloc: Global, file: &[u8], bad: BadFile) -> Result<Counting, FolderFault>
-    requires bad { (v : Verdict) × IsBad (Some file.now) v }
+    requires bad { IsToldOf (Some file.now) (number_of bad.fault) bad.unsound }
     requires other { (mended : List ℕ) → ¬ IsKeyless file.now mended }
     ensures counts { IfOk result (λ it. CountsBad file.now (option_map vec_items it.file) it.loss) }
     ensures too_big { IsErrOf result FolderFault.TooBig → (s : Settings) × IsSalvaged file.now s × IsTooBig s }

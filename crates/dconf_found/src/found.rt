@@ -40,7 +40,7 @@ pub struct FoundFolder<F> {
 }
 
 impl<F: Folder> FoundFolder<F> {
-    ghost use Rattle.dconf_found.specs.FoundFolders.{agrees, failures_of, inner_of, lost_of};
+    ghost use Rattle.dconf_found.specs.FoundFolders.{agrees, failures_of, inner_of, lookup_of, lost_of};
 
     /// The folder `inner`, with the profile in the file `profile`, or the one that was `made`, which is read by that name. If it is that of
     /// all users its databases of the system are files beside it.
@@ -53,6 +53,7 @@ impl<F: Folder> FoundFolder<F> {
         has_folder: bool,
     ) -> FoundFolder<F>
         ensures inner { inner_of result ≡ inner }
+        ensures lookup { lookup_of result ≡ record { profile = profile; made = made; is_everyones = is_everyones; has_folder = has_folder } }
         ensures lost { lost_of result ≡ [] }
         ensures agrees { agrees result ≡ true }
         ensures failures { failures_of result ≡ 0 }

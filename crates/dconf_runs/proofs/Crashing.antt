@@ -14,11 +14,7 @@ use Rattle.dconf_model.proofs.FolderLaws.{counts_now, longer}
 use Rattle.dconf_model.proofs.SurvivalLaws.{nothing_is_lost, next_run_finds_all}
 use Rattle.dconf_runs.specs.declared.attempt.Attempt.{Attempt}
 use Rattle.dconf_runs.specs.declared.request.Ended.{Ended}
-use Rattle.dconf_runs.specs.Programs.{asked_of, AreAttempts, IsAttempt, NothingIsLostBy}
-
--- one after another, in a folder that nothing else changes
-abbrev pub HaveComeInTurn : List Event → List Attempt → List (Option Ended) → List Event → Type 0
-HaveComeInTurn old attempts lefts new = (tried : List Tried) × AreAttempts attempts lefts tried × CameInTurn old tried new
+use Rattle.dconf_runs.specs.Programs.{asked_of, AreAttempts, HaveComeInTurn, IsAttempt, NothingIsLostBy}
 
 -- ---- one attempt more
 

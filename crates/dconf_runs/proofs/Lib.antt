@@ -1,3 +1,5 @@
 pub mod Inputs
 pub mod Turns
 pub mod Crashing
+pub mod CountedFiles
+pub mod BadTurns

@@ -11,7 +11,7 @@ use Rattle.dconf_model.specs.Outcomes.{Output}
 use Rattle.dconf_model.specs.Runs.{NoMemory}
 use Rattle.dconf_model.specs.Stores.{OwnValues, own_after}
 use Rattle.dconf_model.specs.Programs.{AreApart, FolderHolds, IsChangeOf, IsQuestion, OnlyReads, Prints, RanInTurn, Run, asked_change, if_done}
-use Rattle.dconf_model.specs.Survivals.{AskedCommand, AreKept, AreSettled, Attempt as Tried, FileHolds, RunEnd, asked_changes}
+use Rattle.dconf_model.specs.Survivals.{AskedCommand, AreKept, AreSettled, Attempt as Tried, CameInTurn, FileHolds, RunEnd, asked_changes}
 use Rattle.command_words.specs.Commands.{command_of}
 use Rattle.dconf_runs.specs.declared.request.Request.{Request}
 use Rattle.dconf_runs.specs.declared.request.Ended.{Ended}
@@ -21,41 +21,41 @@ use Rattle.dconf_runs.specs.declared.attempt.Attempt.{Attempt}
 use Rattle.dconf_runs.specs.declared.attempt.End.{End}
 use Rattle.dconf_runs.specs.declared.attempt.End.TheVariants.{Whole, Stopped, Crashed}
 
--- a run of this command and its input, with this status
-pub record IsRunOf (asked : AskedCommand) (status : ℕ) (r : Run) : Type 0 where
-  pub command_is : r.command ≡ asked.0
-  pub input_is : r.input ≡ asked.1
-  pub status_is : r.output.status ≡ status
-
-abbrev pub AreRunsOf : List AskedCommand → List ℕ → List Run → Type 0
-AreRunsOf [] [] [] = Unit {0}
-AreRunsOf (asked ∷ more) (status ∷ statuses) (r ∷ runs) = IsRunOf asked status r × AreRunsOf more statuses runs
-AreRunsOf _ _ _ = ⊥
-
--- one after another, in a folder that nothing else changes
-abbrev pub HasRunInTurn : List Event → List AskedCommand → List ℕ → List Event → Type 0
-HasRunInTurn old asked statuses new = (runs : List Run) × AreRunsOf asked statuses runs × RanInTurn old runs new
-
--- the changes of those that answered 0
-abbrev pub changes_done : List AskedCommand → List ℕ → List Change
-changes_done (asked ∷ more) (status ∷ statuses) = if_done status (asked_change asked.0 asked.1) ++ changes_done more statuses
-changes_done _ _ = []
-
--- Where the folder stood, the first runs changed its first database or only read, and the last one reads the store: the last one
--- prints what rows, changes, locks and the profile give.
-abbrev pub GivesWhatWasWritten : Content → List AskedCommand → List ℕ → Command → Output → Type 0
-GivesWhatWasWritten content earlier statuses last output =
-    (profile : List ℕ) (d : Database) (ds : List Database) (own : OwnValues) (gs : List Given) →
-    AreApart profile d ds → FolderHolds content profile d ds own gs → AllByRecursion (λ asked. IsChangeOf profile asked.0 ⊎ OnlyReads asked.0) earlier →
-    IsQuestion profile last →
-    Prints (d ∷ ds) (own_after gs own (changes_done earlier statuses)) gs last output ⊎ NoMemory output
-
 abbrev pub asked_of : Request → AskedCommand
 asked_of r = (command_of r.command, record { bytes = r.input.items; fails = false })
 
 -- what a run left is its output
 abbrev pub output_of : Ended → Output
 output_of e = record { out = e.out.items; err = e.err.items; status = e.status }
+
+-- a run of this command and its input, which left this
+pub record IsRunOf (asked : AskedCommand) (left : Ended) (r : Run) : Type 0 where
+  pub command_is : r.command ≡ asked.0
+  pub input_is : r.input ≡ asked.1
+  pub output_is : r.output ≡ output_of left
+
+abbrev pub AreRunsOf : List AskedCommand → List Ended → List Run → Type 0
+AreRunsOf [] [] [] = Unit {0}
+AreRunsOf (asked ∷ more) (left ∷ lefts) (r ∷ runs) = IsRunOf asked left r × AreRunsOf more lefts runs
+AreRunsOf _ _ _ = ⊥
+
+-- one after another, in a folder that nothing else changes
+abbrev pub HasRunInTurn : List Event → List AskedCommand → List Ended → List Event → Type 0
+HasRunInTurn old asked lefts new = (runs : List Run) × AreRunsOf asked lefts runs × RanInTurn old runs new
+
+-- the changes of those that answered 0
+abbrev pub changes_done : List AskedCommand → List Ended → List Change
+changes_done (asked ∷ more) (left ∷ lefts) = if_done left.status (asked_change asked.0 asked.1) ++ changes_done more lefts
+changes_done _ _ = []
+
+-- Where the folder stood, the first runs changed its first database or only read, and the last one reads the store: the last one
+-- prints what rows, changes, locks and the profile give.
+abbrev pub GivesWhatWasWritten : Content → List AskedCommand → List Ended → Command → Output → Type 0
+GivesWhatWasWritten content earlier lefts last output =
+    (profile : List ℕ) (d : Database) (ds : List Database) (own : OwnValues) (gs : List Given) →
+    AreApart profile d ds → FolderHolds content profile d ds own gs → AllByRecursion (λ asked. IsChangeOf profile asked.0 ⊎ OnlyReads asked.0) earlier →
+    IsQuestion profile last →
+    Prints (d ∷ ds) (own_after gs own (changes_done earlier lefts)) gs last output ⊎ NoMemory output
 
 -- it came to its end and left this, or a crash stopped it or came before it
 abbrev pub IsEndOf : End → Option Ended → RunEnd → Type 0
@@ -74,6 +74,10 @@ abbrev pub AreAttempts : List Attempt → List (Option Ended) → List Tried →
 AreAttempts [] [] [] = Unit {0}
 AreAttempts (attempt ∷ more) (left ∷ lefts) (tried ∷ others) = IsAttempt attempt left tried × AreAttempts more lefts others
 AreAttempts _ _ _ = ⊥
+
+-- one after another, in a folder that nothing else changes
+abbrev pub HaveComeInTurn : List Event → List Attempt → List (Option Ended) → List Event → Type 0
+HaveComeInTurn old attempts lefts new = (tried : List Tried) × AreAttempts attempts lefts tried × CameInTurn old tried new
 
 -- What is kept of them: some commands, in order. Of these the file says whatever a crash leaves of it, and the folder stands so.
 pub record IsKeptOf (tried : List Tried) (new : List Event) (profile : List ℕ) (d : Database) (ds : List Database) (own : OwnValues)

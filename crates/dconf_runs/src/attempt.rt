@@ -3,7 +3,7 @@ ghost use Rattle.std.specs.Prelude.{List, IfOk, length, ◌≡◌};
 ghost use Rattle.dconf_model.specs.Folders.{Event};
 ghost use Rattle.dconf_model.specs.Survivals.{Attempt as Tried, CameTo};
 ghost use Rattle.dconf_folders.specs.MemoryFolders.{IsPast};
-ghost use Rattle.dconf_runs.specs.Programs.{IsAttempt, NothingIsLostBy};
+ghost use Rattle.dconf_runs.specs.Programs.{HaveComeInTurn, IsAttempt, NothingIsLostBy};
 
 use crate::request::{Ended, Request, run_to_end, run_unread};
 use dconf_folders::{FolderFault, MemoryFolder};
@@ -36,6 +36,9 @@ pub fn run_through_crashes(
     attempts: Vec<Attempt>,
     folder: &mut MemoryFolder,
 ) -> Result<Vec<Option<Ended>>, FolderFault>
+    // Each attempt was made, in its place: a run that came to its end left its output, and any other was stopped as it was to be.
+    ensures ran { IfOk result (λ all. (old : List Event) → IsPast folder.old old
+        → (new : List Event) × IsPast folder.new new × HaveComeInTurn old attempts.items all.items new) }
     // The user's file says what the commands make that answered 0, and some of those that were stopped, in order.
     ensures kept { IfOk result (λ all. (old : List Event) → IsPast folder.old old
         → (new : List Event) × IsPast folder.new new × NothingIsLostBy old attempts.items all.items new) }

@@ -9,9 +9,11 @@
 #![tactic(auto)]
 
 mod attempt;
+mod laws;
 mod program;
 mod request;
 
 pub use attempt::{Attempt, End, run_through_crashes};
-pub use program::{Statuses, run_after};
+pub use laws::{counts_are_sound, files_count_alike, mixed_turns_mend_all};
+pub use program::{Left, run_after};
 pub use request::{Ended, Request};

@@ -74,9 +74,14 @@ pub(crate) fn run_to_end<F: Folder>(
     request: Request,
     folder: &mut F,
 ) -> Result<Ended, FolderFault>
+    ensures calm { IfOk result (λ ended. IsTrue (F.honest folder.new) → NoneFailed (F.failed folder.old) (F.failed folder.new)
+        → (old : List Event) → F.past folder.old old
+        → (new : List Event) × F.past folder.new new
+        × RanCalmly (asked_of request).0 (asked_of request).1 old new (output_of ended)) }
     ensures ran { IfOk result (λ ended. IsTrue (F.honest folder.new) → (old : List Event) → F.past folder.old old
         → (new : List Event) × F.past folder.new new
         × Ran (asked_of request).0 (asked_of request).1 old new (output_of ended)) }
+    ensures honest { IsTrue (F.honest folder.new) → IsTrue (F.honest folder.old) }
 {
     let mut out = Counted::new(Vec::new(alloc));
     let mut err = Counted::new(Vec::new(alloc));

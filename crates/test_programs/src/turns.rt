@@ -5,7 +5,7 @@ use crate::script::words_of;
 use crate::streams::{Source, Streams};
 use dconf_cli::{Asked, Command, command};
 use dconf_folders::{FolderFault, MemoryFolder};
-use dconf_runs::{Attempt, End, Ended, Request, Statuses, run_after, run_through_crashes};
+use dconf_runs::{Attempt, End, Ended, Left, Request, run_after, run_through_crashes};
 use std::alloc::{AllocError, Global};
 use std::test::Fail;
 use test_rows::script;
@@ -22,7 +22,21 @@ fn request(alloc: Global, asked: &str) -> Result<Request, Fail> {
     }
 }
 
-/// Does the runs, between which is a `;`. What they leave is the statuses of those before the last, and then its own and its text.
+/// The statuses of runs, whose texts are added.
+fn statuses_left(
+    alloc: Global,
+    lefts: &[Ended],
+    texts: &mut String,
+) -> Result<Vec<u8>, AllocError> {
+    let mut statuses = Vec::new(alloc);
+    for left in lefts {
+        texts.push_str(str::from_utf8(left.out.as_slice()).unwrap_or("?"))?;
+        statuses.push(left.status)?;
+    }
+    Ok(statuses)
+}
+
+/// Does the runs, between which is a `;`. What they leave is the statuses of those before the last, and then its own, and the texts of all.
 fn left_after(alloc: Global, folder: &mut MemoryFolder, asked: &str) -> Result<String, Fail> {
     let mut requests = Vec::new(alloc);
     for each in asked.split(';') {
@@ -32,9 +46,11 @@ fn left_after(alloc: Global, folder: &mut MemoryFolder, asked: &str) -> Result<S
         return Err(Fail::new("no run"));
     };
     let mut streams = Streams::calm(alloc, Source::bytes(b""));
-    let statuses = run_on(alloc, requests, last.command, folder, &mut streams)?;
+    let left = run_on(alloc, requests, last.command, folder, &mut streams)?;
+    let mut texts = String::new(alloc);
+    let earlier = statuses_left(alloc, left.earlier.as_slice(), &mut texts)?;
     let text = String::from_utf8_lossy(alloc, streams.out.get_ref().taken.as_slice())?;
-    Ok(format!(in alloc; "{:?} {}\n{text}", statuses.earlier, statuses.last)?)
+    Ok(format!(in alloc; "{earlier:?} {}\n{texts}{text}", left.last)?)
 }
 
 /// Does the runs, of which the last one has these streams.
@@ -44,7 +60,7 @@ fn run_on(
     last: Command,
     folder: &mut MemoryFolder,
     streams: &mut Streams<'_>,
-) -> Result<Statuses, FolderFault> {
+) -> Result<Left, FolderFault> {
     let err = &mut streams.err;
     run_after(alloc, earlier, last, folder, &mut streams.out, err)
 }
@@ -56,6 +72,7 @@ $ read /a/k => [] 0
 $ write /b 1;write /b 2;reset /a/k;read /b => [0, 0, 0] 0
 2
 $ write /b 1;read /b;reset /a/k;read /a/k => [0, 0, 0] 0
+1
 2
 $ write /x 1;write /b 'y';write /b y;write b 1;dump / => [1, 0, 1, 1] 0
 [/]

@@ -1,6 +1,6 @@
 use Rattle.std.proofs.Common.{◌∙◌}
 use Rattle.dconf_cli.proofs.Given.{zero_is_done}
-use Rattle.dconf_cli.proofs.Runs.{ran, ran_anywhere, ran_calmly, says_failed_input, zero_keeps, zero_keeps_input}
+use Rattle.dconf_cli.proofs.Runs.{keeps_without_memory, ran, ran_anywhere, ran_calmly, says_failed_input, zero_keeps, zero_keeps_input}
 use Rattle.dconf_cli.proofs.command_run.run.Goals as goal
 
 pub returns-clause-calm : goal.returns-clause-calm
@@ -19,8 +19,8 @@ returns-clause-ran g c = λ honest es es_is.
     a.2 end.1 (c.bring_about.ensures.honest honest) es es_is in
     (a.0, a.1, (r.0, r.1, (end.0, r.2, r.3, end.2)))
 
-pub returns-clause-anywhere : goal.returns-clause-anywhere
-returns-clause-anywhere g c =
+pub returns-clause-memory : goal.returns-clause-memory
+returns-clause-memory g c =
     let a = c.answered-answer.ensures.answer in
     let end = c.bring_about.ensures.ended in (
       a.0,
@@ -29,9 +29,14 @@ returns-clause-anywhere g c =
         end.0,
         ran_anywhere g.F.Folder _ a.0 c.args.folder.now
             c.answered-answer.new.folder c.bring_about.new.folder c.answered-answer.result end.0 a.2 end.1,
+        keeps_without_memory g.F.Folder _ a.0 c.args.folder.now
+            c.answered-answer.new.folder c.bring_about.new.folder c.answered-answer.result end.0 a.2 end.1,
         end.2,
       ),
     )
+
+pub returns-clause-anywhere : goal.returns-clause-anywhere
+returns-clause-anywhere g c = let all = returns-clause-memory g c in (all.0, all.1, (all.2.0, all.2.1, all.2.3))
 
 pub returns-clause-failed_input : goal.returns-clause-failed_input
 returns-clause-failed_input g c = λ failed.

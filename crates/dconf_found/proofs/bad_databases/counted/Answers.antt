@@ -1,8 +1,10 @@
 use Rattle.std.proofs.Common.{inl, inr, Some, option_map, subst, vec_items}
 use Rattle.std.proofs.lemmas.Result.{IfOk-weaker}
-use Rattle.dconf_model.specs.Databases.{IsBad, IsTooBig, Verdict}
+use Rattle.dconf_model.specs.Databases.{IsTooBig}
 use Rattle.dconf_model.specs.Salvaging.{IsSalvaged}
 use Rattle.dconf_model.specs.Settings.{Settings}
+use Rattle.dconfdb_calls.specs.Numbers.{number_of}
+use Rattle.dconfdb_calls.specs.Opened.{IsToldOf}
 use Rattle.dconf_found.specs.FoundFolders.{CountsBad}
 use Rattle.dconf_found.proofs.bad_databases.counted.Goals as goal
 
@@ -13,5 +15,5 @@ returns-in-Some-clause-counts c =
 
 pub returns-in-Some-clause-too_big : goal.returns-in-Some-clause-too_big
 returns-in-Some-clause-too_big c e =
-    let bad = subst (λ file. (v : Verdict) × IsBad (Some file) v) c.deref.ensures.value c.in-Some.ensures.bad in
+    let bad = subst (λ file. IsToldOf (Some file) (number_of c.in-Some.bad.fault) c.in-Some.bad.unsound) c.deref.ensures.value c.in-Some.ensures.bad in
     inl (bad.0, bad.1, subst (λ file. (s : Settings) × IsSalvaged file s × IsTooBig s) c.deref-in-Some.ensures.value (c.counted_bad.ensures.too_big e))

@@ -4,8 +4,9 @@ use Rattle.std.proofs.lemmas.Iterator.Adapters.{YieldsList-from_vec}
 use Rattle.std.proofs.lemmas.Iterator.Consumers.{YieldsList-end}
 use Rattle.dconf_runs.specs.declared.attempt.Attempt.{Attempt}
 use Rattle.dconf_runs.specs.declared.request.Ended.{Ended}
+use Rattle.dconf_runs.specs.Programs.{HaveComeInTurn}
 use Rattle.dconf_runs.proofs.Inputs.{pushed}
-use Rattle.dconf_runs.proofs.Crashing.{nothing_is_lost_by, one_attempt_more, HaveComeInTurn}
+use Rattle.dconf_runs.proofs.Crashing.{nothing_is_lost_by, one_attempt_more}
 use Rattle.dconf_runs.proofs.attempt.run_through_crashes.Goals as goal
 
 pub loop-attempt-preserved : goal.loop-attempt-preserved
@@ -23,11 +24,16 @@ loop-attempt-preserved c =
       ap length grown ∙ length_push at.all.items c.in_ok-ended.ended ∙ ap (λ n. n + 1) at.invariant.1 ∙ sym (length_push at.yielded c.in-Some.attempt),
     )
 
-pub returns-clause-kept : goal.returns-clause-kept
-returns-clause-kept c = λ old past.
+pub returns-clause-ran : goal.returns-clause-ran
+returns-clause-ran c = λ old past.
     let at = c.loop-attempt in
     let now = at.invariant.0 old past in
     let end = YieldsList-end (YieldsList-from_vec {s = c.into_iter-attempt-iterator.result} c.args.attempts.items (search rules) (search rules))
     at.yielded at.attempt-iterator at.yielded_by c.next.result c.next.new.self c.in-None.is c.next.ensures.steps in
     let each : at.yielded ≡ c.args.attempts.items = sym (map-id at.yielded) ∙ end.0 in
-    (now.0, now.1, nothing_is_lost_by old now.0 c.args.attempts.items at.all.items (subst (λ (xs : List Attempt). HaveComeInTurn old xs at.all.items now.0) each now.2))
+    (now.0, now.1, subst (λ (xs : List Attempt). HaveComeInTurn old xs at.all.items now.0) each now.2)
+
+pub returns-clause-kept : goal.returns-clause-kept
+returns-clause-kept c = λ old past.
+    let came = returns-clause-ran c old past in
+    (came.0, came.1, nothing_is_lost_by old came.0 c.args.attempts.items c.loop-attempt.all.items came.2)
