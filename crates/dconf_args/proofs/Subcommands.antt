@@ -253,13 +253,14 @@ module _ (words : List Text) (name : Text) (sub : ArgMatches) (p : IsNamedBy wor
     dry_value = ap is_set (sym (first_value-rows (found_of sub) (codes "dry-run"))) ∙ sym h;
   }
 
-  pub asks_to_compare : (old new : Text) → name ≡ codes "diff" → first_value (found_of sub) (codes "OLD") ≡ Some old
-      → first_value (found_of sub) (codes "NEW") ≡ Some new → AsksToCompare words old new
-  asks_to_compare old new is f g = record {
+  pub asks_to_compare : (old new : Text) (json : Bool) → name ≡ codes "diff" → first_value (found_of sub) (codes "OLD") ≡ Some old
+      → first_value (found_of sub) (codes "NEW") ≡ Some new → json ≡ is_set (first_value (found_of sub) (codes "json")) → AsksToCompare words old new json
+  asks_to_compare old new json is f g j = record {
     rows = rows_of (found_of sub);
     named = p.named ∙ ap (λ (n : Text). Some (n, rows_of (found_of sub))) is;
     old_value = sym (first_value-rows (found_of sub) (codes "OLD")) ∙ f;
     new_value = sym (first_value-rows (found_of sub) (codes "NEW")) ∙ g;
+    json_value = ap is_set (sym (first_value-rows (found_of sub) (codes "json"))) ∙ sym j;
   }
 
   -- and its options say where the store is

@@ -98,12 +98,13 @@ pub record AsksToUpdate (words : List Text) (folder : Option Text) (forces dry :
   pub force_value : is_set (first_of (codes "force") rows) ≡ forces
   pub dry_value : is_set (first_of (codes "dry-run") rows) ≡ dry
 
--- the words name `diff`, and clap gives its arguments these values
-pub record AsksToCompare (words : List Text) (old new : Text) : Type 0 where
+-- the words name `diff`, and clap gives its arguments these values, and this one to its flag
+pub record AsksToCompare (words : List Text) (old new : Text) (json : Bool) : Type 0 where
   pub rows : List Row
   pub named : subcommand_of command_line words ≡ Some (codes "diff", rows)
   pub old_value : first_of (codes "OLD") rows ≡ Some old
   pub new_value : first_of (codes "NEW") rows ≡ Some new
+  pub json_value : is_set (first_of (codes "json") rows) ≡ json
 
 -- clap gives these values to the options of the command, whichever it is, that say where its store is
 pub record IsPlacedBy (words : List Text) (place : Place) : Type 0 where
@@ -126,4 +127,4 @@ pub record IsFormedBy (words : List Text) (is_json : Bool) : Type 0 where
 abbrev pub Asks : List Text → Asked → Type 0
 Asks words (Run command place is_json) = IsAskedBy words command × (IsPlacedBy words place × IsFormedBy words is_json)
 Asks words (Update folder forces dry) = AsksToUpdate words (option_map string_bytes folder) forces dry
-Asks words (Diff old new) = AsksToCompare words (string_bytes old) (string_bytes new)
+Asks words (Diff old new json) = AsksToCompare words (string_bytes old) (string_bytes new) json

@@ -73,9 +73,9 @@ read_line = with_store (with_rule (with_rule (with_rule (new_app (codes "read"))
 abbrev pub origin_line : App
 origin_line = with_store (with_rule (new_app (codes "origin")) (required_word (codes "KEY")))
 
--- `explain PATH`
+-- `explain [--json] PATH`
 abbrev pub explain_line : App
-explain_line = with_store (with_rule (new_app (codes "explain")) (required_word (codes "PATH")))
+explain_line = with_store (with_rule (with_rule (new_app (codes "explain")) (required_word (codes "PATH"))) json_flag)
 
 -- `repair FILE OUT`
 abbrev pub repair_line : App
@@ -114,9 +114,9 @@ reset_line = with_store (with_rule (with_rule (new_app (codes "reset")) (require
 abbrev pub load_line : App
 load_line = with_store (with_rule (with_rule (with_rule (new_app (codes "load")) (required_word (codes "DIR"))) force_flag) skip_doubles_flag)
 
--- `diff OLD NEW`
+-- `diff [--json] OLD NEW`
 abbrev pub diff_line : App
-diff_line = with_rule (with_rule (new_app (codes "diff")) (required_word (codes "OLD"))) (required_word (codes "NEW"))
+diff_line = with_rule (with_rule (with_rule (new_app (codes "diff")) (required_word (codes "OLD"))) (required_word (codes "NEW"))) json_flag
 
 -- `dconfdb`, which wants a subcommand and has a version
 abbrev pub dconfdb_line : App

@@ -141,7 +141,7 @@ pub(crate) const COMMANDS: [Line<'static>; 15] = [
         ),
         words: &[
             word::DIR,
-            word::JSON_NAMES,
+            word::JSON,
             Word::Profile,
             word::USER,
             Word::Store,
@@ -190,14 +190,20 @@ pub(crate) const COMMANDS: [Line<'static>; 15] = [
         ),
         words: &[word::KEY, Word::Profile, word::USER, Word::Store],
     },
-    // `explain PATH`.
+    // `explain [--json] PATH`.
     Line {
         name: "explain",
         about: "Print what each database has for a key, what is seen, and whether it can be set",
         more: read_help!(
             examples: "  dconfdb explain /org/desk/name\n  dconfdb explain /org/desk/"
         ),
-        words: &[word::EXPLAINED, Word::Profile, word::USER, Word::Store],
+        words: &[
+            word::EXPLAINED,
+            word::JSON,
+            Word::Profile,
+            word::USER,
+            Word::Store,
+        ],
     },
     // `list-locks DIR`.
     Line {
@@ -208,7 +214,7 @@ pub(crate) const COMMANDS: [Line<'static>; 15] = [
         ),
         words: &[word::DIR, Word::Profile, word::USER, Word::Store],
     },
-    // `diff OLD NEW`.
+    // `diff [--json] OLD NEW`.
     Line {
         name: "diff",
         about: "Print which keys and locks differ between two stores or databases",
@@ -217,7 +223,7 @@ pub(crate) const COMMANDS: [Line<'static>; 15] = [
             "              is a keyfile that makes OLD like NEW, with what it changes in comments";
             examples: "  dconfdb diff site.db new.db\n  dconfdb diff . ~/.config/dconfdb"
         ),
-        words: &[word::OLD, word::NEW],
+        words: &[word::OLD, word::NEW, word::JSON],
     },
     // `compile OUT [--locks FILE].. [KEYFILE..]`.
     Line {

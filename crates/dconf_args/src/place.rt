@@ -37,5 +37,7 @@ pub enum Asked {
     Diff {
         old: String,
         new: String,
+        /// What it prints is JSON, `--json`.
+        is_json: bool,
     },
 }

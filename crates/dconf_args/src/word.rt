@@ -153,13 +153,7 @@ pub(crate) const OWN: Word<'static> = Word::Long {
 /// Whether JSON is printed.
 pub(crate) const JSON: Word<'static> = Word::Long {
     name: "json",
-    help: "print JSON: each value's GVariant text is a string",
-};
-
-/// Whether JSON is printed of names.
-pub(crate) const JSON_NAMES: Word<'static> = Word::Long {
-    name: "json",
-    help: "print the names as a JSON array of strings",
+    help: "print JSON",
 };
 
 /// Whether each database is made, whatever is there.

@@ -50,6 +50,7 @@ fn all_asked(alloc: Global, matches: &ArgMatches<'_>) -> Result<Asked, AllocErro
         return Ok(Asked::Diff {
             old: value(alloc, named, "OLD")?,
             new: value(alloc, named, "NEW")?,
+            is_json: is_given(named, "json"),
         });
     }
     let place = placed(alloc, named)?;

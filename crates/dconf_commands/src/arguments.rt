@@ -14,7 +14,7 @@ use gv_tree::Tree;
 use std::alloc::Global;
 
 /// The path of a key that a word spells.
-pub(crate) fn key_argument<'a>(alloc: Global, word: &'a str) -> Result<KeyPath<'a>, Refusal>
+pub fn key_argument<'a>(alloc: Global, word: &'a str) -> Result<KeyPath<'a>, Refusal>
     ensures ok { IfOk result (λ key. key_text key ≡ word.entry.now) }
     ensures faultless { OnOk result (key_fault word.entry.now ≡ None) }
     ensures err { IfErr result (λ refusal. GivesOutcome (Err refusal) (UnlessFault (key_fault word.entry.now) NoOutcome)) }
@@ -26,7 +26,7 @@ pub(crate) fn key_argument<'a>(alloc: Global, word: &'a str) -> Result<KeyPath<'
 }
 
 /// The path of a directory that a word spells.
-pub(crate) fn directory_argument<'a>(alloc: Global, word: &'a str) -> Result<DirPath<'a>, Refusal>
+pub fn directory_argument<'a>(alloc: Global, word: &'a str) -> Result<DirPath<'a>, Refusal>
     ensures ok { IfOk result (λ directory. directory_text directory ≡ word.entry.now) }
     ensures faultless { OnOk result (directory_fault word.entry.now ≡ None) }
     ensures err { IfErr result (λ refusal. GivesOutcome (Err refusal) (UnlessFault (directory_fault word.entry.now) NoOutcome)) }

@@ -34,6 +34,7 @@ pub(crate) use explain::explained_text;
 use list::{list, list_locks};
 use load::load;
 use origin::origin;
+pub use origin::place_name;
 use read::read;
 use repair::repair;
 use reset::reset;

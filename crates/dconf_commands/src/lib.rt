@@ -17,5 +17,7 @@ mod printed_value;
 mod store_files;
 mod user_database;
 
+pub use arguments::{directory_argument, key_argument};
 pub use below::answered_below;
-pub use commands::answered;
+pub use commands::{answered, place_name};
+pub use store_files::{StoreFiles, databases, profile};

@@ -20,8 +20,8 @@ use std::alloc::{AllocError, Global};
 
 /// A profile, and the bytes of the databases that it names.
 #[derive(Drop)]
-pub(crate) struct StoreFiles<'a> {
-    pub(crate) profile: Profile<'a>,
+pub struct StoreFiles<'a> {
+    pub profile: Profile<'a>,
     /// In the profile's order; of a missing one there are none.
     databases: Vec<Option<Vec<u8>>>,
 }
@@ -30,7 +30,7 @@ impl<'a> StoreFiles<'a> {
     ghost use Rattle.dconf_commands.specs.Stores.{HasStore, IsStoreOf, NoLayers, items_of, named_by};
 
     /// Reads the databases that a profile names, in their order, by the profile's file.
-    pub(crate) fn read<'f: 'a, F: Folder>(
+    pub fn read<'f: 'a, F: Folder>(
         alloc: Global,
         folder: &mut F,
         file: &'a NamedFile<'f>,
@@ -45,7 +45,7 @@ impl<'a> StoreFiles<'a> {
     }
 
     /// The layers of the databases, or the refusal for the first that is no sound one.
-    pub(crate) fn layers(&self, alloc: Global) -> Result<Vec<Layer<'_>>, Refusal>
+    pub fn layers(&self, alloc: Global) -> Result<Vec<Layer<'_>>, Refusal>
         ensures ok { IfOk result (λ layers. AreLayers (items_of self.now) (map settings_of layers.items)) }
         ensures err { IfErr result (λ refusal. GivesOutcome (Err refusal) (WithLayers (items_of self.now) (has_writable (named_by self.now)) NoLayers)) }
     {
@@ -84,11 +84,7 @@ fn lent(alloc: Global, items: &[Option<Vec<u8>>]) -> Result<Vec<Option<&[u8]>>, 
 }
 
 /// The profile of its file's bytes, or the refusal of its first line at fault.
-pub(crate) fn profile<'a>(
-    alloc: Global,
-    name: &str,
-    bytes: &'a [u8],
-) -> Result<Profile<'a>, Refusal>
+pub fn profile<'a>(alloc: Global, name: &str, bytes: &'a [u8]) -> Result<Profile<'a>, Refusal>
     ensures ok { IfOk result (λ profile. profile_of bytes.entry.now ≡ Ok (databases_of profile)) }
     ensures err { IfErr result (λ refusal. GivesOutcome (Err refusal) (OrLine name.now (profile_of bytes.entry.now) NoDatabases)) }
 {
@@ -104,7 +100,7 @@ pub(crate) fn profile<'a>(
 }
 
 /// The bytes of databases, in their order; of a missing one there are none.
-pub(crate) fn databases<F: Folder>(
+pub fn databases<F: Folder>(
     alloc: Global,
     databases: &[Database<'_>],
     folder: &mut F,

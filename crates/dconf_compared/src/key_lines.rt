@@ -16,7 +16,7 @@ use gv_view::View;
 use std::alloc::{AllocError, Global};
 
 /// The keys that are seen otherwise through the second layers than through the first, in the order of their bytes.
-pub(crate) fn changed(
+pub fn changed(
     alloc: Global,
     first: LentLayers<'_, '_>,
     second: LentLayers<'_, '_>,

@@ -16,4 +16,6 @@ mod single;
 
 pub use as_keyfile::{Undumped, difference};
 pub use as_lines::changes;
+pub use key_lines::changed;
+pub use lock_lines::{is_none_of, locks_of};
 pub use single::alone;

@@ -28,7 +28,7 @@ pub(crate) fn lock_lines(
 }
 
 /// The locks of the layers from the second on, in the order of their bytes.
-fn locks_of(alloc: Global, layers: LentLayers<'_, '_>) -> Result<Vec<String>, AllocError>
+pub fn locks_of(alloc: Global, layers: LentLayers<'_, '_>) -> Result<Vec<String>, AllocError>
     ensures { IfOk result (λ locks. map string_bytes locks.items ≡ locks_below (seen_in layers.entry) (codes "/")) }
 {
     let engine = Engine::of_layers(alloc, layers.writable, layers.layers)?;
@@ -64,7 +64,7 @@ fn line_of(alloc: Global, start: &str, lock: &str, others: &[String]) -> Result<
 }
 
 /// Whether a path is none of these, which are in the order of their bytes: it is searched for by halving.
-fn is_none_of(paths: &[String], path: &str) -> bool
+pub fn is_none_of(paths: &[String], path: &str) -> bool
     requires { IsRising (map string_bytes paths.now) }
     ensures { result ≡ is_none_of (map string_bytes paths.now) path.now }
 {

@@ -1,25 +1,29 @@
--- Lines of JSON. RFC 8259, by the kit's `json`: `print` writes a string in quotation marks, with a backslash before each of these and
--- before the reverse solidus, and each control character by its letter or its number (section 7); `tokens` reads a text.
-use Rattle.std.specs.Prelude.{◌≡◌, ℕ, List, [], ◌∷◌, ◌++◌, Option, Some, None, flat_map, map, option_map, string_bytes}
+-- Lines of JSON, as RFC 8259 has them.
+use Rattle.std.specs.Prelude.{◌≡◌, ℕ, List, [], ◌∷◌, ◌++◌, Bool, Option, Some, None, flat_map, map}
 use Rattle.json.specs.Lex.{tokens}
 use Rattle.json.specs.Print.{print}
-use Rattle.json.specs.Token.{Token, begin_array, begin_object, end_array, end_object, key, null, string}
-use Rattle.dconf_json.specs.declared.lines.Member.{Member}
+use Rattle.json.specs.Token.{Token, begin_array, begin_object, end_array, end_object, key, string}
+use Rattle.dconf_json.specs.Values.{value_tokens}
 
--- a text of these tokens, and a line feed; whoever reads it finds them
-pub record IsLineOf (ts : List Token) (line : List ℕ) : Type 0 where
-  pub ends : line ≡ print ts ++ 10 ∷ []
-  pub reads_back : tokens (print ts) ≡ ts
+-- a text of these tokens, and a line feed
+abbrev pub line : List Token → List ℕ
+line ts = print ts ++ 10 ∷ []
 
-abbrev pub array_tokens : List (List ℕ) → List Token
-array_tokens texts = begin_array ∷ (map string texts ++ end_array ∷ [])
+-- names, as an array in their order
+abbrev pub names_tokens : List (List ℕ) → List Token
+names_tokens names = begin_array ∷ (map string names ++ end_array ∷ [])
 
-abbrev pub text_token : Option (List ℕ) → Token
-text_token (Some text) = string text
-text_token None = null
+-- the value that is seen at a path, if any is
+abbrev pub member_tokens : Bool → List ℕ × Option (List ℕ) → List Token
+member_tokens skips (path, None) = []
+member_tokens skips (path, Some bytes) = key path ∷ value_tokens skips (Some bytes)
 
-abbrev pub member_tokens : Member → List Token
-member_tokens m = key (string_bytes m.path) ∷ (text_token (option_map string_bytes m.text) ∷ [])
+-- values by their paths, as an object in that order
+abbrev pub members_tokens : Bool → List (List ℕ × Option (List ℕ)) → List Token
+members_tokens skips rows = begin_object ∷ (flat_map (member_tokens skips) rows ++ end_object ∷ [])
 
-abbrev pub object_tokens : List Member → List Token
-object_tokens members = begin_object ∷ (flat_map member_tokens members ++ end_object ∷ [])
+-- ---- law
+
+-- a reader finds the tokens of a line
+abbrev pub IsReadBack : List Token → Type 0
+IsReadBack ts = tokens (print ts) ≡ ts

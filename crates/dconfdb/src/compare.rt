@@ -7,6 +7,7 @@ use crate::stores::{Databases, databases_by, found_folder, layers_of};
 use dconf_args::Place;
 use dconf_compared::{Undumped, difference};
 use dconf_disk::StdFolder;
+use dconf_json::difference_lines;
 use dconf_layers::{Layer, LentLayers};
 use dconf_streams::{Refusal, file, refused};
 use dconf_surroundings::enter;
@@ -14,7 +15,7 @@ use std::alloc::Global;
 use std::env;
 
 /// Prints what differs, and gives the status.
-pub(crate) fn compare(rt: &HostRuntime, old: &str, new: &str) -> u8 {
+pub(crate) fn compare(rt: &HostRuntime, old: &str, new: &str, is_json: bool) -> u8 {
     let Ok(here) = env::current_dir(rt) else {
         return refuse_device(rt, ".");
     };
@@ -30,7 +31,7 @@ pub(crate) fn compare(rt: &HostRuntime, old: &str, new: &str) -> u8 {
         Ok(side) => side,
         Err(status) => return status,
     };
-    match compared(rt.alloc(), &first, &second) {
+    match compared(rt.alloc(), &first, &second, is_json) {
         Ok(text) => status_of(print!(rt; "{}", text.as_str())),
         Err(refusal) => refuse_for(rt, &refusal),
     }
@@ -86,15 +87,21 @@ fn side(rt: &HostRuntime, name: &str) -> Result<Databases, u8> {
     }
 }
 
-fn compared(alloc: Global, first: &Databases, second: &Databases) -> Result<String, Refusal> {
+/// What differs, as a keyfile, or, where `is_json`, as JSON.
+fn compared(
+    alloc: Global,
+    first: &Databases,
+    second: &Databases,
+    is_json: bool,
+) -> Result<String, Refusal> {
     let before = layers_of(alloc, first)?;
     let after = layers_of(alloc, second)?;
-    let differs = difference(
-        alloc,
-        LentLayers::new(first.is_writable, &before),
-        LentLayers::new(second.is_writable, &after),
-    );
-    match differs {
+    let before = LentLayers::new(first.is_writable, &before);
+    let after = LentLayers::new(second.is_writable, &after);
+    if is_json {
+        return Ok(difference_lines(alloc, before, after)?);
+    }
+    match difference(alloc, before, after) {
         Ok(text) => Ok(text),
         Err(Undumped::Path { cause, path }) => Err(refused(alloc, format_args!("{cause} {path}"))),
         Err(Undumped::Memory) => Err(Refusal::Memory),

@@ -65,7 +65,7 @@ pub(crate) fn run_or_dump<I: Read, O: Write, E: Write>(
         }
     }
     if is_json {
-        return answer(rt, asked, place);
+        return answer(rt, asked, place, true);
     }
     run_at(rt, asked, place, session)
 }
@@ -132,7 +132,7 @@ fn dump<I: Read, O: Write, E: Write>(
         profile,
     };
     if is_json {
-        return answer_in(rt, &command, &mut folder, None);
+        return answer_in(rt, &command, true, &mut folder, None);
     }
     let given = Given::of(rt, &command);
     let status = run(

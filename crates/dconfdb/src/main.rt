@@ -87,7 +87,7 @@ fn done(rt: &HostRuntime, asked: Asked) -> u8 {
             is_json,
         } => {
             if matches!(&command, Command::Explain { key, .. } if key.ends_with('/')) {
-                return answer(rt, command, place);
+                return answer(rt, command, place, is_json);
             }
             let mut session = Session::on(rt.alloc(), rt.stdin(), rt.stdout(), rt.stderr());
             run_or_dump(rt, as_in_dconf(command), place, is_json, &mut session)
@@ -97,6 +97,6 @@ fn done(rt: &HostRuntime, asked: Asked) -> u8 {
             forces,
             is_dry,
         } => update(rt, folder, forces, is_dry),
-        Asked::Diff { old, new } => compare(rt, old.as_str(), new.as_str()),
+        Asked::Diff { old, new, is_json } => compare(rt, old.as_str(), new.as_str(), is_json),
     }
 }

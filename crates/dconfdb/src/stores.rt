@@ -1,11 +1,11 @@
 //! A store that was found, as it is read.
+use dconf_commands::{databases, profile};
 use dconf_disk::{Folder, StdFolder};
-use dconf_engine::{EngineFault, open_layers};
+use dconf_engine::{EngineFault, is_of_user, open_layers};
 use dconf_found::{FoundFolder, RenamedFolder};
 use dconf_layers::Layer;
-use dconf_path::{DatabaseKind, Profile, ProfileFault, read_profile, settings_text};
 use dconf_places::file_name;
-use dconf_streams::{NamedFile, Refusal, file_if_any, named_file, refused, refused_at};
+use dconf_streams::{Refusal, file_if_any, named_file, refused};
 use dconf_surroundings::Found;
 use std::alloc::{AllocError, Global};
 
@@ -32,19 +32,6 @@ pub(crate) fn found_folder<'a>(
     ))
 }
 
-/// The profile in a file, or the refusal of its first line at fault.
-fn profile_in<'a>(alloc: Global, file: &'a NamedFile<'_>) -> Result<Profile<'a>, Refusal> {
-    let text = match settings_text(&file.bytes) {
-        Ok(text) => text,
-        Err(fault) => return Err(refused_at(alloc, file.name, fault.line(), fault)),
-    };
-    match read_profile(alloc, text) {
-        Ok(profile) => Ok(profile),
-        Err(ProfileFault::Fault(flaw)) => Err(refused_at(alloc, file.name, flaw.line(), flaw)),
-        Err(ProfileFault::Memory) => Err(Refusal::Memory),
-    }
-}
-
 /// The databases that a profile names, in its order, and whether the first is the user's.
 #[derive(Drop)]
 pub(crate) struct Databases {
@@ -59,17 +46,11 @@ pub(crate) fn databases_by<F: Folder>(
     name: &str,
 ) -> Result<Databases, Refusal> {
     let file = named_file(alloc, folder, name)?;
-    let named = profile_in(alloc, &file)?;
-    let mut files = Vec::new(alloc);
-    for database in named.databases() {
-        let name = file_name(alloc, *database)?;
-        files.push(file_if_any(alloc, folder, name.as_str())?)?;
-    }
-    let is_writable = match named.databases().first() {
-        Some(first) => first.kind == DatabaseKind::User,
-        None => false,
-    };
-    Ok(Databases { files, is_writable })
+    let named = profile(alloc, file.name, &file.bytes)?;
+    Ok(Databases {
+        files: databases(alloc, named.databases(), folder)?,
+        is_writable: is_of_user(&named),
+    })
 }
 
 /// Reads the user's database by the profile of this name.
@@ -79,9 +60,9 @@ pub(crate) fn users_own<F: Folder>(
     name: &str,
 ) -> Result<Option<Vec<u8>>, Refusal> {
     let file = named_file(alloc, folder, name)?;
-    let named = profile_in(alloc, &file)?;
+    let named = profile(alloc, file.name, &file.bytes)?;
     match named.databases().first() {
-        Some(first) if first.kind == DatabaseKind::User => {
+        Some(first) if is_of_user(&named) => {
             let name = file_name(alloc, *first)?;
             file_if_any(alloc, folder, name.as_str())
         }

@@ -26,7 +26,9 @@ fn replaced_text(alloc: Global, line: &str) -> Result<String, Fail> {
                 is_dry,
             },
         ) => Ok(format!(in alloc; "{folder:?} {forces} {is_dry}")?),
-        Ok(Asked::Diff { old, new }) => Ok(format!(in alloc; "{old:?} {new:?}")?),
+        Ok(Asked::Diff { old, new, is_json }) => {
+            Ok(format!(in alloc; "{old:?} {new:?} {is_json}")?)
+        }
         Err(_) => Err(Fail::new("the words are refused")),
     }
 }
@@ -66,8 +68,9 @@ update a | Some("a") false false
 update --force a | Some("a") true false
 update a --dry-run | Some("a") false true
 update --dry-run --force | None true true
-diff a b | "a" "b"
-diff -- --x y | "--x" "y"
+diff a b | "a" "b" false
+diff -- --x y | "--x" "y" false
+diff --json a b | "a" "b" true
 "#;
 
 const PLACES: &str = r#"

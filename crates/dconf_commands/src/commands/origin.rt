@@ -53,11 +53,7 @@ fn placed(alloc: Global, profile: &Profile<'_>, i: usize) -> Result<Answer, Refu
 }
 
 /// The index of a database, and its line of the profile.
-pub(crate) fn place_name(
-    alloc: Global,
-    profile: &Profile<'_>,
-    i: usize,
-) -> Result<String, AllocError>
+pub fn place_name(alloc: Global, profile: &Profile<'_>, i: usize) -> Result<String, AllocError>
     ensures { IfOk result (λ text. string_bytes text ≡ place_name (databases_of profile.entry.now) i) }
 {
     match profile.databases().get(i) {

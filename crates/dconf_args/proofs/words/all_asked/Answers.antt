@@ -36,7 +36,7 @@ pub returns-then-eq-2 : goal.returns-then-eq-2
 returns-then-eq-2 c = λ words p.
     let named = named_by words c.args.matches.now p (λ q. q.0.now) (λ q. rows_of (found_of q.1.now)) c.subcommand.result c.subcommand.ensures.name c.subcommand.ensures.rows
     c.unwrap.result c.unwrap.result.1.now c.unwrap.ensures refl in
-    asks_to_compare words _ _ named _ _ (search rules) c.in_ok-value.ensures c.in_ok-value-2.ensures
+    asks_to_compare words _ _ named _ _ _ (search rules) c.in_ok-value.ensures c.in_ok-value-2.ensures (search rules)
 
 pub returns : goal.returns
 returns c = λ words p.
