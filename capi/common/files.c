@@ -126,11 +126,8 @@ typedef struct {
     uint32_t kind, told;
 } Standing;
 
-/* The same facts have the same answer, and aren't asked of again. */
 static void ask(Standing *it, const struct stat *found, int fault)
 {
-    if (fault == 0 && found->st_mode == it->stood.mode && (uint64_t)found->st_size == it->stood.size)
-        return;
     it->stood.fault = (uint32_t)fault;
     it->stood.mode = fault == 0 ? found->st_mode : 0;
     it->stood.size = fault == 0 ? (uint64_t)found->st_size : 0;

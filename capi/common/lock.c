@@ -365,7 +365,7 @@ static uint32_t try_it(void *it, int *fault)
 
 static int take(const char *folder, int milliseconds, bool makes, FolderLock *lock)
 {
-    Awaited awaited = {.folder = folder, .has_end = milliseconds != WITHOUT_END, .makes = makes, .lock = lock};
+    Awaited awaited = {.folder = folder, .has_end = milliseconds >= 0, .makes = makes, .lock = lock};
     int cancels = hold_cancellation();
     lock->folder = lock->file = NO_FOLDER;
     lock->is_others = false;

@@ -17,7 +17,7 @@ typedef struct FolderLock {
 
 enum { WITHOUT_END = -1 };
 
-/* Takes the lock, and makes the folder if it is missing. A wait without end is one in the kernel, which lets all who
+/* Takes the lock, and makes the folder if it is missing. A wait without end, as of any negative number, is one in the kernel, which lets all who
  * wait there have it in turn. Gives 0, or the errno of what failed: EWOULDBLOCK or EBUSY if others have had it for so many
  * milliseconds (`is_others`), EINVAL if what has the lock's name is no regular file. */
 int folder_lock(const char *folder, int milliseconds, FolderLock *lock);

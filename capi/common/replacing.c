@@ -74,12 +74,12 @@ static bool is_one_file(int folder, const char *name, const char *aside)
         && are_of_one_file(&one, &other);
 }
 
-/* One of the names NAME~1, NAME~2 and so on, before which so many were tried. It is asked what has the name only where that is taken. */
+/* One of the names NAME~1, NAME~2 and so on, before which so many were tried. */
 static uint32_t to_next_name(int folder, const char *name, uint32_t purpose, const char *aside, uint64_t tried, uint32_t *told)
 {
     Moves *moves = purpose == DCONFDB_TO_SET_ASIDE ? by_a_link : by_a_rename;
     DconfdbStood stood = file_stood(NULL, moves(folder, name, aside) != 0 ? errno : 0);
-    stood.is_named = stood.fault == EEXIST && is_one_file(folder, name, aside);
+    stood.is_named = is_one_file(folder, name, aside);
     stood.tried = tried;
     return dconfdb_standing(purpose, &stood, told);
 }

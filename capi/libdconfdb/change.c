@@ -32,8 +32,7 @@ bool refuse_lock(const DconfdbStore *store, int fault, DconfdbError *error)
 static bool lock_and_change(DconfdbStore *store, Asking *asking, DconfdbError *error)
 {
     FolderLock lock;
-    int wait = store->options.longest_wait;
-    int fault = folder_lock(store->place.folder, wait < 0 ? WITHOUT_END : wait, &lock);
+    int fault = folder_lock(store->place.folder, store->options.longest_wait, &lock);
     if (fault != 0)
         return refuse_lock(store, fault, error);
     bool done = change_in_turn(store, &lock, asking, error);

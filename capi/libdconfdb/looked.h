@@ -5,7 +5,7 @@
 #include "files.h"
 #include "watch.h"
 
-/* Whether two stores have the same databases, by their names. Without memory they don't. */
+/* Whether two stores have the same databases, by their names. */
 bool have_same_files(const DconfdbStore *one, const DconfdbStore *other);
 
 /* When a folder was written: a turn makes a file in it, and renames it. Zeros: it can't be looked at, or there is none (NULL). */

@@ -84,12 +84,16 @@ const char *dconfdb_snapshot_file(const DconfdbSnapshot *snapshot, size_t databa
     return database < snapshot->count ? snapshot->parts[database]->name : NULL;
 }
 
-/* What becomes of a bad file, after what is wrong with it. Without memory nothing is said of it. */
+/* What becomes of a bad file, after what is wrong with it. The text has its memory here. */
 static int say_fate(char *text, size_t size, const Fault *fault, size_t database)
 {
+    _Alignas(max_align_t) char bytes[SMALL_ROOM];
     uint8_t fate[ROOM_OF_FATE];
+    LentRoom room;
     size_t len = 0;
+    lend_room(&room, bytes, sizeof bytes);
     uint32_t number = dconfdb_fate_text(fault->saved.keys, fault->saved.locks, database == 0, fault->aside != NULL, fate, sizeof fate, &len);
+    take_back_room(&room);
     if (number != DCONFDB_OK || len > sizeof fate)
         return 0;
     return snprintf(text, size, "%s%s%.*s", fault->aside ? "; it is now " : "", fault->aside ? fault->aside : "", (int)len, (const char *)fate);

@@ -180,8 +180,8 @@ static DconfdbWatchedName watched_so(const Watch *watch, const Way *way, const N
 static int read_link(Name *name)
 {
     ssize_t len = readlink(name->path, name->target, sizeof name->target - 1);
-    if (len <= 0)
-        return len < 0 ? errno : ENOENT;
+    if (len < 0)
+        return errno;
     name->target[len] = 0;
     return 0;
 }

@@ -153,7 +153,7 @@ int change_(void)
     CHECK(!has_asking && !has_bytes_read, "memory: what has begun is freed");
     CHECK(locks <= 1 && turns <= locks, "step: one lock, and a turn with it alone");
     CHECK(locks == 0 || (store.user_file && count > 0), "step: nobody locks what can't be changed");
-    CHECK(locks == 0 || wait_asked == (store.options.longest_wait < 0 ? WITHOUT_END : store.options.longest_wait), "step: the wait that was asked for");
+    CHECK(locks == 0 || wait_asked == store.options.longest_wait, "step: the wait that was asked for");
     CHECK(done || refused > 0, "answer: no is told");
     if (turns == 1 && done)
         REACHED("a turn");
