@@ -12,7 +12,7 @@ static inline bool snapshot_may_write(const DconfdbSnapshot *snapshot, bool is_o
 {
     if (!snapshot)
         return seen_is_writable(snapshot, is_open, path);
-    return dconfdb_may_write(snapshot->layers, snapshot->count, snapshot->is_writable, is_open, (const uint8_t *)path, strlen(path)) == DCONFDB_MAY;
+    return seen_may(dconfdb_may_write(snapshot->layers, snapshot->count, snapshot->is_writable, is_open, (const uint8_t *)path, strlen(path)));
 }
 
 #endif

@@ -8,6 +8,7 @@
 #include "snapshot.h"
 #include "texts.h"
 
+#include <stdio.h>
 #include <stdlib.h>
 #include <string.h>
 
@@ -157,5 +158,11 @@ bool paths_meet(const char *one, const char *other)
 bool seen_is_writable(const DconfdbSnapshot *snapshot, bool is_open, const char *path)
 {
     const DconfdbSnapshot *of = or_nothing(snapshot);
-    return dconfdb_may_write(of->layers, of->count, of->is_writable, is_open, bytes_of(path), strlen(path)) == DCONFDB_MAY;
+    return seen_may(dconfdb_may_write(of->layers, of->count, of->is_writable, is_open, bytes_of(path), strlen(path)));
+}
+
+_Noreturn void seen_ends(void)
+{
+    fputs("dconfdb: no memory is left\n", stderr);
+    abort();
 }

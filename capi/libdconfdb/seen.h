@@ -57,8 +57,19 @@ static inline const DconfdbSnapshot *or_nothing(const DconfdbSnapshot *snapshot)
 }
 
 /* Whether a path may be written, a key's or all that is below a directory: somebody may write (`is_open`), there is a user's database, and no lock
- * covers it. `snapshot` may be NULL: then nothing may. Without memory it may not, but a key that may takes none. */
+ * covers it. `snapshot` may be NULL: then nothing may. */
 bool seen_is_writable(const DconfdbSnapshot *snapshot, bool is_open, const char *path);
+
+/* Without memory nobody knows, and 'no' would be told as if it were locked. Whoever asks is a program over GLib, which ends then in any case. */
+_Noreturn void seen_ends(void);
+
+/* What dconfdb_may_write answered. */
+static inline bool seen_may(uint32_t is)
+{
+    if (is == DCONFDB_MAY_NO_MEMORY)
+        seen_ends();
+    return is == DCONFDB_MAY;
+}
 
 /* Whether one is the other, or a directory above it. */
 bool paths_meet(const char *one, const char *other);
