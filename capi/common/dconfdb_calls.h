@@ -619,6 +619,24 @@ enum {
 /* A file of more bytes isn't read. `may_map`: a large one is mapped. */
 uint64_t dconfdb_largest(uint32_t kind, bool *may_map);
 
+/* What comes after a call that reads or writes. */
+enum {
+    DCONFDB_MOVES_ON,  /* another one, with the rest */
+    DCONFDB_MOVED_ALL, /* none: all that are wanted were moved */
+    DCONFDB_MOVED_END, /* none: it moved nothing, as there are no more, or there is no room */
+    DCONFDB_MOVE_FAILED
+};
+
+/* Of the bytes that are wanted `at` were moved before, and then were now. `fault`: the errno by which the call failed; 0: it moved `count`. What a signal
+ * interrupted moved nothing, and is made again. */
+uint32_t dconfdb_moved(size_t wanted, size_t *at, uint32_t fault, size_t count);
+
+/* Whether a file is cut off behind so many bytes, which were written from its start on: `stood` were in it before, or SIZE_MAX if nobody knows. */
+bool dconfdb_is_cut(size_t stood, size_t written);
+
+/* The nanoseconds of a time since the beginning of its clock; 0 of one before that, and of one that 64 bits don't hold the most that they do. */
+uint64_t dconfdb_nanoseconds(const DconfdbFileTime *time);
+
 /* What stands under a name. `is_read`: it is the very file that was read. */
 typedef struct {
     uint32_t user, group, bits;
@@ -845,13 +863,15 @@ typedef struct {
     uint32_t told, outcome; /* of a change that ended, as DconfdbEnding has them */
     uint32_t wait;          /* of the lock: how many milliseconds it was waited for */
     uint32_t looked;        /* .. the errno by which its file can't be looked at, or 0 */
-    bool is_there;          /* .. that file is there */
+    uint32_t asked;         /* of a folder: what was asked to know it, as dconfdb_place said before anything was */
+    bool is_there;          /* of the lock: its file is there */
     bool has_user;          /* .. a database is the user's */
     bool has_text;          /* of a call: the number has a text, */
     bool has_line;          /* a line is at fault, */
     bool has_rule;          /* it may break a rule of sound databases, */
     bool has_item;          /* and an item does */
     bool has_edit;          /* of edits: one is at fault */
+    bool is_given;          /* of a folder: somebody gives it */
 } DconfdbFaultMet;
 
 enum {
@@ -901,6 +921,8 @@ enum {
     DCONFDB_NAMES_LOCK,
     DCONFDB_NAMES_FOLDER,
     DCONFDB_NAMES_EDIT, /* an edit's path */
+    DCONFDB_NAMES_HOME, /* the user's home, */
+    DCONFDB_NAMES_STORE, /* or the folder that the environment names: what names the one that was looked for */
     DCONFDB_NAMES
 };
 
@@ -929,12 +951,12 @@ enum {
 
 /* What is known. */
 typedef struct {
+    uint32_t errnum;  /* the errno by which what has its name can't be read; 0: it can */
     bool has_file;    /* a database is the user's */
     bool is_known;    /* that its file is on the disk */
     bool is_unsynced; /* nothing is brought to the disk by this store */
     bool is_in_turn;  /* nobody else changes the file meanwhile */
     bool asks_only;   /* nothing is to be brought there now */
-    bool is_readable; /* what has its name can be read */
 } DconfdbSettling;
 
 /* The task that is due after that one, by its answer; of the first any will do. */

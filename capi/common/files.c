@@ -2,7 +2,9 @@
 #define _GNU_SOURCE
 #define _FILE_OFFSET_BITS 64
 #include "files.h"
+#include "clocks.h"
 #include "dconfdb_calls.h"
+#include "moves.h"
 #include "stood.h"
 #include "tries.h"
 
@@ -11,7 +13,6 @@
 #include <stdlib.h>
 #include <sys/mman.h>
 #include <sys/stat.h>
-#include <time.h>
 #include <unistd.h>
 
 /* What is read of a file first, whose rest may not be wanted. */
@@ -42,8 +43,7 @@ int file_look(const char *name, FileState *state)
 
 uint64_t file_clock(void)
 {
-    struct timespec now;
-    return clock_gettime(CLOCK_REALTIME_COARSE, &now) == 0 ? (uint64_t)now.tv_sec * 1000000000 + (uint64_t)now.tv_nsec : 0;
+    return clock_nanoseconds(CLOCK_REALTIME_COARSE);
 }
 
 bool file_may_be_read(const char *name)
@@ -54,16 +54,12 @@ bool file_may_be_read(const char *name)
 /* Reads so many bytes, or fewer where the file has become shorter. */
 static int fill(int file, FileBytes *bytes, size_t wanted)
 {
-    while (bytes->len < wanted) {
-        ssize_t got = read(file, bytes->at + bytes->len, wanted - bytes->len);
-        if (got == 0)
-            return 0;
-        if (got > 0)
-            bytes->len += (size_t)got;
-        else if (errno != EINTR)
-            return errno;
-    }
-    return 0;
+    int fault = 0;
+    ssize_t got;
+    do
+        got = read(file, bytes->at + bytes->len, wanted - bytes->len);
+    while (moved(wanted, &bytes->len, got, &fault) == DCONFDB_MOVES_ON);
+    return fault;
 }
 
 /* How many bytes are to be read of an open file that has so many. */

@@ -7,6 +7,7 @@
 #include "folders.h"
 #include "handed.h"
 #include "held.h"
+#include "moves.h"
 #include "stood.h"
 #include "tries.h"
 
@@ -287,10 +288,11 @@ static DconfdbStood list_it(Awaited *awaited)
 /* Waits in the kernel if there is no end. */
 static DconfdbStood lock_it(Awaited *awaited)
 {
-    int how = awaited->has_end ? LOCK_EX | LOCK_NB : LOCK_EX, fault;
+    int how = awaited->has_end ? LOCK_EX | LOCK_NB : LOCK_EX, fault = 0, is;
+    size_t none = 0;
     do
-        fault = flock(awaited->lock->file, how) != 0 ? errno : 0;
-    while (fault == EINTR);
+        is = flock(awaited->lock->file, how);
+    while (moved(none, &none, is, &fault) == DCONFDB_MOVES_ON);
     return file_stood(NULL, fault);
 }
 

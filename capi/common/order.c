@@ -3,17 +3,15 @@
 #define _POSIX_C_SOURCE 200809L
 #define _FILE_OFFSET_BITS 64
 #include "order.h"
+#include "clocks.h"
+#include "moves.h"
 
-#include <errno.h>
 #include <stdlib.h>
 #include <string.h>
-#include <time.h>
 #include <unistd.h>
 
 /* The room that is made first: for so many bytes, and times. */
 enum { FEW_BYTES = 1024, FEW_TIMES = 4 };
-
-static const uint64_t second = 1000000000;
 
 /* Bytes of paths, and those that were had before. */
 typedef struct OrderRoom {
@@ -23,26 +21,15 @@ typedef struct OrderRoom {
 
 /* ---- times */
 
-static uint64_t nanoseconds(const struct timespec *time)
-{
-    return time->tv_sec < 0 ? 0 : (uint64_t)time->tv_sec * second + (uint64_t)time->tv_nsec;
-}
-
-static uint64_t time_by(clockid_t clock)
-{
-    struct timespec now;
-    return clock_gettime(clock, &now) == 0 ? nanoseconds(&now) : 0;
-}
-
 uint64_t order_clock(void)
 {
-    return time_by(CLOCK_BOOTTIME);
+    return clock_nanoseconds(CLOCK_BOOTTIME);
 }
 
 /* In this order, since this thread may have to wait between the two: no set counts as later than it was. */
 static void read_clocks(Order *order)
 {
-    order->now = time_by(CLOCK_REALTIME);
+    order->now = clock_nanoseconds(CLOCK_REALTIME);
     order->moment = order_clock();
 }
 
@@ -134,29 +121,29 @@ DconfdbBytes order_path(char **at, const char *name, const DconfdbBytes *path)
 
 /* ---- what is noted */
 
-/* Of a file, from there on. A signal interrupts no such call for long. */
-static ssize_t read_once(int lock, char *room, size_t size, size_t at)
+/* Of a file, from there on, as much as there is room for. Gives what came of it. */
+static uint32_t read_on(Order *order, int lock)
 {
-    ssize_t got;
+    int fault = 0;
+    uint32_t is;
     do
-        got = pread(lock, room, size, (off_t)at);
-    while (got < 0 && errno == EINTR);
-    return got;
+        is = moved(order->room, &order->size, pread(lock, order->text + order->size, order->room - order->size, (off_t)order->size), &fault);
+    while (is == DCONFDB_MOVES_ON);
+    return is;
 }
 
 /* As much as can be read, and of what is too long more than there may be: whether it is whole, and counts, the proved call says. False: no memory is
  * left. */
 static bool read_text(Order *order, int lock)
 {
-    ssize_t got = 0;
+    uint32_t is;
     order->size = 0;
     do {
         if (!has_bytes_for(&order->text, &order->room, order->size + 1))
             return false;
-        got = read_once(lock, order->text + order->size, order->room - order->size, order->size);
-        order->size += got > 0 ? (size_t)got : 0;
-    } while (order->size == order->room && order->size <= DCONFDB_MOST_NOTED);
-    order->stood = got >= 0 && order->size < order->room ? order->size : SIZE_MAX;
+        is = read_on(order, lock);
+    } while (is == DCONFDB_MOVED_ALL && order->size <= DCONFDB_MOST_NOTED);
+    order->stood = is == DCONFDB_MOVED_END ? order->size : SIZE_MAX;
     return true;
 }
 
@@ -247,16 +234,15 @@ bool order_note_made(Order *order, const DconfdbTime *made, size_t count, uint64
  * the one before. So nothing is cut off but behind what is whole. */
 static bool put_in_file(const Order *order, int lock, size_t len)
 {
+    int fault = 0;
     size_t at = 0;
-    while (at < len) {
-        ssize_t put = pwrite(lock, order->next + at, len - at, (off_t)at);
-        if (put == 0 || (put < 0 && errno != EINTR))
-            break;
-        at += put > 0 ? (size_t)put : 0;
-    }
-    if (at < len)
+    uint32_t is;
+    do
+        is = moved(len, &at, pwrite(lock, order->next + at, len - at, (off_t)at), &fault);
+    while (is == DCONFDB_MOVES_ON);
+    if (is != DCONFDB_MOVED_ALL)
         return false;
-    return order->stood <= len || ftruncate(lock, (off_t)len) == 0; /* else its end isn't its last moment: nothing counts */
+    return !dconfdb_is_cut(order->stood, len) || ftruncate(lock, (off_t)len) == 0; /* else its end isn't its last moment: nothing counts */
 }
 
 /* What is noted, in `next`: how many bytes, or 0 without memory. */

@@ -4,6 +4,7 @@
 #include "replacing.h"
 #include "folders.h"
 #include "handed.h"
+#include "moves.h"
 #include "stood.h"
 
 #include <errno.h>
@@ -182,12 +183,13 @@ int replacing_create(Replacing *it, size_t bits)
 
 int replacing_append(const Replacing *it, const uint8_t *bytes, size_t len, size_t *count)
 {
-    ssize_t put = 0;
+    int fault = 0;
+    ssize_t put;
+    *count = 0;
     do
-        put = write(it->file, bytes, len);
-    while (put < 0 && errno == EINTR);
-    *count = put < 0 ? 0 : (size_t)put;
-    return put < 0 ? errno : 0;
+        put = write(it->file, bytes + *count, len - *count);
+    while (moved(len, count, put, &fault) == DCONFDB_MOVES_ON);
+    return fault;
 }
 
 int replacing_sync(Replacing *it, size_t bits, FileState *state)

@@ -1,17 +1,13 @@
 /* Something that others may keep from being done, tried until it is done, or its time is over. */
 #define _POSIX_C_SOURCE 200809L
 #include "tries.h"
+#include "clocks.h"
 #include "dconfdb_calls.h"
 
-#include <time.h>
-
-enum { SECOND = 1000000000 };
-
-/* Nanoseconds of a clock that nobody sets; a clock that fails is as one that is at its end. */
+/* Nanoseconds of a clock that nobody sets. */
 static uint64_t moment(void)
 {
-    struct timespec now;
-    return clock_gettime(CLOCK_MONOTONIC, &now) == 0 ? (uint64_t)now.tv_sec * SECOND + (uint64_t)now.tv_nsec : UINT64_MAX;
+    return clock_nanoseconds(CLOCK_MONOTONIC);
 }
 
 static void take_pause(size_t nanoseconds)

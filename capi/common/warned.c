@@ -1,11 +1,11 @@
 /* Faults that are said once, as long as they are there. */
 #define _POSIX_C_SOURCE 200809L
 #include "warned.h"
+#include "clocks.h"
 #include "faults.h"
 
 #include <stdlib.h>
 #include <string.h>
-#include <time.h>
 
 typedef struct SaidFault {
     struct SaidFault *next;
@@ -86,9 +86,7 @@ static void meet_all(const Saying *saying, const DconfdbStore *store)
 /* Microseconds of the monotonic clock. */
 static uint64_t time_now(void)
 {
-    struct timespec now = {0, 0};
-    clock_gettime(CLOCK_MONOTONIC, &now);
-    return (uint64_t)now.tv_sec * 1000000 + (uint64_t)now.tv_nsec / 1000;
+    return clock_nanoseconds(CLOCK_MONOTONIC) / 1000;
 }
 
 static Saying saying_of(Warned *warned, bool has_looked, Warns *warns, void *it)

@@ -275,16 +275,16 @@ static void finds_served(void)
 }
 
 /* What is known of a fault is read alone: the numbers, and the fields of which these are so. */
-enum { MET_OF = 0, MET_NUMBER = 4, MET_TOLD = 8, MET_OUTCOME = 12, MET_WAIT = 16, MET_LOOKED = 20, MET_FLAGS = 24, MET_IS_THERE = 24, MET_HAS_USER = 25,
-       MET_HAS_TEXT = 26, MET_HAS_LINE = 27, MET_HAS_RULE = 28, MET_HAS_ITEM = 29, MET_HAS_EDIT = 30, MET = 32 };
+enum { MET_OF = 0, MET_NUMBER = 4, MET_TOLD = 8, MET_OUTCOME = 12, MET_WAIT = 16, MET_LOOKED = 20, MET_ASKED = 24, MET_FLAGS = 28, MET_IS_THERE = 28,
+       MET_HAS_USER = 29, MET_HAS_TEXT = 30, MET_HAS_LINE = 31, MET_HAS_RULE = 32, MET_HAS_ITEM = 33, MET_HAS_EDIT = 34, MET_IS_GIVEN = 35, MET = 36 };
 
 /* The sentence of them: which it is, its code, errno and outcome, and what it names. */
-static bool is_said(const uint32_t numbers[6], unsigned fields, const uint32_t said[5], bool is_placed)
+static bool is_said(const uint32_t numbers[7], unsigned fields, const uint32_t said[5], bool is_placed)
 {
     _Alignas(16) uint8_t met[MET] = {0};
     Written sentence = room_of("DconfdbSentence");
     memcpy(met, numbers, MET_FLAGS);
-    for (int i = 0; i < MET_HAS_EDIT + 1 - MET_FLAGS; i++)
+    for (int i = 0; i < MET_IS_GIVEN + 1 - MET_FLAGS; i++)
         met[MET_FLAGS + i] = fields >> i & 1;
     dconfdb_sentence(met, sentence.bytes);
     return memcmp(sentence.bytes, said, 5 * NUMBER) == 0 && sentence.bytes[5 * NUMBER] == is_placed && sentence.bytes[6 * NUMBER] == UNTOUCHED;
@@ -292,9 +292,10 @@ static bool is_said(const uint32_t numbers[6], unsigned fields, const uint32_t s
 
 static void finds_sentence(void)
 {
-    enum { IS_THERE = 1, HAS_USER = 2, HAS_TEXT = 4, HAS_LINE = 8, HAS_RULE = 16, HAS_ITEM = 32, HAS_EDIT = 64 };
-    static const uint32_t no_memory[6] = {0, 12}, busy[6] = {1, 11, 0, 0, 10000}, soon[6] = {1, 11, 0, 0, 7}, fails[6] = {1, 13},
-                          unlooked[6] = {1, 13, 0, 0, 0, 13}, call[6] = {2, 7}, ended[6] = {3, 5, 3, 2}, edits[6] = {4, 13}, expected[6] = {8, 0};
+    enum { IS_THERE = 1, HAS_USER = 2, HAS_TEXT = 4, HAS_LINE = 8, HAS_RULE = 16, HAS_ITEM = 32, HAS_EDIT = 64, IS_GIVEN = 128 };
+    static const uint32_t no_memory[7] = {0, 12}, busy[7] = {1, 11, 0, 0, 10000}, soon[7] = {1, 11, 0, 0, 7}, fails[7] = {1, 13},
+                          unlooked[7] = {1, 13, 0, 0, 0, 13}, call[7] = {2, 7}, ended[7] = {3, 5, 3, 2}, edits[7] = {4, 13}, expected[7] = {8, 0},
+                          home[7] = {5, 13, 0, 0, 0, 0, 2}, folder[7] = {5, 13};
     is_so(is_said(no_memory, 0, (const uint32_t[5]){2, 1, 0, 1, 0}, false) && is_said(busy, HAS_USER, (const uint32_t[5]){6, 65, 0, 1, 0}, true)
               && is_said(soon, 0, (const uint32_t[5]){7, 65, 0, 1, 2}, true),
           "DconfdbFaultMet");
@@ -307,12 +308,16 @@ static void finds_sentence(void)
     is_so(is_said(edits, HAS_USER, (const uint32_t[5]){12, 13, 0, 1, 0}, true) && is_said(edits, HAS_EDIT, (const uint32_t[5]){12, 13, 0, 1, 3}, true),
           "DconfdbFaultMet");
     is_so(is_said(expected, 0, (const uint32_t[5]){24, 67, 0, 1, 3}, true), "DconfdbFaultMet");
+    is_so(is_said(home, 0, (const uint32_t[5]){4, 64, 13, 1, 4}, true) && is_said(folder, 0, (const uint32_t[5]){4, 64, 13, 1, 5}, true)
+              && is_said(home, IS_GIVEN, (const uint32_t[5]){4, 64, 13, 1, 0}, true),
+          "DconfdbFaultMet");
     lies("DconfdbFaultMet", "of", MET_OF, NUMBER);
     lies("DconfdbFaultMet", "number", MET_NUMBER, NUMBER);
     lies("DconfdbFaultMet", "told", MET_TOLD, NUMBER);
     lies("DconfdbFaultMet", "outcome", MET_OUTCOME, NUMBER);
     lies("DconfdbFaultMet", "wait", MET_WAIT, NUMBER);
     lies("DconfdbFaultMet", "looked", MET_LOOKED, NUMBER);
+    lies("DconfdbFaultMet", "asked", MET_ASKED, NUMBER);
     lies("DconfdbFaultMet", "is_there", MET_IS_THERE, FLAG);
     lies("DconfdbFaultMet", "has_user", MET_HAS_USER, FLAG);
     lies("DconfdbFaultMet", "has_text", MET_HAS_TEXT, FLAG);
@@ -320,6 +325,7 @@ static void finds_sentence(void)
     lies("DconfdbFaultMet", "has_rule", MET_HAS_RULE, FLAG);
     lies("DconfdbFaultMet", "has_item", MET_HAS_ITEM, FLAG);
     lies("DconfdbFaultMet", "has_edit", MET_HAS_EDIT, FLAG);
+    lies("DconfdbFaultMet", "is_given", MET_IS_GIVEN, FLAG);
     printf("TAKES(DconfdbFaultMet, %d);\n", MET);
     lies("DconfdbSentence", "says", 0, NUMBER);
     lies("DconfdbSentence", "code", NUMBER, NUMBER);

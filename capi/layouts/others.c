@@ -288,29 +288,29 @@ static void tries_own(void)
 
 /* ---- whether the user's file is on the disk, of which each field in turn changes what is asked next */
 
-enum { HAS_FILE, IS_KNOWN, IS_UNSYNCED, IS_IN_TURN, ASKS_ONLY, IS_READABLE, SETTLING };
+enum { UNREADABLE = 0, HAS_FILE = 4, IS_KNOWN, IS_UNSYNCED, IS_IN_TURN, ASKS_ONLY, SETTLING = 12 };
 
 /* Whether that comes after a task that was answered so, where there is a file, and that is known, too. */
 static bool comes(uint32_t next, uint32_t task, bool yes, size_t known)
 {
-    uint8_t settling[SETTLING] = {1};
+    _Alignas(16) uint8_t settling[SETTLING] = {[HAS_FILE] = 1};
     settling[known] = 1;
     return dconfdb_settling_after(task, yes, settling) == next;
 }
 
 static void tries_settling(void)
 {
-    const uint8_t nothing[SETTLING] = {0};
+    _Alignas(16) const uint8_t nothing[SETTLING] = {0};
     bool are = dconfdb_settling_after(0, true, nothing) == 5 && comes(1, 0, true, HAS_FILE) && comes(5, 0, true, IS_KNOWN);
-    are = are && comes(3, 1, false, HAS_FILE) && comes(2, 1, false, IS_READABLE) && comes(7, 1, false, ASKS_ONLY) && comes(6, 1, false, IS_UNSYNCED);
+    are = are && comes(2, 1, false, HAS_FILE) && comes(3, 1, false, UNREADABLE) && comes(7, 1, false, ASKS_ONLY) && comes(6, 1, false, IS_UNSYNCED);
     are = are && comes(4, 2, true, HAS_FILE) && comes(5, 2, true, IS_IN_TURN);
     is_so(are, "DconfdbSettling");
+    lies("DconfdbSettling", "errnum", UNREADABLE, NUMBER);
     lies("DconfdbSettling", "has_file", HAS_FILE, FLAG);
     lies("DconfdbSettling", "is_known", IS_KNOWN, FLAG);
     lies("DconfdbSettling", "is_unsynced", IS_UNSYNCED, FLAG);
     lies("DconfdbSettling", "is_in_turn", IS_IN_TURN, FLAG);
     lies("DconfdbSettling", "asks_only", ASKS_ONLY, FLAG);
-    lies("DconfdbSettling", "is_readable", IS_READABLE, FLAG);
     printf("TAKES(DconfdbSettling, %d);\n", SETTLING);
 }
 

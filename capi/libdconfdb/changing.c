@@ -229,7 +229,7 @@ static void run(Changing *it)
 /* Whether a new file is left to the system: nothing that isn't noted is brought to the disk. */
 static bool is_unsynced(const DconfdbStore *store)
 {
-    const DconfdbSettling known = {.has_file = true, .is_unsynced = store->options.is_unsynced, .is_in_turn = true, .is_readable = true};
+    const DconfdbSettling known = {.has_file = true, .is_unsynced = store->options.is_unsynced, .is_in_turn = true};
     return dconfdb_settling_after(DCONFDB_SETTLING_NOTES, false, &known) != DCONFDB_SETTLING_SETTLE;
 }
 

@@ -128,8 +128,8 @@ const DconfdbError *part_fault(const Part *part)
     return part->fault && !part->fault->aside ? &part->fault->error : NULL;
 }
 
-bool part_is_readable(const Part *part)
+uint32_t part_errnum(const Part *part)
 {
     const DconfdbError *fault = part_fault(part);
-    return !fault || fault->errnum == 0;
+    return fault ? (uint32_t)fault->errnum : 0;
 }

@@ -64,8 +64,8 @@ bool part_has_bytes(const Part *part, const FileBytes *bytes);
 /* What is wrong with a file that has its name still; NULL: nothing is. */
 const DconfdbError *part_fault(const Part *part);
 
-/* Whether it could be opened, sound or not. */
-bool part_is_readable(const Part *part);
+/* The errno by which it can't be read, or 0. */
+uint32_t part_errnum(const Part *part);
 
 /* What is known of the part's file; of what was read now nothing. */
 static inline DconfdbPartSeen part_seen(const Part *part)

@@ -99,13 +99,6 @@ static int find_path(const Asked *asked, uint32_t wanted, uint32_t *what, char *
     return fault;
 }
 
-/* Says why there is none of what was looked for. It returns false. */
-static bool refuse_place(DconfdbError *error, uint32_t of, int fault, const char *name, Place place)
-{
-    const DconfdbFaultMet met = {.of = of, .number = (uint32_t)fault};
-    return tell_met(error, &met, &name, place);
-}
-
 /* False: nobody knows it. */
 static bool find_kind(Asked *asked, bool *is_dconfs)
 {
@@ -120,8 +113,11 @@ static bool find_kind(Asked *asked, bool *is_dconfs)
 
 static bool has_kind(Asked *asked, StorePlace *place, DconfdbError *error)
 {
-    return find_kind(asked, &place->is_dconfs) ||
-           refuse_place(error, DCONFDB_FAULT_OF_KIND, asked->fault, machine_file, (Place){.line = 1});
+    static const char *const names[DCONFDB_NAMES] = {[DCONFDB_NAMES_IT] = machine_file};
+    if (find_kind(asked, &place->is_dconfs))
+        return true;
+    const DconfdbFaultMet met = {.of = DCONFDB_FAULT_OF_KIND, .number = (uint32_t)asked->fault};
+    return tell_met(error, &met, names, (Place){.line = 1});
 }
 
 bool place_kind(bool *is_dconfs, const char **file, int *fault)
@@ -137,10 +133,11 @@ bool place_kind(bool *is_dconfs, const char **file, int *fault)
 
 static bool find_folder(const Asked *asked, StorePlace *place, DconfdbError *error)
 {
-    uint32_t what;
-    int fault = find_path(asked, DCONFDB_WANT_FOLDER, &what, &place->folder);
-    const char *of = what == DCONFDB_ASK_HOME ? "the user's home" : "the folder of $DCONFDB_STORE";
-    return place->folder || refuse_place(error, DCONFDB_FAULT_OF_FOLDER, fault, place->is_given ? (const char *)asked->folder.at : of, nowhere);
+    const char *const names[DCONFDB_NAMES] = {
+        [DCONFDB_NAMES_IT] = (const char *)asked->folder.at, [DCONFDB_NAMES_HOME] = "the user's home", [DCONFDB_NAMES_STORE] = "the folder of $DCONFDB_STORE"};
+    DconfdbFaultMet met = {.of = DCONFDB_FAULT_OF_FOLDER, .is_given = place->is_given};
+    met.number = (uint32_t)find_path(asked, DCONFDB_WANT_FOLDER, &met.asked, &place->folder);
+    return place->folder || tell_met(error, &met, names, nowhere);
 }
 
 static bool find_profile(const Asked *asked, StorePlace *place, DconfdbError *error)

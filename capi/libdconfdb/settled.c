@@ -58,7 +58,7 @@ bool settle_store(DconfdbStore *store, DconfdbError *error)
     const DconfdbSettling known = {.has_file = own != NULL,
                                    .is_known = own && own->is_settled,
                                    .is_unsynced = store->options.is_unsynced,
-                                   .is_readable = own && part_is_readable(own)};
+                                   .errnum = own ? part_errnum(own) : 0};
     uint32_t task = dconfdb_settling_after(DCONFDB_SETTLING_BEGINS, true, &known);
     while (task < DCONFDB_SETTLING_KNOWN)
         task = dconfdb_settling_after(task, carry_out(store, own, task, error), &known);

@@ -79,7 +79,7 @@ static int settle(Changing *it)
                                    .is_known = old->is_settled,
                                    .is_unsynced = it->replacing.is_unsynced,
                                    .is_in_turn = true,
-                                   .is_readable = part_is_readable(old)};
+                                   .errnum = part_errnum(old)};
     int fault = 0;
     uint32_t task = dconfdb_settling_after(DCONFDB_SETTLING_BEGINS, true, &known);
     while (task < DCONFDB_SETTLING_KNOWN)

@@ -99,6 +99,12 @@ void dconfdb_placed(const DconfdbFileStamp *named, DconfdbFileStamp *made)
     placed_given(named, made);
 }
 
+uint32_t dconfdb_moved(size_t wanted, size_t *at, uint32_t fault, size_t count)
+{
+    CHECK(__CPROVER_w_ok(at, sizeof *at) && *at <= wanted, "answer: so many were moved, and are wanted");
+    return moved_given(wanted, at, fault, count);
+}
+
 uint32_t dconfdb_settling_after(uint32_t task, bool yes, const DconfdbSettling *known)
 {
     return settling_given(task, yes, known);

@@ -7,6 +7,13 @@
 void (*at_next)(const DconfdbNext *step);
 void (*at_next_answer)(uint32_t answer, size_t at);
 
+/* Any time. */
+uint64_t dconfdb_nanoseconds(const DconfdbFileTime *time)
+{
+    CHECK(__CPROVER_r_ok(time, sizeof *time), "memory: a time");
+    return any_u64();
+}
+
 /* ---- changes that wait. The edits are of the machine's memory, and are there from the first step on */
 
 static uint16_t queue_state;

@@ -1,6 +1,7 @@
 /* common/order.c: the bytes of the lock's file, read into rooms that may be too small, and written anew; and rooms for paths. What is noted the proved
  * call says, in any way. How many notes there are is not gone through. */
 #include "common/order.c"
+#include "machines/given.h"
 #include "world.h"
 
 /* narrows common/dconfdb_calls.h: enum { DCONFDB_MOST_NOTED = 1 << 20 }; => enum { DCONFDB_MOST_NOTED = 16 }; */
@@ -12,7 +13,18 @@ static size_t written;
 static unsigned asked, writes, grows_left = 1;
 static bool has_cut;
 
-/* ---- proved calls: any answer */
+/* ---- proved calls: any answer, or what they say */
+
+uint32_t dconfdb_moved(size_t wanted, size_t *at, uint32_t fault, size_t count)
+{
+    CHECK(*at <= wanted, "answer: so many were moved, and are wanted");
+    return moved_given(wanted, at, fault, count);
+}
+
+bool dconfdb_is_cut(size_t stood, size_t put)
+{
+    return stood > put;
+}
 
 uint32_t dconfdb_notes_written(const DconfdbTime *notes, size_t n, uint64_t moment, uint64_t time, const uint8_t *of_left, size_t left_len,
                                const uint8_t *name, size_t name_len, const DconfdbFileStamp *file, bool is_synced, uint8_t *room, size_t room_len,

@@ -4,6 +4,8 @@
 #include "libdconfdb/settled.c"
 #include "parts.h"
 
+#include <errno.h>
+
 /* narrows libdconfdb/dconfdb.h: char text[512]; => char text[8]; */
 
 static unsigned settles;
@@ -47,10 +49,10 @@ uint32_t dconfdb_same_file(const DconfdbFileStamp *old, const DconfdbFileStamp *
     return is_same ? DCONFDB_FILE_SAME : DCONFDB_FILE_OTHER;
 }
 
-bool part_is_readable(const Part *part)
+uint32_t part_errnum(const Part *part)
 {
     CHECK(part == &old_parts[0], "step: the user's file");
-    return is_readable;
+    return is_readable ? 0 : EACCES;
 }
 
 bool tell_ending(DconfdbError *error, const DconfdbEnding *ending, int fault, const char *user_file, const char *folder)

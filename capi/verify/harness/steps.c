@@ -6,6 +6,8 @@
 
 #include <stdlib.h>
 
+#include <errno.h>
+
 /* narrows libdconfdb/dconfdb.h: char text[512]; => char text[8]; */
 
 static Changing it;
@@ -176,14 +178,14 @@ int replacing_remove(const Replacing *at)
 
 int replacing_settle(const Replacing *at, bool is_readable)
 {
-    CHECK(at == &it.replacing && is_readable == part_is_readable(old_part) && !is_there, "step: the old file");
+    CHECK(at == &it.replacing && is_readable == (part_errnum(old_part) == 0) && !is_there, "step: the old file");
     CHECK(!at->is_unsynced, "step: nothing is brought to the disk that isn't to be");
     return carries(DCONFDB_TURN_SETTLE);
 }
 
-bool part_is_readable(const Part *part)
+uint32_t part_errnum(const Part *part)
 {
-    return !part->fault;
+    return part->fault ? EACCES : 0;
 }
 
 static void set_up(void)

@@ -144,11 +144,23 @@ static void compare_standings(void)
                                          .may_stop = (i & 32) != 0, .is_named = (i & 64) != 0, .links = i % 3});
 }
 
+static void compare_moved(void)
+{
+    for (uint32_t i = 0; i < 4 * 4 * 4 * 3; i++) {
+        size_t wanted = i % 4, at = i / 4 % 4, before = at, count = i / 16 % 4;
+        uint32_t fault = i / 64 * 4 + i / 128;
+        if (dconfdb_moved(wanted, &at, fault, count) != moved_given(wanted, &before, fault, count) || at != before)
+            fail("moved", "another fate of bytes than is given");
+        if (dconfdb_is_cut(wanted, count) != (wanted > count))
+            fail("is_cut", "another end than is given");
+    }
+}
+
 static void compare_settling(void)
 {
     for (uint32_t bits = 0; bits < 128; bits++) {
         for (uint32_t task = DCONFDB_SETTLING_BEGINS; task < DCONFDB_SETTLING_KNOWN; task++) {
-            const DconfdbSettling known = {bits & 1, bits & 2, bits & 4, bits & 8, bits & 16, bits & 64};
+            const DconfdbSettling known = {bits & 64 ? 0 : 13, bits & 1, bits & 2, bits & 4, bits & 8, bits & 16};
             if (dconfdb_settling_after(task, bits & 32, &known) != settling_given(task, bits & 32, &known))
                 fail("settling_after", "another task than is given");
         }
@@ -250,6 +262,7 @@ void compare_answers(void)
     compare_taking();
     compare_standings();
     compare_settling();
+    compare_moved();
     compare_brought();
     compare_flags();
     compare_served();

@@ -367,6 +367,19 @@ static inline void placed_given(const DconfdbFileStamp *named, DconfdbFileStamp 
 }
 
 /* What is asked of whether the user's file is on the disk. */
+/* What comes after a call that reads or writes. */
+static inline uint32_t moved_given(size_t wanted, size_t *at, uint32_t fault, size_t count)
+{
+    enum { INTERRUPTED = 4 };
+    if (fault != 0)
+        return fault == INTERRUPTED ? DCONFDB_MOVES_ON : DCONFDB_MOVE_FAILED;
+    size_t left = *at < wanted ? wanted - *at : 0;
+    *at += count < left ? count : left;
+    if (*at >= wanted)
+        return DCONFDB_MOVED_ALL;
+    return count == 0 ? DCONFDB_MOVED_END : DCONFDB_MOVES_ON;
+}
+
 static inline uint32_t settling_given(uint32_t task, bool yes, const DconfdbSettling *known)
 {
     switch (task) {
@@ -377,7 +390,7 @@ static inline uint32_t settling_given(uint32_t task, bool yes, const DconfdbSett
             return DCONFDB_SETTLING_KNOWN;
         if (known->asks_only)
             return DCONFDB_SETTLING_FAILED;
-        return known->is_unsynced ? DCONFDB_SETTLING_DONE : known->is_readable ? DCONFDB_SETTLING_SETTLE : DCONFDB_SETTLING_NAMES;
+        return known->is_unsynced ? DCONFDB_SETTLING_DONE : known->errnum == 0 ? DCONFDB_SETTLING_SETTLE : DCONFDB_SETTLING_NAMES;
     case DCONFDB_SETTLING_SETTLE:
     case DCONFDB_SETTLING_NAMES:
         if (!yes)

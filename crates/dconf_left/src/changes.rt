@@ -27,8 +27,8 @@ fn said_at(stamp: &FileStamp) -> u64
     time_of_file(nanoseconds(stamp.written), nanoseconds(stamp.touched))
 }
 
-/// Since 1970, as far as they can be noted.
-fn nanoseconds(time: FileTime) -> u64
+/// The nanoseconds of a time since the beginning of its clock, 1970 say, as far as they can be noted.
+pub fn nanoseconds(time: FileTime) -> u64
     ensures { result ≡ nanoseconds time }
 {
     if time.seconds > i64::MAX as u64 {

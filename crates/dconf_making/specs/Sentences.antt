@@ -151,12 +151,17 @@ locks_name TenSeconds f = users_name f
 locks_name Busy f = users_name f
 locks_name says f = if f.looked == 0 && f.is_there then 1 else users_name f
 
+-- A folder's fault names the folder, if that is given, or else what names it: the user's home, or the environment.
+abbrev pub folders_name : FaultMet → ℕ
+folders_name f = if f.is_given then 0 else if f.asked == 2 then 4 else 5
+
 -- an edit's its path
 abbrev pub named_for : FaultOf → Says → FaultMet → ℕ
 named_for Lock says f = locks_name says f
 named_for Change says f = users_name f
 named_for Edits says f = if f.has_edit then 3 else users_name f
 named_for Expected says f = 3
+named_for Folder says f = folders_name f
 named_for what says f = 0
 
 -- the fault of a file that can't be read is none of a line

@@ -1,5 +1,5 @@
 -- Whether what the user's file is, is on the disk: what is asked of it, in this order, and what is known then.
-use Rattle.std.specs.Prelude.{ℕ, zero, suc, ◌≡◌, Bool, true, false, not, ◌&&◌, ◌||◌, if◌then◌else◌, nat_lt}
+use Rattle.std.specs.Prelude.{ℕ, zero, suc, ◌≡◌, Bool, true, false, not, ◌&&◌, ◌||◌, if◌then◌else◌, ◌==◌, nat_lt}
 use Rattle.dconf_making.specs.declared.settling.SettlingKnown.{SettlingKnown}
 use Rattle.dconf_making.specs.declared.settling.Settling.{Settling}
 use Rattle.dconf_making.specs.declared.settling.Settling.TheVariants.{Notes, Settle, Names, Look, Known, Done, Failed}
@@ -8,9 +8,13 @@ use Rattle.dconf_making.specs.declared.settling.Settling.TheVariants.{Notes, Set
 abbrev pub once_settled : SettlingKnown → Settling
 once_settled k = if k.is_unsynced then Done else if k.is_in_turn then Known else Look
 
+-- Of what can't be read, by that errno, no more than its name can be brought to the disk.
+abbrev pub is_readable : SettlingKnown → Bool
+is_readable k = k.errnum == 0
+
 -- how what nobody noted is brought to the disk
 abbrev pub settling_of : SettlingKnown → Settling
-settling_of k = if k.is_unsynced then Done else if k.is_readable then Settle else Names
+settling_of k = if k.is_unsynced then Done else if is_readable k then Settle else Names
 
 -- once the first tasks were done, by the answer to the last one
 abbrev pub settling_after : ℕ → Bool → SettlingKnown → Settling
@@ -70,7 +74,7 @@ is_failed_end _ = false
 
 -- what could be brought there was: the file, or, of one that can't be read, its folder's names
 abbrev pub is_brought : Answers → SettlingKnown → Bool
-is_brought a k = if k.is_readable then a.settled else a.named
+is_brought a k = if is_readable k then a.settled else a.named
 
 -- There is no file, or it is known or noted already, or it was brought there now by who syncs, and is the same file still.
 abbrev pub is_on_disk : Answers → SettlingKnown → Bool

@@ -1,6 +1,6 @@
 //! What a program is told of a fault: which sentence, with which code and errno, and which file that names.
 ghost use Rattle.std.specs.Prelude.{◌≡◌};
-ghost use Rattle.dconf_making.specs.Sentences.{called, code_for, ended, ended_code, ended_errno, errno_of, fault_of, is_placed, locked, locks_name, named_for, outcome_of, parsed, parsed_code, said_for, said_of_file, says_number, says_of, sentence_of, sought, sought_code, system_errno, unexpected, users_name};
+ghost use Rattle.dconf_making.specs.Sentences.{called, code_for, ended, ended_code, ended_errno, errno_of, fault_of, folders_name, is_placed, locked, locks_name, named_for, outcome_of, parsed, parsed_code, said_for, said_of_file, says_number, says_of, sentence_of, sought, sought_code, system_errno, unexpected, users_name};
 
 use crate::ending::{Told as EndingTold, told_by};
 use dconf_verdicts::{Told, told_code, told_of};
@@ -13,6 +13,9 @@ const EINVAL: u32 = 22;
 
 /// How many milliseconds a change waits for the lock, if its program asks for nothing else.
 const USUAL_WAIT: u32 = 10000;
+
+/// What was asked: the home that the system has for the user.
+const HOME: u32 = 2;
 
 /// A fault, and what is known of it.
 #[repr(C)]
@@ -29,7 +32,9 @@ pub struct FaultMet {
     /// Of a lock, how many milliseconds it was waited for, and the errno by which its file can't be looked at, or 0.
     pub wait: u32,
     pub looked: u32,
-    /// .. and whether that file is there.
+    /// Of a folder, what was asked to know it: 2 the home that the system has for the user, else something else.
+    pub asked: u32,
+    /// Of a lock, whether that file is there.
     pub is_there: bool,
     /// .. and whether a database is the user's.
     pub has_user: bool,
@@ -40,6 +45,8 @@ pub struct FaultMet {
     pub has_item: bool,
     /// Of edits: one of them is at fault.
     pub has_edit: bool,
+    /// Of a folder: somebody gives it.
+    pub is_given: bool,
 }
 
 /// Of what it is.
@@ -110,7 +117,7 @@ pub struct Sentence {
     pub errno: u32,
     pub outcome: u32,
     /// The name that stands in front: 0 that which is handed in, or the user's file, 1 that of the lock's file, 2 that of the store's folder, 3 an
-    /// edit's path.
+    /// edit's path, 4 that of the user's home, 5 that of the folder which the environment names.
     pub names: u32,
     /// It is told which edit, database or line is at fault.
     pub is_placed: bool,
@@ -349,8 +356,19 @@ fn named_for(of: FaultOf, says: Says, met: &FaultMet) -> u32
         FaultOf::Edits if met.has_edit => 3,
         FaultOf::Edits => users_name(met),
         FaultOf::Expected => 3,
+        FaultOf::Folder => folders_name(met),
         _ => 0,
     }
+}
+
+/// A folder that is given is named itself; else what names it.
+fn folders_name(met: &FaultMet) -> u32
+    ensures { result ≡ folders_name met.now }
+{
+    if met.is_given {
+        return 0;
+    }
+    if met.asked == HOME { 4 } else { 5 }
 }
 
 /// A lock that could be looked at is named itself; else what it is of.

@@ -25,6 +25,8 @@ pub enum Settling {
 #[repr(C)]
 #[derive(Clone, Copy)]
 pub struct SettlingKnown {
+    /// The errno by which what has its name can't be read; 0: it can.
+    pub errnum: u32,
     /// A database is the user's.
     pub has_file: bool,
     /// That what its file is, is on the disk.
@@ -35,8 +37,6 @@ pub struct SettlingKnown {
     pub is_in_turn: bool,
     /// Nothing is to be brought there now.
     pub asks_only: bool,
-    /// What has its name can be read.
-    pub is_readable: bool,
 }
 
 /// What comes next, once the first `done` tasks were done; `is_so` is the answer to the last one.
@@ -62,7 +62,7 @@ fn settling_of(known: &SettlingKnown) -> Settling
 {
     if known.is_unsynced {
         Settling::Done
-    } else if known.is_readable {
+    } else if known.errnum == 0 {
         Settling::Settle
     } else {
         Settling::Names

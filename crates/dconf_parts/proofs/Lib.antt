@@ -1,2 +1,3 @@
+pub mod MovingLaws
 pub mod PartLaws
 pub mod SeveralLaws

@@ -2,13 +2,15 @@
 ghost use Rattle.std.specs.Prelude.{◌≡◌};
 ghost use Rattle.dconf_files.specs.Handings.{handed_after, handing_number, handing_value, what_of};
 ghost use Rattle.dconf_files.specs.Stamps.{sameness_number, sameness_of};
+ghost use Rattle.dconf_parts.specs.Moving.{is_cut, moved, moved_number, moved_to};
 ghost use Rattle.dconf_parts.specs.Parts.{beside, beside_number, is_one_file, known_after, placed, purpose_of};
 ghost use Rattle.dconf_parts.specs.Several.{among, sameness_from};
 ghost use Rattle.dconf_parts.specs.Sizes.{is_mapped, kind_of, largest};
 
 use dconf_files::{FileStamp, MadeFile, handing_numbers, sameness_number};
 use dconf_parts::{
-    DconfdbPartSeen, among_number, beside_number, is_one_file, known_after, largest_number, placed,
+    DconfdbPartSeen, among_number, beside_number, is_cut, is_one_file, known_after, largest_number,
+    moved_number, moved_to, placed,
 };
 
 /// Whether a file is the one that was read from that moment on: 0 it is, 1 it is another one or has
@@ -89,6 +91,27 @@ pub extern "C" fn dconfdb_largest(kind: u32, may_map: &mut bool) -> u64
     let (most, is_mapped) = largest_number(kind);
     *may_map = is_mapped;
     most
+}
+
+/// Takes what a call answered that reads or writes: how many bytes, or its errno. `at` of those that are wanted were moved before, and then were now.
+/// 0: another call is made, 1 all were moved, 2 there are no more, or there is no room, 3 it failed.
+#[unsafe(no_mangle)]
+pub extern "C" fn dconfdb_moved(wanted: usize, at: &mut usize, errno: u32, count: usize) -> u32
+    ensures next { result ≡ moved_number (moved wanted at.old errno count) }
+    ensures at { at.new ≡ moved_to wanted at.old errno count }
+{
+    let next = moved_number(wanted, *at, errno, count);
+    *at = moved_to(wanted, *at, errno, count);
+    next
+}
+
+/// Whether a file is cut off behind so many bytes, which were written from its start on: `stood` were in it before, or more than any file has where nobody
+/// knows.
+#[unsafe(no_mangle)]
+pub extern "C" fn dconfdb_is_cut(stood: usize, written: usize) -> bool
+    ensures { result ≡ is_cut stood written }
+{
+    is_cut(stood, written)
 }
 
 /// What comes next with what was just made: what 0 a lock, 1 a file, else a folder, once that was done: 0 nothing, 1 it was made, 2 it got its user,

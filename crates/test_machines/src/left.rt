@@ -1,6 +1,8 @@
 //! Files that were left, in bytes that anybody may have written; and numbers of names and values.
 use dconf_files::{FileStamp, FileTime};
-use dconf_left::{name_number, number_of_bytes, state_number, value_number, with_left};
+use dconf_left::{
+    name_number, nanoseconds, number_of_bytes, state_number, value_number, with_left,
+};
 use std::test::Fail;
 
 /// A record's bytes, and room for a few.
@@ -108,8 +110,29 @@ fn numbers_are_so() -> bool {
         && value_number(b"", b"a") == 0xaf63_dc4c_8601_ec8d
 }
 
+fn time(seconds: u64, nanoseconds: u64) -> FileTime {
+    FileTime {
+        seconds,
+        nanoseconds,
+    }
+}
+
+/// A second and two nanoseconds; a second before 1970; and a time that 64 bits don't hold.
+fn times_are_so() -> bool {
+    nanoseconds(time(1, 2)) == 1_000_000_002
+        && nanoseconds(time(u64::MAX, 5)) == 0
+        && nanoseconds(time(18_446_744_073, 709_551_616)) == u64::MAX
+        && nanoseconds(time(i64::MAX as u64, 0)) == u64::MAX
+}
+
 #[test]
 fn files_that_were_left_are_known(rt: HostRuntime) -> Result<(), Fail> {
-    assert!(rt; records_are_so() && files_are_found() && files_are_kept_once() && numbers_are_so());
+    assert!(rt;
+        records_are_so()
+            && files_are_found()
+            && files_are_kept_once()
+            && numbers_are_so()
+            && times_are_so()
+    );
     Ok(())
 }

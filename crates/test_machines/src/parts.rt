@@ -1,7 +1,8 @@
 //! What a file is, beside what was made of it.
 use dconf_files::{FileStamp, FileTime};
 use dconf_parts::{
-    DconfdbPartSeen, among_number, beside_number, is_one_file, known_after, largest_number, placed,
+    DconfdbPartSeen, among_number, beside_number, is_cut, is_one_file, known_after, largest_number,
+    moved_number, moved_to, placed,
 };
 use std::test::Fail;
 
@@ -159,10 +160,30 @@ fn several_are_seen() -> bool {
         && among_number(1, 0) == 1
 }
 
+/// After three of eight bytes: some more, all others, none, an interrupted call (EINTR) and one that failed (EIO).
+fn bytes_are_moved() -> bool {
+    moved_number(8, 3, 0, 2) == 0
+        && moved_to(8, 3, 0, 2) == 5
+        && moved_number(8, 3, 0, 5) == 1
+        && moved_to(8, 3, 0, 5) == 8
+        && moved_to(8, 3, 0, 9) == 8
+        && moved_number(8, 3, 0, 0) == 2
+        && moved_number(8, 3, 4, 0) == 0
+        && moved_to(8, 3, 4, 2) == 3
+        && moved_number(8, 3, 5, 0) == 3
+        && moved_to(8, 3, 5, 2) == 3
+        && moved_number(0, 0, 0, 0) == 1
+}
+
+fn ends_are_cut() -> bool {
+    is_cut(9, 8) && is_cut(usize::MAX, 8) && !is_cut(8, 8) && !is_cut(0, 8)
+}
+
 #[test]
 fn what_was_made_of_a_file_is_kept_or_not(rt: HostRuntime) -> Result<(), Fail> {
     assert!(rt; are_kept() && are_taken());
     assert!(rt; are_known() && are_placed());
     assert!(rt; sizes_are_known() && several_are_seen());
+    assert!(rt; bytes_are_moved() && ends_are_cut());
     Ok(())
 }

@@ -1,8 +1,8 @@
 //! What a program is told of a fault, how a file gets its names, what is asked of a change's notes, and what of a batch is told.
 use dconf_files::{FileOwner, NewOwner, OldFile};
 use dconf_making::{
-    FaultMet, Making, NewLook, Sentence, StoreKnown, new_look, renamed_of, says_number, says_of,
-    sentence_of,
+    FaultMet, Making, NewLook, Sentence, SettlingKnown, StoreKnown, new_look, number_of_settling,
+    renamed_of, says_number, says_of, sentence_of,
 };
 use dconf_steps::QueuedEdit;
 use dconf_waiting::BatchRecord;
@@ -15,6 +15,7 @@ const OF_FILE: FaultMet = FaultMet {
     outcome: 0,
     wait: 10000,
     looked: 0,
+    asked: 0,
     is_there: true,
     has_user: true,
     has_text: true,
@@ -22,6 +23,7 @@ const OF_FILE: FaultMet = FaultMet {
     has_rule: false,
     has_item: false,
     has_edit: false,
+    is_given: false,
 };
 
 fn says(met: &FaultMet) -> u32 {
@@ -118,6 +120,45 @@ fn are_sought() -> bool {
         && is_said_so(7, 19, 21, 19)
         && is_said_so(7, 35, 23, 21)
         && is_said_so(7, 36, 22, 21)
+}
+
+/// Of a store's folder, which is given, is in the user's home, or is named by the environment.
+fn are_folders_named() -> bool {
+    let named = FaultMet { of: 5, ..OF_FILE };
+    let home = FaultMet { asked: 2, ..named };
+    let given = FaultMet {
+        is_given: true,
+        ..home
+    };
+    is_named(&named, 64, 13, 5) && is_named(&home, 64, 13, 4) && is_named(&given, 64, 13, 0)
+}
+
+/// What nobody noted is brought to the disk, or, if it can't be read, its name is.
+fn are_settled() -> bool {
+    let unread = SettlingKnown {
+        errnum: 13,
+        has_file: true,
+        is_known: false,
+        is_unsynced: false,
+        is_in_turn: false,
+        asks_only: false,
+    };
+    let read = SettlingKnown {
+        errnum: 0,
+        ..unread
+    };
+    let in_turn = SettlingKnown {
+        is_in_turn: true,
+        ..read
+    };
+    number_of_settling(0, true, &read) == 1
+        && number_of_settling(1, true, &read) == 5
+        && number_of_settling(1, false, &read) == 2
+        && number_of_settling(1, false, &unread) == 3
+        && number_of_settling(2, true, &read) == 4
+        && number_of_settling(3, true, &in_turn) == 5
+        && number_of_settling(3, false, &in_turn) == 7
+        && number_of_settling(4, false, &read) == 6
 }
 
 /// Of what was expected to be seen.
@@ -266,5 +307,6 @@ fn are_told() -> bool {
 fn faults_are_told(rt: HostRuntime) -> Result<(), Fail> {
     assert!(rt; are_said() && are_renamed() && are_looked_at() && are_noted() && are_told());
     assert!(rt; are_sought() && are_expected() && are_named() && own_changes_are_known());
+    assert!(rt; are_folders_named() && are_settled());
     Ok(())
 }
