@@ -1,10 +1,10 @@
 -- Who says the newest word of a key, and who looks at the files.
-use Rattle.std.specs.Prelude.{◌≡◌, ◌↔◌, ◌-◌, ◌&&◌, ℕ, zero, suc, Bool, true, false, not, if◌then◌else◌, List, [], ◌∷◌, length, refl}
+use Rattle.std.specs.Prelude.{◌≡◌, ◌↔◌, ◌-◌, ◌==◌, ◌&&◌, ◌||◌, ℕ, zero, suc, Bool, true, false, not, if◌then◌else◌, List, [], ◌∷◌, length, refl}
 use Rattle.std.proofs.Common.{ap, sym, ◌∙◌, arith, subst}
 use Rattle.std.proofs.lemmas.Bool.{and_parts}
 use Rattle.dconf_changesets.specs.declared.asking.LookDue.{LookDue}
 use Rattle.dconf_changesets.specs.declared.asking.LookDue.TheVariants.{Nothing, Opens, Looks, Later}
-use Rattle.dconf_changesets.specs.Asking.{NoLookIsMissed, TheNewestIsAsked, all_rows, is_heard, is_spared, newest, said_in}
+use Rattle.dconf_changesets.specs.Asking.{NoLookIsMissed, TheNewestIsAsked, ToldCountsForWhoReads, all_rows, is_heard, is_spared, newest, said_in}
 use Rattle.dconf_changesets.specs.Rows.{Row, later_word, said}
 use Rattle.dconf_changesets.proofs.WordLaws.{after_silent, later_assoc, said_append}
 
@@ -53,3 +53,30 @@ no_look_is_missed looker k = record {
   read = λ (e : looker ≡ 2). subst (λ (x : ℕ). due_by k.is_open (is_spared x k) k.is_busy ≡ Nothing → (k.is_watched ≡ true) × (is_heard k ≡ true)) (sym e)
       (λ quiet. and_parts k.is_watched (is_heard k) (spared_by k.is_open (k.is_watched && is_heard k) k.is_busy quiet));
 }
+
+-- ---- what was told
+
+unheard_by : (gets w h u o t told : Bool) → (gets && (w && (h && (u && o)))) ≡ false →
+    (w && (gets && (h && (u && (not told && o))))) ≡ (w && (gets && (h && (u && (not t && o)))))
+unheard_by gets false h u o t told e = refl
+unheard_by false true h u o t told e = refl
+unheard_by true true false u o t told e = refl
+unheard_by true true true false o t told e = refl
+unheard_by true true true true false true true e = refl
+unheard_by true true true true false true false e = refl
+unheard_by true true true true false false true e = refl
+unheard_by true true true true false false false e = refl
+unheard_by true true true true true t told e = absurd (let bad : true ≡ false = e in cc)
+
+-- who changes a setting, or wants the store alone, is spared whatever was told
+spared_alike : (store w sets x y : Bool) → (w && x) ≡ (w && y) → (store || (w && (sets || x))) ≡ (store || (w && (sets || y)))
+spared_alike true w sets x y e = refl
+spared_alike false false sets x y e = refl
+spared_alike false true true x y e = refl
+spared_alike false true false x y e = e
+
+pub told_counts_for_who_reads : ToldCountsForWhoReads
+told_counts_for_who_reads looker k told e =
+    ap (λ (s : Bool). due_by k.is_open s k.is_busy)
+    (spared_alike (looker == 3) k.is_watched (looker == 1) ((looker == 2) && is_heard (record k { is_told = told })) ((looker == 2) && is_heard k)
+    (unheard_by (looker == 2) k.is_watched k.is_whole (k.until == 0) k.is_own k.is_told told e))

@@ -1,15 +1,17 @@
 -- What is found of a key in a set of changes.
-use Rattle.std.specs.Prelude.{◌≡◌, ℕ, Bool, true, false, not, ◌||◌, if◌then◌else◌, List, [], ◌∷◌, ◌++◌, filter, Option, Some, None, is_some, refl}
+use Rattle.std.specs.Prelude.{◌≡◌, ◌≢◌, ℕ, Bool, true, false, not, ◌&&◌, ◌||◌, if◌then◌else◌, List, [], ◌∷◌, ◌++◌, filter, Option, Some, None, is_some, refl}
 use Rattle.std.proofs.Common.{inl, inr, sym, ap, ◌∙◌, subst}
 use Rattle.std.specs.List.{AllByRecursion, list_any}
 use Rattle.std.specs.Str.{bytes_eq}
 use Rattle.gv_model.specs.Tree.{Tree}
 use Rattle.dconf_model.proofs.ParentLaws.{by_bool}
 use Rattle.dconf_model.proofs.SameBytes.{itself, same_path}
-use Rattle.dconf_model.specs.Locks.{covers}
+use Rattle.dconf_model.specs.Locks.{covers, is_below}
+use Rattle.dconf_model.specs.Paths.{ends_with_slash}
 use Rattle.dconf_model.specs.Stores.Saying.{silent, unset}
+use Rattle.dconf_changesets.specs.declared.rows.Effect.TheVariants.{Stays, Goes, Takes}
 use Rattle.dconf_changesets.specs.Differences.{AreInOrder}
-use Rattle.dconf_changesets.specs.Rows.{FoundIsSaid, IsRow, Row, changed, effect_of, found, found_above, found_by, is_staying, later_word, own_row, said, said_by, with_row, word_of}
+use Rattle.dconf_changesets.specs.Rows.{AKeyStandsForItself, FoundIsSaid, IsRow, Row, changed, effect_of, found, found_above, found_by, is_staying, later_word, own_row, said, said_by, with_row, word_of}
 use Rattle.dconf_changesets.proofs.WordLaws.{after_silent, covers_how, kept_rows, later_counts, over_by_word, said_apart, stays_apart, with_row_is}
 
 -- ---- all of a list
@@ -105,3 +107,13 @@ found_in key (r ∷ rows) are all = by_bool (bytes_eq r.path key) (found key (r 
 pub found_is_said : FoundIsSaid
 found_is_said changes key all =
     found_in key (changed false [] changes) (in_order [] changes tt) (are_rows [] changes tt all) ∙ (later_counts [] changes key ∙ after_silent (said key changes))
+
+-- ---- a key's reset
+
+alone_by : (q s b : Bool) → s ≡ false → (if q then Takes else if q || (s && b) then Goes else Stays) ≢ Goes
+alone_by true s b d e = let bad : Takes ≡ Goes = e in cc
+alone_by false false b d e = let bad : Stays ≡ Goes = e in cc
+alone_by false true b d e = let bad : true ≡ false = d in cc
+
+pub a_key_stands_for_itself : AKeyStandsForItself
+a_key_stands_for_itself path other d = alone_by (bytes_eq path other) (ends_with_slash path) (is_below other path) d

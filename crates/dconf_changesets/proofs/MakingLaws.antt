@@ -1,11 +1,13 @@
 -- What is said to who waits until a change is made.
-use Rattle.std.proofs.Common.{◌≡◌, ◌≢◌, Bool, true, false, not, refl, sym, ◌∙◌}
-use Rattle.std.specs.Prelude.{if◌then◌else◌}
+use Rattle.std.proofs.Common.{◌≡◌, ◌≢◌, ◌<◌, ◌⊎◌, inl, inr, ℕ, zero, suc, Bool, true, false, not, refl, sym, ◌∙◌, arith}
+use Rattle.std.specs.Prelude.{if◌then◌else◌, ◌||◌, ◌==◌}
 use Rattle.dconf_changesets.specs.declared.making.ChangeKnown.{ChangeKnown}
 use Rattle.dconf_changesets.specs.declared.making.ChangeTask.{ChangeTask}
 use Rattle.dconf_changesets.specs.declared.making.ChangeTask.TheVariants.{Before, Settle, Put, Others, Tell, GiveUp, Made, Refused, Failed}
 use Rattle.dconf_changesets.specs.declared.making.Tried.{Tried}
-use Rattle.dconf_changesets.specs.Making.{Answers, IsSo, IsToldInOrder, MadeMeansOnTheDisk, OthersAreToldFirst, WhatIsLostIsToldAgain, closed_by, fails_by, given_up, has_place, is_made, is_said, is_unmade, puts, refuses, said_at_last, stopped_by}
+use Rattle.dconf_changesets.specs.declared.making.TriedAsk.{TriedAsk}
+use Rattle.dconf_changesets.specs.declared.making.TriedAsk.TheVariants as asking
+use Rattle.dconf_changesets.specs.Making.{Answers, IsAskedEnough, IsSo, IsToldInOrder, MadeMeansOnTheDisk, OthersAreToldFirst, WhatIsLostIsToldAgain, WhatIsNotAskedDoesNotCount, closed_by, fails_by, given_up, has_place, is_enough, is_made, is_said, is_unmade, puts, refuses, said_at_last, stopped_by}
 
 abbrev answers : Bool → Bool → Bool → Answers
 answers before settled put = record { before = before; settled = settled; put = put }
@@ -183,3 +185,54 @@ so true false false false false false e = absurd (let bad : true ≡ false = e i
 
 pub what_is_lost_is_told_again : WhatIsLostIsToldAgain
 what_is_lost_is_told_again t e = so t.is_written t.is_refused t.is_left_out t.is_now t.is_there t.is_again e
+
+-- ---- what is asked
+
+spared_by : (w r l n t a again there : Bool) → (not w || (r || (l || (n || a)))) ≡ true → is_unmade (tried w r l n (t || there) (a || again)) ≡ is_unmade (tried w r l n t a)
+spared_by w true l n t a again there e = refl
+spared_by w false true n t a again there e = refl
+spared_by false false false n t a again there e = refl
+spared_by true false false true t a again there e = refl
+spared_by true false false false t true again there e = refl
+spared_by true false false false t false again there e = absurd (let bad : false ≡ true = e in cc)
+
+asked_by : (b c d e : Bool) → c ≡ true ⊎ (d ≡ true ⊎ e ≡ true) →
+    (if b then asking.Nothing else if c then asking.Again else if d then asking.Above else if e then asking.There else asking.Nothing) ≡ asking.Nothing → b ≡ true
+asked_by true c d e some is = refl
+asked_by false true d e some is = absurd (let bad : asking.Again ≡ asking.Nothing = is in cc)
+asked_by false false true e some is = absurd (let bad : asking.Above ≡ asking.Nothing = is in cc)
+asked_by false false false true some is = absurd (let bad : asking.There ≡ asking.Nothing = is in cc)
+asked_by false false false false some is = elim some [
+  | inl x ↦ absurd (let bad : false ≡ true = x in cc)
+  | inr y ↦ elim y [
+    | inl x ↦ absurd (let bad : false ≡ true = x in cc)
+    | inr x ↦ absurd (let bad : false ≡ true = x in cc)
+  ]
+]
+
+asks_by : (b : Bool) (x : TriedAsk) → b ≡ false → (if b then asking.Nothing else x) ≡ x
+asks_by false x e = refl
+asks_by true x e = absurd (let bad : true ≡ false = e in cc)
+
+one_of_three : (done : ℕ) → done < 3 → (done == 0) ≡ true ⊎ ((done == 1) ≡ true ⊎ (done == 2) ≡ true)
+one_of_three zero h = inl refl
+one_of_three (suc zero) h = inr (inl refl)
+one_of_three (suc (suc zero)) h = inr (inr refl)
+one_of_three (suc (suc (suc n))) h = absurd (omega (arith, h))
+
+over_by : (b : Bool) → (if b then asking.Nothing else asking.Nothing) ≡ asking.Nothing
+over_by true = refl
+over_by false = refl
+
+asked_enough : (t : Tried) → IsAskedEnough t
+asked_enough t = record {
+  spared = λ done h e again there. spared_by t.is_written t.is_refused t.is_left_out t.is_now t.is_there t.is_again again there
+      (asked_by (is_enough t) (done == 0) (done == 1) (done == 2) (one_of_three done h) e);
+  again = λ e. asks_by (is_enough t) asking.Again e;
+  above = λ e. asks_by (is_enough t) asking.Above e;
+  there = λ e. asks_by (is_enough t) asking.There e;
+  over = over_by (is_enough t);
+}
+
+pub what_is_not_asked_does_not_count : WhatIsNotAskedDoesNotCount
+what_is_not_asked_does_not_count = asked_enough

@@ -10,7 +10,7 @@ use Rattle.dconf_model.specs.Stores.{Saying, heard}
 use Rattle.dconf_model.specs.Stores.Saying.{silent, unset, sets}
 use Rattle.dconf_changesets.specs.Differences.{Values}
 use Rattle.dconf_changesets.specs.Rows.{IsRow, Row, later_word, said, said_by, word_of}
-use Rattle.dconf_changesets.specs.Saying.{TheSameIsSaid, is_said, said_by_sets}
+use Rattle.dconf_changesets.specs.Saying.{StoredCountsInSilence, TheSameIsSaid, is_said, is_silence, said_by_sets}
 use Rattle.dconf_changesets.proofs.WordLaws.{below_cut, below_from, covers_directory, covers_how, covers_twice, heard_word, over_by_word, said_apart, said_covered}
 
 -- ---- two paths that cover a third
@@ -138,3 +138,15 @@ the_same_is_said values row (set ∷ older) (rows ∷ more) stored key is are st
       | inr quiet ↦ passes values row rows (said_by_sets key more) key is (are.0.below newest.0) (are.0.silence quiet.0) over
           (the_same_is_said values row older more stored key is are.1.1 st quiet.1 over)
     ]
+
+-- ---- what the store has
+
+spared_by : (says same one other : Bool) (rest : Bool) → (rest ≡ false → one ≡ other) → (not says && rest) ≡ false → (if says then same else one) ≡ (if says then same else other)
+spared_by true same one other rest h e = refl
+spared_by false same one other rest h e = h e
+
+pub stored_counts_in_silence : StoredCountsInSilence
+stored_counts_in_silence [] stored other e = absurd (let bad : true ≡ false = e in cc)
+stored_counts_in_silence (set ∷ older) stored other e =
+    spared_by (set.has_below || set.says) (not set.has_below && set.is_same) (is_said older stored) (is_said older other) (is_silence older)
+    (stored_counts_in_silence older stored other) e

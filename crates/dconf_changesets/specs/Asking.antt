@@ -50,6 +50,10 @@ is_spared looker k = (looker == 3) || (k.is_watched && ((looker == 1) || ((looke
 abbrev pub look_due : ℕ → LookKnown → LookDue
 look_due looker k = if not k.is_open then Opens else if is_spared looker k then Nothing else if k.is_busy then Later else Looks
 
+-- it counts what may have been told: for who reads, where all that happens to the files is told
+abbrev pub asks_told : ℕ → LookKnown → Bool
+asks_told looker k = (looker == 2) && (k.is_watched && (k.is_whole && ((k.until == 0) && k.is_own)))
+
 abbrev pub look_number : LookDue → ℕ
 look_number Nothing = 0
 look_number Opens = 1
@@ -68,3 +72,8 @@ pub record IsGoodLook (looker : ℕ) (k : LookKnown) : Type 0 where
 
 abbrev pub NoLookIsMissed : Type 0
 NoLookIsMissed = (looker : ℕ) (k : LookKnown) → IsGoodLook looker k
+
+-- What may have been told doesn't count for anybody else.
+abbrev pub ToldCountsForWhoReads : Type 0
+ToldCountsForWhoReads =
+    (looker : ℕ) (k : LookKnown) (told : Bool) → asks_told looker k ≡ false → look_due looker (record k { is_told = told }) ≡ look_due looker k

@@ -1,7 +1,9 @@
 -- What becomes of a change whose caller waits for it. dconf's "dconf_client_change_sync".
-use Rattle.std.specs.Prelude.{ℕ, zero, suc, ◌≡◌, Bool, true, false, not, ◌&&◌, ◌||◌, if◌then◌else◌, ◌==◌, nat_lt}
+use Rattle.std.specs.Prelude.{ℕ, zero, suc, ◌≡◌, Bool, true, false, not, ◌&&◌, ◌||◌, if◌then◌else◌, ◌==◌, ◌<◌, nat_lt}
 use Rattle.dconf_changesets.specs.declared.making.ChangeKnown.{ChangeKnown}
 use Rattle.dconf_changesets.specs.declared.making.Tried.{Tried}
+use Rattle.dconf_changesets.specs.declared.making.TriedAsk.{TriedAsk}
+use Rattle.dconf_changesets.specs.declared.making.TriedAsk.TheVariants as asking
 use Rattle.dconf_changesets.specs.declared.making.ChangeTask.{ChangeTask}
 use Rattle.dconf_changesets.specs.declared.making.ChangeTask.TheVariants.{Before, Settle, Put, Others, Tell, GiveUp, Made, Refused, Failed}
 
@@ -139,6 +141,34 @@ pub record IsSo (t : Tried) : Type 0 where
 
 abbrev pub WhatIsLostIsToldAgain : Type 0
 WhatIsLostIsToldAgain = (t : Tried) → is_unmade t ≡ false → IsSo t
+
+-- what is asked of it: the first question that counts, once so many were asked or passed over. None counts of what is not written, or refused, or left
+-- out, or made now, or said again
+abbrev pub is_enough : Tried → Bool
+is_enough t = not t.is_written || (t.is_refused || (t.is_left_out || (t.is_now || t.is_again)))
+
+abbrev pub tried_asks : ℕ → Tried → TriedAsk
+tried_asks done t =
+    if is_enough t then asking.Nothing else if done == 0 then asking.Again else if done == 1 then asking.Above else
+    if done == 2 then asking.There else asking.Nothing
+
+abbrev pub tried_number : TriedAsk → ℕ
+tried_number asking.Nothing = 0
+tried_number asking.Again = 1
+tried_number asking.Above = 2
+tried_number asking.There = 3
+
+-- What isn't asked doesn't count: whatever the answers were, it is made or not as without them. And as long as one counts it is asked.
+pub record IsAskedEnough (t : Tried) : Type 0 where
+  pub spared : (done : ℕ) → done < 3 → tried_asks done t ≡ asking.Nothing → (again there : Bool) →
+      is_unmade (record t { is_again = t.is_again || again; is_there = t.is_there || there }) ≡ is_unmade t
+  pub again : is_enough t ≡ false → tried_asks 0 t ≡ asking.Again
+  pub above : is_enough t ≡ false → tried_asks 1 t ≡ asking.Above
+  pub there : is_enough t ≡ false → tried_asks 2 t ≡ asking.There
+  pub over : tried_asks 3 t ≡ asking.Nothing
+
+abbrev pub WhatIsNotAskedDoesNotCount : Type 0
+WhatIsNotAskedDoesNotCount = (t : Tried) → IsAskedEnough t
 
 -- ---- what goes on waiting
 

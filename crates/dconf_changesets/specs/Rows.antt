@@ -1,6 +1,6 @@
 -- What a changeset says of each key. dconf's DConfChangeset, "dconf_changeset_set" and "dconf_changeset_change": a key is set or reset, a
 -- directory is reset with all that is in it, and a later change goes over an earlier one.
-use Rattle.std.specs.Prelude.{◌≡◌, ℕ, Bool, true, false, not, ◌||◌, if◌then◌else◌, List, [], ◌∷◌, ◌++◌, fold, filter, Option, Some, None, is_some}
+use Rattle.std.specs.Prelude.{◌≡◌, ◌≢◌, ℕ, Bool, true, false, not, ◌||◌, if◌then◌else◌, List, [], ◌∷◌, ◌++◌, fold, filter, Option, Some, None, is_some}
 use Rattle.std.specs.List.{AllByRecursion, list_any}
 use Rattle.std.specs.Str.{bytes_eq}
 use Rattle.gv_model.specs.Tree.{Tree}
@@ -101,3 +101,7 @@ LaterCounts = (rows changes : List Row) (key : List ℕ) → said key (changed f
 -- What is found is what was said last.
 abbrev pub FoundIsSaid : Type 0
 FoundIsSaid = (changes : List Row) (key : List ℕ) → AllByRecursion IsRow changes → found key (changed false [] changes) ≡ said key changes
+
+-- The reset of a key stands for no other row, and no row goes by it.
+abbrev pub AKeyStandsForItself : Type 0
+AKeyStandsForItself = (path other : List ℕ) → ends_with_slash path ≡ false → effect_of path false false other ≢ Goes

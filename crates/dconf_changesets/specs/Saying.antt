@@ -1,7 +1,7 @@
 -- Whether a change says anything new beside the sets of changes that wait.
 use Rattle.std.specs.Prelude.{◌≡◌, ℕ, Bool, true, false, not, ◌&&◌, ◌||◌, if◌then◌else◌, List, [], ◌∷◌, None}
 use Rattle.std.specs.Str.{bytes_eq}
-use Rattle.std.specs.List.{AllByRecursion}
+use Rattle.std.specs.List.{AllByRecursion, list_all}
 use Rattle.dconf_model.specs.Locks.{covers}
 use Rattle.dconf_model.specs.Paths.{ends_with_slash}
 use Rattle.dconf_model.specs.Stores.{Saying, heard}
@@ -14,6 +14,10 @@ use Rattle.dconf_changesets.specs.declared.saying.Said.{Said}
 abbrev pub is_said : List Said → Bool → Bool
 is_said [] stored = stored
 is_said (set ∷ older) stored = if set.has_below || set.says then not set.has_below && set.is_same else is_said older stored
+
+-- no set says anything
+abbrev pub is_silence : List Said → Bool
+is_silence said = list_all (λ set. not (set.has_below || set.says)) said
 
 -- two edits of one path: both reset it, or both set the same bytes at the same type
 abbrev pub is_same_word : Bool → List ℕ → List ℕ → Bool → List ℕ → List ℕ → Bool
@@ -45,3 +49,7 @@ TheSameIsSaid =
     (values : Values) (row : Row) (sets : List Said) (rows : List (List Row)) (stored : Bool) (key : List ℕ) →
     IsRow row → AreSaying row sets rows → (stored ≡ true → (k : List ℕ) → covers row.path k ≡ true → values k ≡ row.value) →
     is_said sets stored ≡ true → covers row.path key ≡ true → heard (values key) (said_by_sets key rows) ≡ row.value
+
+-- What the store has counts only where no set says anything.
+abbrev pub StoredCountsInSilence : Type 0
+StoredCountsInSilence = (said : List Said) (stored other : Bool) → is_silence said ≡ false → is_said said stored ≡ is_said said other

@@ -7,12 +7,12 @@
 #![tactic(auto)]
 
 ghost use Rattle.dconf_changesets.specs.Above.{NoDirectoryIsPassedOver};
-ghost use Rattle.dconf_changesets.specs.Asking.{NoLookIsMissed, TheNewestIsAsked};
+ghost use Rattle.dconf_changesets.specs.Asking.{NoLookIsMissed, TheNewestIsAsked, ToldCountsForWhoReads};
 ghost use Rattle.dconf_changesets.specs.Differences.{KeptIsEnough};
 ghost use Rattle.dconf_changesets.specs.Fast.{WhatIsToldWaits};
-ghost use Rattle.dconf_changesets.specs.Making.{MadeMeansOnTheDisk, OthersAreToldFirst, WhatIsLostIsToldAgain};
-ghost use Rattle.dconf_changesets.specs.Rows.{FoundIsSaid, LaterCounts};
-ghost use Rattle.dconf_changesets.specs.Saying.{TheSameIsSaid};
+ghost use Rattle.dconf_changesets.specs.Making.{MadeMeansOnTheDisk, OthersAreToldFirst, WhatIsLostIsToldAgain, WhatIsNotAskedDoesNotCount};
+ghost use Rattle.dconf_changesets.specs.Rows.{AKeyStandsForItself, FoundIsSaid, LaterCounts};
+ghost use Rattle.dconf_changesets.specs.Saying.{StoredCountsInSilence, TheSameIsSaid};
 
 mod above;
 mod asking;
@@ -27,7 +27,8 @@ pub use asking::{LookDue, LookKnown, asked_after, look_due, look_number};
 pub use differences::{Base, differs};
 pub use fast::{FastKnown, FastTask, fast_after, fast_number};
 pub use making::{
-    ChangeKnown, ChangeTask, Tried, change_after, change_number, is_unmade, waits_again,
+    ChangeKnown, ChangeTask, Tried, TriedAsk, change_after, change_number, is_unmade, tried_asks,
+    tried_number, waits_again,
 };
 pub use rows::{Effect, effect_number, effect_of};
 pub use saying::{Said, is_said, is_same_word};
@@ -81,6 +82,26 @@ pub fn no_look_is_missed()
 /// Of an edit that was tried to write, and isn't told again, all is so, or it goes on waiting.
 pub fn what_is_lost_is_told_again()
     ensures { WhatIsLostIsToldAgain }
+{}
+
+/// Of an edit that was tried, what isn't asked doesn't count: whatever the answer were, it is made or not as without it. And what counts is asked.
+pub fn what_is_not_asked_does_not_count()
+    ensures { WhatIsNotAskedDoesNotCount }
+{}
+
+/// What may have been told of the files counts for who reads alone, where it is told of all that happens to them.
+pub fn told_counts_for_who_reads()
+    ensures { ToldCountsForWhoReads }
+{}
+
+/// What the store has of a change doesn't count where a set that waits says something of it.
+pub fn stored_counts_in_silence()
+    ensures { StoredCountsInSilence }
+{}
+
+/// The reset of a key stands for no other row.
+pub fn a_key_stands_for_itself()
+    ensures { AKeyStandsForItself }
 {}
 
 /// Each key of a change that says nothing new has its value already, by what is stored and by what waits.

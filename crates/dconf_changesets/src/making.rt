@@ -1,6 +1,6 @@
 //! What becomes of a change whose caller waits for it.
 ghost use Rattle.std.specs.Prelude.{◌≡◌};
-ghost use Rattle.dconf_changesets.specs.Making.{begins_with, change_after, change_number, closed_by, fails_by, given_up, has_place, is_unmade, puts, stopped_by, tells, waits_again};
+ghost use Rattle.dconf_changesets.specs.Making.{begins_with, change_after, change_number, closed_by, fails_by, given_up, has_place, is_enough, is_unmade, puts, stopped_by, tells, tried_asks, tried_number, waits_again};
 
 /// What comes next, in this order.
 #[derive(Clone, Copy)]
@@ -194,6 +194,53 @@ pub fn is_unmade(edit: &Tried) -> bool
     edit.is_refused
         || (edit.is_left_out
             || (edit.is_written && !(edit.is_now || (edit.is_again || edit.is_there))))
+}
+
+/// What is asked of an edit that was tried, one after the other.
+#[derive(Clone, Copy)]
+pub enum TriedAsk {
+    /// Nothing more: what is known is enough.
+    Nothing,
+    /// Whether a later edit of its path, or of one below it, was tried with it.
+    Again,
+    /// Whether a later one of a directory above it was.
+    Above,
+    /// Whether the user has what it says.
+    There,
+}
+
+/// What is asked next of an edit that was tried, once so many questions were asked or passed over. Each takes time, and is asked only where it counts.
+pub fn tried_asks(done: u32, edit: &Tried) -> TriedAsk
+    ensures { result ≡ tried_asks done edit.now }
+{
+    if is_enough(edit) {
+        return TriedAsk::Nothing;
+    }
+    match done {
+        0 => TriedAsk::Again,
+        1 => TriedAsk::Above,
+        2 => TriedAsk::There,
+        _ => TriedAsk::Nothing,
+    }
+}
+
+/// The same as a number: 0 nothing, 1 again, 2 above, 3 there.
+pub fn tried_number(done: u32, edit: &Tried) -> u32
+    ensures { result ≡ tried_number (tried_asks done edit.now) }
+{
+    match tried_asks(done, edit) {
+        TriedAsk::Nothing => 0,
+        TriedAsk::Again => 1,
+        TriedAsk::Above => 2,
+        TriedAsk::There => 3,
+    }
+}
+
+/// Whether it is known already that it is made, or goes on waiting, or isn't made.
+fn is_enough(edit: &Tried) -> bool
+    ensures { result ≡ is_enough edit.now }
+{
+    !edit.is_written || (edit.is_refused || (edit.is_left_out || (edit.is_now || edit.is_again)))
 }
 
 /// Whether what could not be written waits again, each path by itself: it is not unmade, and nothing newer is asked for there. So of each path the

@@ -3,3 +3,4 @@ pub mod SyncLaws
 pub mod GlanceLaws
 pub mod WriterLaws
 pub mod TellLaws
+pub mod ReadingLaws

@@ -1,12 +1,12 @@
 -- Who is told of what, whatever is known.
 use Rattle.std.proofs.Common.{◌≡◌, ◌<◌, ◌⊎◌, inl, inr, ℕ, Bool, true, false, not, refl, ap, sym, ◌∙◌, arith}
 use Rattle.std.proofs.lemmas.Bool.{eqb-false, ltb-true, ltb-false, ne_eqb}
-use Rattle.std.specs.Prelude.{◌&&◌, if◌then◌else◌, nat_lt, ◌==◌}
+use Rattle.std.specs.Prelude.{◌&&◌, ◌||◌, if◌then◌else◌, nat_lt, ◌==◌}
 use Rattle.dconf_rounds.specs.declared.telling.Telling.{Telling}
 use Rattle.dconf_rounds.specs.declared.telling.Telling.TheVariants.{Nothing, Take, TellAndTake, Tell, All, CatchUp, Rights, Values, Warn, Print, Over}
 use Rattle.dconf_rounds.specs.declared.telling.PathsHanded.TheVariants as handing
 use Rattle.dconf_rounds.specs.declared.telling.TellKnown.{TellKnown}
-use Rattle.dconf_rounds.specs.Telling.{is_all, is_sent, is_silent, is_taken, tell_next, IsGoodTelling, IsGoodOrder, WhatIsHeardIsTold, WhatIsNotHandedOutIsKept}
+use Rattle.dconf_rounds.specs.Telling.{is_all, is_news, is_sent, is_silent, is_taken, tell_next, IsGoodTelling, IsGoodOrder, IsToldEnough, WhatIsHeardIsTold, WhatIsNotAskedIsNotTold, WhatIsNotHandedOutIsKept}
 
 -- ---- the lists
 
@@ -179,6 +179,71 @@ good_order k =
 
 pub what_is_heard_is_told : WhatIsHeardIsTold
 what_is_heard_is_told k = (good_telling k, good_order k)
+
+-- ---- what needn't be asked
+
+none_taken : (b s f p n w x y : Bool) (list : Telling) → b ≡ false → p ≡ false → n ≡ true → any_by b list s f x p n w ≡ any_by b list s f y p n w
+none_taken true s f p n w x y list b h k = absurd (let bad : true ≡ false = b in cc)
+none_taken false true f p n w x y list b h k = refl
+none_taken false false false p n w x y list b h k = refl
+none_taken false false true true n w x y list b h k = absurd (let bad : true ≡ false = h in cc)
+none_taken false false true false false w x y list b h k = absurd (let bad : false ≡ true = k in cc)
+none_taken false false true false true w true true list b h k = refl
+none_taken false false true false true w true false list b h k = refl
+none_taken false false true false true w false true list b h k = refl
+none_taken false false true false true w false false list b h k = refl
+
+-- a list that is over if the program goes on: nothing is told, and no fault is there
+none : (a : Bool) → (a && false) ≡ false
+none true = refl
+none false = refl
+
+never : (a b : Bool) → (a && (b && false)) ≡ false
+never false b = refl
+never true true = refl
+never true false = refl
+
+quiet : (c of d r g x e : Bool) → x ≡ false → list_by (c && (of && false)) (d && (r && false)) (g && false) x e ≡ Over
+quiet c of d r g x e h = rw (never c of, never d r, none g, h) refl
+
+no_fault : (c r v x : Bool) → list_by c r v x false ≡ Over → x ≡ false
+no_fault true r v x e = absurd (let bad : CatchUp ≡ Over = e in cc)
+no_fault false true v x e = absurd (let bad : Rights ≡ Over = e in cc)
+no_fault false false true x e = absurd (let bad : Values ≡ Over = e in cc)
+no_fault false false false true e = absurd (let bad : Warn ≡ Over = e in cc)
+no_fault false false false false e = refl
+
+over_by : (first q c of d r g x e : Bool) →
+    list_by (c && (of && not (first || (false || q)))) (d && (r && not (first || (false || q)))) (g && not (first || (false || q))) x false ≡ Over →
+    list_by (c && (of && not (first || (e || q)))) (d && (r && not (first || (e || q)))) (g && not (first || (e || q))) x e ≡ Over
+over_by first q c of d r g x false is = is
+over_by true q c of d r g x true is = quiet c of d r g x true (no_fault (c && (of && false)) (d && (r && false)) (g && false) x is)
+over_by false q c of d r g x true is = quiet c of d r g x true (no_fault (c && (of && not q)) (d && (r && not q)) (g && not q) x is)
+
+held : (b : Bool) (x y : Telling) → b ≡ true → (if b then x else y) ≡ x
+held true x y e = refl
+held false x y e = absurd (let bad : false ≡ true = e in cc)
+
+-- when no list is over, by whether the program ends
+abbrev list_if : TellKnown → Bool → Telling
+list_if k e = list_by (nat_lt k.list 5 && (k.is_of_files && not (k.is_first || (e || not (is_news k || k.has_edits)))))
+    (nat_lt k.list 6 && (k.has_rights && not (k.is_first || (e || not (is_news k || k.has_edits)))))
+    (nat_lt k.list 7 && not (k.is_first || (e || not (is_news k || k.has_edits)))) (nat_lt k.list 8 && k.has_faults) e
+
+abbrev path_if : TellKnown → Bool → Telling
+path_if k e = path_by (k.is_first || (e || not (is_news k || k.has_edits))) k.is_found k.is_listened k.has_path (k.taken == 0) (nat_lt k.taken 255)
+
+told_enough : (k : TellKnown) (answer : Bool) → IsToldEnough k answer
+told_enough k answer = record {
+  listened = λ b p t. none_taken k.is_between (is_silent k) k.is_found k.has_path (k.taken == 0) (nat_lt k.taken 255) answer k.is_listened (list_if k k.ends) b p
+      (let z : (k.taken == 0) ≡ true = rw t refl in z);
+  ends = λ b is. held k.is_between (list_if k answer) (path_if k answer) b ∙
+      over_by k.is_first (not (is_news k || k.has_edits)) (nat_lt k.list 5) k.is_of_files (nat_lt k.list 6) k.has_rights (nat_lt k.list 7)
+      (nat_lt k.list 8 && k.has_faults) answer (sym (held k.is_between (list_if k false) (path_if k false) b) ∙ is);
+}
+
+pub what_is_not_asked_is_not_told : WhatIsNotAskedIsNotTold
+what_is_not_asked_is_not_told = told_enough
 
 -- ---- what counts as told
 

@@ -3,3 +3,5 @@ pub mod Syncs
 pub mod Glances
 pub mod Telling
 pub mod Writers
+pub mod Reading
+pub mod Backends

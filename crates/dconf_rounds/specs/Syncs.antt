@@ -7,6 +7,10 @@ use Rattle.dconf_rounds.specs.declared.syncs.SyncTask.TheVariants.{Ask, Write, A
 abbrev pub looks : SyncKnown → Bool
 looks k = k.has_store && not k.has_looked
 
+-- the last look that succeeded began when more looks had begun than by then: one that had begun before may have read what was there before
+abbrev pub has_looked_since : ℕ → ℕ → Bool
+has_looked_since begun last = nat_lt begun last
+
 -- somebody else writes, and is to try again what failed by a fault that lasts
 abbrev pub asks : SyncKnown → Bool
 asks k = k.has_writer && k.has_failed

@@ -43,9 +43,10 @@ telling_number Over = 10
 
 -- ---- which keys are asked for by their type
 
--- who asks for a type finds the setting elsewhere than who asks for any
-abbrev pub passes_over : Word → Bool → Bool → Bool → Bool → Bool
-passes_over word writable may edit stored =
+-- who asks for the setting by a type finds it elsewhere than who asks for any; who asks for anything else passes over nothing
+abbrev pub passes_over : Bool → Bool → Word → Bool → Bool → Bool → Bool → Bool
+passes_over user default word writable may edit stored =
+    not (user || default) &&
     not (found_number (found_by false false word writable may edit stored) == found_number (found_by false false word writable may true true))
 
 -- ---- the law
@@ -79,6 +80,12 @@ pub record IsGoodTelling (k : TellKnown) : Type 0 where
 abbrev pub next_list : TellKnown → ℕ → Telling
 next_list k last = list_after (record k { list = last })
 
+-- What needn't be asked: whether somebody listens to what all begin with, where nothing was taken; and whether the program ends, where nothing is told if it
+-- doesn't.
+pub record IsToldEnough (k : TellKnown) (answer : Bool) : Type 0 where
+  pub listened : k.is_between ≡ false → k.has_path ≡ false → k.taken ≡ 0 → tell_next (record k { is_listened = answer }) ≡ tell_next k
+  pub ends : k.is_between ≡ true → tell_next (record k { ends = false }) ≡ Over → tell_next (record k { ends = answer }) ≡ Over
+
 pub record IsGoodOrder (k : TellKnown) : Type 0 where
   -- what stands in files is told after whoever else tells of them has looked
   pub first : is_silent k ≡ false → k.is_of_files ≡ true → next_list k 0 ≡ CatchUp
@@ -97,6 +104,9 @@ pub record IsGoodOrder (k : TellKnown) : Type 0 where
 
 abbrev pub WhatIsHeardIsTold : Type 0
 WhatIsHeardIsTold = (k : TellKnown) → IsGoodTelling k × IsGoodOrder k
+
+abbrev pub WhatIsNotAskedIsNotTold : Type 0
+WhatIsNotAskedIsNotTold = (k : TellKnown) (answer : Bool) → IsToldEnough k answer
 
 -- ---- what counts as told
 

@@ -1,26 +1,30 @@
 //! What is done in turn by who writes what waits, by who has it written, or ends, or wants to know that it is on the disk, by who looks at the
-//! files of a store that is open, and by who tells what is seen otherwise.
+//! files of a store that is open, and by who tells what is seen otherwise; and where GIO is told that the module's backend stands.
 //!
 //! Nothing is kept here: each call is told what is known, and what was done last, and says what comes next.
 #![tactic(auto)]
 
+ghost use Rattle.dconf_rounds.specs.Backends.{OnlyAFileMakesItTheDefault};
 ghost use Rattle.dconf_rounds.specs.Rounds.{NothingDueIsPassedOver};
 ghost use Rattle.dconf_rounds.specs.Glances.{NothingNewIsMissed};
+ghost use Rattle.dconf_rounds.specs.Reading.{WhatIsNotAskedIsNotRead};
 ghost use Rattle.dconf_rounds.specs.Syncs.{YesMeansAllIsThere};
-ghost use Rattle.dconf_rounds.specs.Telling.{WhatIsHeardIsTold, WhatIsNotHandedOutIsKept};
+ghost use Rattle.dconf_rounds.specs.Telling.{WhatIsHeardIsTold, WhatIsNotAskedIsNotTold, WhatIsNotHandedOutIsKept};
 ghost use Rattle.dconf_rounds.specs.Writers.{WhatWaitsIsWrittenOrTold};
 
+mod backends;
 mod glances;
 mod rounds;
 mod syncs;
 mod telling;
 mod writers;
 
+pub use backends::priority;
 pub use glances::{Glance, GlanceKnown, glance_after, glance_number};
 pub use rounds::{
     Known, Task, WritingKnown, has_work, is_at_work, is_open, task_after, task_number,
 };
-pub use syncs::{SyncKnown, SyncTask, sync_after, sync_number};
+pub use syncs::{SyncKnown, SyncTask, has_looked_since, sync_after, sync_number};
 pub use telling::{
     PathsHanded, TellKnown, Telling, asks_context, handed, handed_number, passes_over, tell_next,
     telling_number,
@@ -62,6 +66,22 @@ pub fn what_is_heard_is_told()
 /// thread, which goes on, and for what waits in a child of fork(), which is its parent's: there a sync does nothing.
 pub fn what_waits_is_written_or_told()
     ensures { WhatWaitsIsWrittenOrTold }
+{}
+
+/// Of a key that is read, what isn't asked doesn't count: whatever the answer were, what is read is found where it is found without.
+pub fn what_is_not_asked_is_not_read()
+    ensures { WhatIsNotAskedIsNotRead }
+{}
+
+/// What isn't asked when something is told doesn't count: whether somebody listens to what all begin with, where nothing was taken; and whether the program
+/// ends, where nothing is told if it doesn't.
+pub fn what_is_not_asked_is_not_told()
+    ensures { WhatIsNotAskedIsNotTold }
+{}
+
+/// The module stands in front of dconf's backend only where an administrator's file makes it the default, and else behind all others.
+pub fn only_a_file_makes_it_the_default()
+    ensures { OnlyAFileMakesItTheDefault }
 {}
 
 /// What wasn't handed out doesn't count as told, and what was isn't told again; and the files count as looked at only if they were.

@@ -1,6 +1,6 @@
 //! What whoever wants to know that all is on the disk does next.
 ghost use Rattle.std.specs.Prelude.{◌≡◌};
-ghost use Rattle.dconf_rounds.specs.Syncs.{asks, looks, sync_after, sync_number};
+ghost use Rattle.dconf_rounds.specs.Syncs.{asks, has_looked_since, looks, sync_after, sync_number};
 
 /// What comes next, in this order.
 #[derive(Clone, Copy)]
@@ -94,4 +94,12 @@ fn looks(known: &SyncKnown) -> bool
     ensures { result ≡ looks known.now }
 {
     known.has_store && !known.has_looked
+}
+
+/// Whether the files were looked at since a sync was asked for: by a look that began after that. Looks are numbered as they begin; `begun` is the
+/// number of the last one that had begun by then, and `last` that of the last one that succeeded.
+pub fn has_looked_since(begun: u64, last: u64) -> bool
+    ensures { result ≡ has_looked_since begun last }
+{
+    begun < last
 }

@@ -155,16 +155,19 @@ fn is_silent(known: &TellKnown) -> bool
 }
 
 /// Whether a value of another type was passed over when a setting was read: who asks for any type finds it elsewhere. What is seen of the key
-/// then changes with its default, of which nobody else is told: so it is asked for by its type.
-pub fn passes_over(known: &Known) -> bool
-    ensures { result ≡ passes_over (known_word known.now) known.now.writable known.now.may_write known.now.edit_fits known.now.stored_fits }
+/// then changes with its default, of which nobody else is told: so it is asked for by its type. Who reads the user's own value, or what there is
+/// without that, passes over nothing.
+pub fn passes_over(of_user: bool, of_default: bool, known: &Known) -> bool
+    ensures { result ≡ passes_over of_user of_default (known_word known.now) known.now.writable known.now.may_write known.now.edit_fits known.now.stored_fits }
 {
     let of_any = Known {
         edit_fits: true,
         stored_fits: true,
         ..*known
     };
-    found_number(found_by(false, false, *known)) != found_number(found_by(false, false, of_any))
+    !(of_user || of_default)
+        && found_number(found_by(false, false, *known))
+            != found_number(found_by(false, false, of_any))
 }
 
 /// What becomes of the paths that are seen otherwise than what was told last.

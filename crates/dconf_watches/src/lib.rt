@@ -23,7 +23,7 @@ pub use flag::{Flagging, flag_after, flag_number};
 pub use inotify::{asked_of, asked_of_file, event_in, found_by, is_file_missed, seen_by};
 pub use name::{
     Found, NameWatch, Way, heard_as, is_busy, is_busy_in, is_lenient, is_missed, is_needed,
-    keeps_profile, minds_much, watch_at, watch_of, way_at, way_of,
+    keeps_profile, minds_much, watch_at, watch_of, watches_store, way_at, way_of,
 };
 pub use numbers::{WatchedName, asked_anew_number, heard_number, watched_name};
 pub use rounds::{AfterRound, Sight, WatchRounds};

@@ -1,6 +1,6 @@
 //! What is watched of a name on the way to a file.
 ghost use Rattle.std.specs.Prelude.{◌≡◌};
-ghost use Rattle.dconf_watches.specs.Names.{has_flags, heard_as, is_busy, is_busy_in, is_dot, is_dots, is_lenient, is_missed, is_needed, keeps_profile, minds_much, unless, watch_at, watch_of, way_at, way_of};
+ghost use Rattle.dconf_watches.specs.Names.{has_flags, heard_as, is_busy, is_busy_in, is_dot, is_dots, is_lenient, is_missed, is_needed, keeps_profile, minds_much, unless, watch_at, watch_of, watches_store, way_at, way_of};
 
 use crate::event::Heard;
 
@@ -129,6 +129,14 @@ pub fn keeps_profile(who: u32) -> bool
     ensures { result ≡ keeps_profile who }
 {
     who == 2
+}
+
+/// Whether the files are watched that a store has which is open, and else those that the store at its place has now: of a store whose profile counts
+/// as it was read.
+pub fn watches_store(who: u32, is_open: bool) -> bool
+    ensures { result ≡ watches_store who is_open }
+{
+    is_open && keeps_profile(who)
 }
 
 /// Whether a store is opened past its bad files, by who opens it: of the same numbers, for all but the library's caller, who asks for that (`is_asked`), or

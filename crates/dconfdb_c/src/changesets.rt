@@ -4,14 +4,14 @@ ghost use Rattle.dconf_changesets.specs.Above.{shared_within};
 ghost use Rattle.dconf_changesets.specs.Asking.{asked_after, look_due, look_number};
 ghost use Rattle.dconf_changesets.specs.Differences.{differs};
 ghost use Rattle.dconf_changesets.specs.Fast.{fast_after, fast_number};
-ghost use Rattle.dconf_changesets.specs.Making.{change_after, change_number, is_unmade, waits_again};
+ghost use Rattle.dconf_changesets.specs.Making.{change_after, change_number, is_unmade, tried_asks, tried_number, waits_again};
 ghost use Rattle.dconf_changesets.specs.Rows.{effect_number, effect_of};
 ghost use Rattle.dconf_changesets.specs.Saying.{is_said, is_same_word};
 
 use dconf_changesets::{
     Base, ChangeKnown, FastKnown, LookKnown, Said, Tried, asked_after, change_number, differs,
     effect_number, effect_of, fast_number, is_said, is_same_word, is_unmade, look_number,
-    shared_within, waits_again,
+    shared_within, tried_number, waits_again,
 };
 
 /// What becomes of the row of a path in a set of changes where one is set, or reset: 0 it stays, 1 it goes, 2 it takes the change's value,
@@ -117,6 +117,15 @@ pub extern "C" fn dconfdb_is_unmade(edit: &Tried) -> bool
     ensures { result ≡ is_unmade edit.now }
 {
     is_unmade(edit)
+}
+
+/// What is asked next of an edit that was tried, once the first `asked` questions were asked, or didn't count: 1 whether a later edit of its path, or of one
+/// below it, was tried with it, 2 whether one of a directory above it was, 3 whether the user has what it says; 0 nothing more.
+#[unsafe(no_mangle)]
+pub extern "C" fn dconfdb_tried_asks(asked: u32, edit: &Tried) -> u32
+    ensures { result ≡ tried_number (tried_asks asked edit.now) }
+{
+    tried_number(asked, edit)
 }
 
 /// Whether what could not be written waits again, each path by itself: it is not unmade, and nothing newer is asked for there.

@@ -1,14 +1,17 @@
 //! What is done next by who writes what waits, by who has it written, or ends, or wants to know that it is on the disk, by who looks at an open
 //! store's files, and by who tells what is seen otherwise.
 ghost use Rattle.std.specs.Prelude.{◌≡◌};
+ghost use Rattle.dconf_rounds.specs.Backends.{priority};
 ghost use Rattle.dconf_rounds.specs.Glances.{glance_after, glance_number};
 ghost use Rattle.dconf_rounds.specs.Rounds.{has_work, is_at_work, is_open, task_after, task_number};
+ghost use Rattle.dconf_rounds.specs.Syncs.{has_looked_since};
 ghost use Rattle.dconf_rounds.specs.Telling.{asks_context, handed, handed_number, tell_next, telling_number};
 ghost use Rattle.dconf_rounds.specs.Writers.{writer_number};
 
 use dconf_rounds::{
     GlanceKnown, Known, TellKnown, WriterKnown, WritingKnown, asks_context, glance_number,
-    handed_number, has_work, is_at_work, is_open, task_number, telling_number, writer_number,
+    handed_number, has_looked_since, has_work, is_at_work, is_open, priority, task_number,
+    telling_number, writer_number,
 };
 
 /// Whether what was begun in one process is at work in this one: it has not ended, and this is no child of that process by fork().
@@ -99,4 +102,21 @@ pub extern "C" fn dconfdb_asks_context(has_turned: bool, is_asked: bool) -> bool
     ensures { result ≡ asks_context has_turned is_asked }
 {
     asks_context(has_turned, is_asked)
+}
+
+/// Whether the files were looked at since a sync was asked for, by a look that began after that: `begun` looks had begun by then, and `last` is the number of
+/// the last one that succeeded.
+#[unsafe(no_mangle)]
+pub extern "C" fn dconfdb_has_looked_since(begun: u64, last: u64) -> bool
+    ensures { result ≡ has_looked_since begun last }
+{
+    has_looked_since(begun, last)
+}
+
+/// GIO's priority of the module's backend: in front of dconf's, if an administrator's file makes it the default, and else behind all others.
+#[unsafe(no_mangle)]
+pub extern "C" fn dconfdb_priority(is_default: bool) -> u32
+    ensures { result ≡ priority is_default }
+{
+    priority(is_default)
 }

@@ -34,10 +34,10 @@ pub extern "C" fn dconfdb_found(
     known: &Known,
     is_odd: &mut bool,
 ) -> u32
-    ensures odd { is_odd.new ≡ passes_over (known_word known.now) known.now.writable known.now.may_write known.now.edit_fits known.now.stored_fits }
+    ensures odd { is_odd.new ≡ passes_over of_user of_default (known_word known.now) known.now.writable known.now.may_write known.now.edit_fits known.now.stored_fits }
     ensures found { result ≡ found_number (found_by of_user of_default (known_word known.now) known.now.writable known.now.may_write known.now.edit_fits known.now.stored_fits) }
 {
-    *is_odd = passes_over(known);
+    *is_odd = passes_over(of_user, of_default, known);
     found_number(found_by(of_user, of_default, *known))
 }
 

@@ -3,13 +3,13 @@ ghost use Rattle.std.specs.Prelude.{◌≡◌, ◌≢◌};
 ghost use Rattle.dconf_watches.specs.Events.{asked_anew, heard_if, louder, meaning};
 ghost use Rattle.dconf_watches.specs.Flags.{flag_after, flag_number};
 ghost use Rattle.dconf_watches.specs.Inotify.{event_in, is_file_missed, seen_by};
-ghost use Rattle.dconf_watches.specs.Names.{is_lenient, keeps_profile, minds_much};
+ghost use Rattle.dconf_watches.specs.Names.{is_lenient, keeps_profile, minds_much, watches_store};
 ghost use Rattle.dconf_watches.specs.Numbers.{IsWatchedName, heard_number, heard_of, name_watch_of, of_what};
 ghost use Rattle.dconf_watches.specs.Rounds.{after_number, after_round, begun, gone_through, rounds_of, sight_of};
 
 use dconf_watches::{
     Sight, WatchRounds, WatchedName, asked_anew_number, flag_number, heard_number, is_file_missed,
-    is_lenient, keeps_profile, minds_much, watched_name,
+    is_lenient, keeps_profile, minds_much, watched_name, watches_store,
 };
 
 /// Whether who watches minds much that happens: 0 the library's caller, 1 the module, 2 libdconf, 3 the command, 4 the service.
@@ -26,6 +26,14 @@ pub extern "C" fn dconfdb_keeps_profile(who: u32) -> bool
     ensures { result ≡ keeps_profile who }
 {
     keeps_profile(who)
+}
+
+/// Whether the files are watched that a store has which is open, by the same; else those that the store at its place has now.
+#[unsafe(no_mangle)]
+pub extern "C" fn dconfdb_watches_store(who: u32, is_open: bool) -> bool
+    ensures { result ≡ watches_store who is_open }
+{
+    watches_store(who, is_open)
 }
 
 /// Whether a store is opened past its bad files, by the same: `is_asked` by the library's caller, or `lists`, as it is opened for the names of its files.

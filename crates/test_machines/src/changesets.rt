@@ -3,7 +3,7 @@
 use dconf_changesets::{
     Base, ChangeKnown, Effect, FastKnown, LookKnown, Said, Tried, asked_after, change_number,
     differs, effect_number, effect_of, fast_number, is_said, is_unmade, look_number, shared_within,
-    waits_again,
+    tried_number, waits_again,
 };
 use std::test::Fail;
 
@@ -211,6 +211,15 @@ fn tell_what_is_lost() -> bool {
         && waits_again(false, false)
         && !waits_again(true, false)
         && !waits_again(false, true)
+        && tried_number(0, &lost) == 1
+        && tried_number(1, &lost) == 2
+        && tried_number(2, &lost) == 3
+        && tried_number(3, &lost) == 0
+        && tried_number(0, &now) == 0
+        && tried_number(1, &again) == 0
+        && tried_number(0, &waits) == 0
+        && tried_number(0, &refused) == 0
+        && tried_number(0, &left) == 0
 }
 
 const PLAIN: ChangeKnown = ChangeKnown {

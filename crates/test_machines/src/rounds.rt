@@ -2,8 +2,8 @@
 //! the files.
 use dconf_rounds::{
     GlanceKnown, Known, SyncKnown, TellKnown, WriterKnown, WritingKnown, asks_context,
-    glance_number, handed_number, has_work, is_at_work, is_open, passes_over, sync_number,
-    task_number, telling_number, writer_number,
+    glance_number, handed_number, has_looked_since, has_work, is_at_work, is_open, passes_over,
+    priority, sync_number, task_number, telling_number, writer_number,
 };
 use dconf_seen::Known as SeenKey;
 use std::test::Fail;
@@ -327,6 +327,11 @@ fn what_is_handed_out_is_told() -> bool {
         && asks_context(false, false)
         && !asks_context(false, true)
         && !asks_context(true, false)
+        && priority(true) == 110
+        && priority(false) == 0
+        && has_looked_since(1, 2)
+        && !has_looked_since(2, 2)
+        && !has_looked_since(2, 1)
 }
 
 fn rights_are_told_before_values() -> bool {
@@ -612,11 +617,13 @@ fn odd_keys_are_known() -> bool {
         may_write: false,
         ..odd
     };
-    !passes_over(&stored)
-        && passes_over(&other)
-        && !passes_over(&edited)
-        && passes_over(&odd)
-        && passes_over(&locked)
+    !passes_over(false, false, &stored)
+        && passes_over(false, false, &other)
+        && !passes_over(false, false, &edited)
+        && passes_over(false, false, &odd)
+        && passes_over(false, false, &locked)
+        && !passes_over(true, false, &odd)
+        && !passes_over(false, true, &other)
 }
 
 fn work_is_known() -> bool {

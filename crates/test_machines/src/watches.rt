@@ -3,7 +3,7 @@ use dconf_watches::{
     Event, Found, Heard, NameWatch, Sight, WatchRounds, Way, asked_anew_number, asked_of,
     asked_of_file, event_in, flag_number, found_by, heard_as, heard_number, is_busy, is_busy_in,
     is_file_missed, is_lenient, is_missed, is_needed, keeps_profile, minds_much, seen_by, watch_at,
-    watch_of, way_at,
+    watch_of, watches_store, way_at,
 };
 use std::test::Fail;
 
@@ -225,6 +225,9 @@ fn names_are_watched_and_heard(rt: HostRuntime) -> Result<(), Fail> {
             && !keeps_profile(1)
             && !keeps_profile(3)
             && !keeps_profile(4)
+            && watches_store(2, true)
+            && !watches_store(2, false)
+            && !watches_store(1, true)
     );
     assert!(rt; only_the_library_refuses());
     assert!(rt; rounds_are_counted(WatchRounds::none()) && readers_are_told());
