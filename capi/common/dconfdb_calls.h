@@ -1219,6 +1219,9 @@ bool dconfdb_minds_much(uint32_t who);
 /* Whether the profile of a store that is open counts as it was read: nobody looks at it again. */
 bool dconfdb_keeps_profile(uint32_t who);
 
+/* Whether the files are watched that a store has which is open (`is_open`); else those that the store at its place has now. */
+bool dconfdb_watches_store(uint32_t who, bool is_open);
+
 /* Whether the store is opened past its bad files: the library's caller asks for that, or for no more than the names of its files (`lists`), and to all others it
  * is. */
 bool dconfdb_is_lenient(uint32_t who, bool is_asked, bool lists);
@@ -1330,6 +1333,10 @@ typedef struct {
     bool has_looked;   /* the files were looked at since it was asked for */
     bool is_to_settle; /* nobody knows yet that what was there already is on the disk */
 } DconfdbSync;
+
+/* Whether the files were looked at since a sync was asked for. Looks are numbered as they begin: `begun` is the number of the last one that had begun by
+ * then, and `last` that of the last one that succeeded. */
+bool dconfdb_has_looked_since(uint64_t begun, uint64_t last);
 
 /* What is known of the thread that writes what waits. */
 typedef struct {
@@ -1594,6 +1601,10 @@ enum {
 };
 
 uint32_t dconfdb_handed(bool has_paths, bool has_looked);
+
+/* GIO's priority of the module's backend, where the environment names none: in front of dconf's, if an administrator's file is there that makes it the
+ * default, and else behind all others. */
+uint32_t dconfdb_priority(bool is_default);
 
 /* Whether the main context of somebody who listens is asked to say that it turns. `has_turned`: one does; `is_asked`: this one is asked already. */
 bool dconfdb_asks_context(bool has_turned, bool is_asked);
@@ -2052,6 +2063,18 @@ typedef struct {
     bool is_there;    /* the user has what it says */
     bool is_again;    /* a later edit of its path, of one below it or of a directory above it was tried with it: whoever is told of that is told of this */
 } DconfdbTried;
+
+/* What is asked of it, in this order; what isn't asked stays false, and doesn't count. */
+enum {
+    DCONFDB_TRIED_OVER, /* nothing more, and at first nothing was */
+    DCONFDB_TRIED_BEGINS = DCONFDB_TRIED_OVER,
+    DCONFDB_TRIED_AGAIN, /* `is_again`: was a later edit of its path, or of one below it, tried with it? */
+    DCONFDB_TRIED_ABOVE, /* .. or one of a directory above it? */
+    DCONFDB_TRIED_THERE  /* `is_there` */
+};
+
+/* What is asked next, behind that. Each takes time, and is asked only where it counts. */
+uint32_t dconfdb_tried_asks(uint32_t asked, const DconfdbTried *edit);
 
 /* Whether it is not made: whoever was told of it is told again. */
 bool dconfdb_is_unmade(const DconfdbTried *edit);

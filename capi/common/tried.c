@@ -54,10 +54,18 @@ DconfdbTried tried_edit(const Batch *batch, size_t number, bool is_written, GTre
         .is_left_out = batch_is_left_out(batch, number),
         .is_now = batch->moments[number] == UINT64_MAX,
     };
-    /* What takes time is asked only where it counts: of a directory, whether there is any key. */
-    if (!tried.is_now) {
-        tried.is_again = is_said_again(last, edit->path, number) || is_said_above(last, edit->path, number);
-        tried.is_there = !tried.is_again && dconfdb_snapshot_has_edit(then, edit);
+    uint32_t ask = DCONFDB_TRIED_BEGINS;
+    while ((ask = dconfdb_tried_asks(ask, &tried)) != DCONFDB_TRIED_OVER) {
+        switch (ask) {
+        case DCONFDB_TRIED_AGAIN:
+            tried.is_again = is_said_again(last, edit->path, number);
+            break;
+        case DCONFDB_TRIED_ABOVE:
+            tried.is_again = is_said_above(last, edit->path, number);
+            break;
+        default: /* DCONFDB_TRIED_THERE */
+            tried.is_there = dconfdb_snapshot_has_edit(then, edit);
+        }
     }
     return tried;
 }

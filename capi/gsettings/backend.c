@@ -167,9 +167,6 @@ static void dconfdb_backend_class_finalize(DconfdbBackendClass *class)
 /* With this file, an administrator makes the module the default. */
 static const char default_file[] = "/etc/dconfdb/default";
 
-/* GIO takes the backend of the highest priority if the environment names none; dconf's has 100. */
-enum { BELOW_ALL_OTHERS = 0, ABOVE_DCONF = 110 };
-
 static bool is_default(void)
 {
     DconfdbStood stood = {.fault = access(default_file, F_OK) == 0 ? 0 : (uint32_t)errno};
@@ -188,8 +185,7 @@ void g_io_module_load(GIOModule *module)
     dconfdb_backend_register_type(G_TYPE_MODULE(module));
     static CatchUp catch_up = {catch_up_all};
     g_type_set_qdata(dconfdb_backend_get_type(), g_quark_from_static_string(CATCH_UP_DATA), &catch_up);
-    gint priority = is_default() ? ABOVE_DCONF : BELOW_ALL_OTHERS;
-    g_io_extension_point_implement(G_SETTINGS_BACKEND_EXTENSION_POINT_NAME, dconfdb_backend_get_type(), "dconfdb", priority);
+    g_io_extension_point_implement(G_SETTINGS_BACKEND_EXTENSION_POINT_NAME, dconfdb_backend_get_type(), "dconfdb", (gint)dconfdb_priority(is_default()));
 }
 
 void g_io_module_unload(GIOModule *module)

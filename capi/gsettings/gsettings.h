@@ -163,7 +163,7 @@ typedef struct {
     GMutex turn;         /* held while files are looked at or changed. It guards: */
     DconfdbStore *store; /* NULL: it isn't opened yet, or could not be. Changed with `lock` held, too */
     Profiles seen;       /* as they were then */
-    guint last_look;     /* the number of the last look at the files that succeeded */
+    uint64_t last_look;  /* the number of the last look at the files that succeeded */
     DconfdbFailing failing; /* by no fault of a change: since when nothing can be written */
     Warned told;         /* the faults of files that were reported and are there still */
 
@@ -191,7 +191,7 @@ typedef struct {
     pthread_t worker;
     int wakes; /* what wakes it; -1: nothing yet */
 
-    gint looks_begun; /* how many; atomic */
+    _Atomic uint64_t looks_begun; /* how many */
     gint has_work;    /* the worker has, as the proved call says; atomic */
     gint is_reopened; /* other files may be the store's, and are to be watched; atomic */
     gint is_let_go;   /* nobody holds the backend any longer; atomic */
@@ -221,6 +221,9 @@ static inline const char *store_folder(const DconfdbBackend *self)
 {
     return g_atomic_pointer_get((char **)&self->folder); /* only read */
 }
+
+/* Whether it is to be opened for the first time, as the proved call has it; `turn` or `lock` is held. */
+bool is_to_open(const DconfdbBackend *self);
 
 /* Opens it for the first time, if nobody has: the worker does, or whoever needs a snapshot sooner. */
 void store_open(DconfdbBackend *self);

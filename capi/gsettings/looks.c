@@ -91,7 +91,7 @@ bool is_shown(const DconfdbBackend *self)
 
 /* A look, and what is known of it. */
 typedef struct {
-    guint number;
+    uint64_t number;
     Profiles profiles;
     DconfdbGlance known;
     Notice *notice;
@@ -190,7 +190,7 @@ static void carry_out(DconfdbBackend *self, uint32_t task, Looking *it)
 
 bool look(DconfdbBackend *self, Notice *notice)
 {
-    Looking it = {.number = (guint)g_atomic_int_add(&self->looks_begun, 1) + 1, .profiles = profiles_now(self->names, self->profiles), .notice = notice};
+    Looking it = {.number = atomic_fetch_add(&self->looks_begun, 1) + 1, .profiles = profiles_now(self->names, self->profiles), .notice = notice};
     uint32_t task = DCONFDB_GLANCE_BEGINS;
     profiles_compare(&self->seen, &it.profiles, &it.known);
     it.known.is_open = self->store != NULL;

@@ -94,7 +94,8 @@ static void send_taken(DconfdbBackend *self, DconfdbTelling *telling, const char
     g_settings_backend_keys_changed(&self->parent, "/", items, NULL);
 }
 
-/* The keys, without their first slash, as GSettings wants them below `/`. */
+/* The keys, without their first slash, as GSettings wants them below `/`. At the end somebody listens to what was taken; where nothing was, it is proved that
+ * this doesn't count (what_is_not_asked_is_not_told). */
 static void send_changed(const void *it, DconfdbTelling *telling, const char *paths)
 {
     DconfdbBackend *self = ((const Telling *)it)->backend;
@@ -206,6 +207,7 @@ static void notice_end(Notice *notice)
     dconfdb_snapshot_unref(notice->after);
 }
 
+/* Whether the program ends isn't asked where nothing is told if it doesn't: by the same law nothing is if it does. */
 void notice_tell(DconfdbBackend *self, Notice *notice)
 {
     const Telling it = {self, notice};

@@ -10,7 +10,8 @@
 
 /* ---- reads */
 
-/* Nearly all reads end here, without a call: `looks` is the moment that the proved call gave, before which it has no read look at the files. */
+/* Nearly all reads end here, without a call. dconfdb_next_look gave that moment, and no read a look before it, nor where the files are watched: that is
+ * proved of it (no_read_is_too_old). */
 static inline bool is_before_a_look(const DconfdbBackend *self)
 {
     struct timespec now;
@@ -18,7 +19,7 @@ static inline bool is_before_a_look(const DconfdbBackend *self)
     return clock_gettime(CLOCK_MONOTONIC_COARSE, &now) == 0 && (gint64)now.tv_sec * 1000000000 + now.tv_nsec < due * 1000;
 }
 
-/* Where nothing is watched, since no main loop has turned, each read may look at the files; and else none does, as the proved call has it, too. */
+/* Where nothing is watched, since no main loop has turned, each read may look at the files. */
 static inline void look_if_unwatched(DconfdbBackend *self)
 {
     if (!g_atomic_int_get(&self->is_watching) && G_UNLIKELY(!is_before_a_look(self)))
@@ -31,9 +32,9 @@ void lock_opened(DconfdbBackend *self)
     g_mutex_lock(&self->lock);
     if (G_LIKELY(self->now != NULL))
         return;
-    const DconfdbLookKnown known = {.is_open = self->has_opened};
+    bool opens = is_to_open(self);
     g_mutex_unlock(&self->lock);
-    if (dconfdb_look_due(DCONFDB_LOOKER_OPENS, &known) == DCONFDB_LOOK_OPENS)
+    if (opens)
         store_open(self);
     else
         look_if_unwatched(self);
@@ -101,7 +102,8 @@ static GVariant *found_at(uint32_t found, Source *source, const char *key)
     }
 }
 
-/* What is stored, and whether it is of the type, is asked where that counts. Whoever set what waits could write. */
+/* What isn't asked here doesn't count, which is proved of dconfdb_found (what_is_not_asked_is_not_read): what is stored, of the default; and whether the key
+ * may be written, where no edit of it waits. */
 GVariant *dconfdb_backend_read(GSettingsBackend *backend, const char *key, const GVariantType *expected, gboolean default_value)
 {
     DconfdbBackend *self = backend_of(backend);
@@ -123,6 +125,7 @@ GVariant *dconfdb_backend_read(GSettingsBackend *backend, const char *key, const
     return value;
 }
 
+/* Of the user's own value nothing else counts, by the same law. */
 GVariant *dconfdb_backend_read_user_value(GSettingsBackend *backend, const char *key, const GVariantType *expected)
 {
     (void)expected;

@@ -39,11 +39,18 @@ void store_begin(DconfdbBackend *self)
     store_find(self, NULL);
 }
 
+bool is_to_open(const DconfdbBackend *self)
+{
+    const DconfdbLookKnown known = {.is_open = self->has_opened};
+    return dconfdb_look_due(DCONFDB_LOOKER_OPENS, &known) == DCONFDB_LOOK_OPENS;
+}
+
+/* Another thread may have opened it meanwhile. */
 void store_open(DconfdbBackend *self)
 {
     Notice notice = {.is_first = true};
     g_mutex_lock(&self->turn);
-    if (!self->has_opened)
+    if (is_to_open(self))
         look(self, &notice);
     g_mutex_unlock(&self->turn);
     notice_tell(self, &notice);

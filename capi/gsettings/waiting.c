@@ -60,7 +60,8 @@ static bool is_stored(const Edit *edit, const DconfdbSnapshot *now)
     return dconfdb_snapshot_has_edit(or_nothing(now), &edit->asked);
 }
 
-/* Whether an edit says what the newest one of its key says that waits, if there is one, or else what is stored, as the proved call has it. */
+/* Whether an edit says what the newest one of its key says that waits, if there is one, or else what is stored, as the proved call has it: where an edit waits
+ * it is proved that what is stored doesn't count (stored_counts_in_silence). */
 static bool is_said(const Edit *edit, const Edit *waits, const DconfdbSnapshot *now)
 {
     const DconfdbSaid said = {.says = waits != NULL, .is_same = waits && is_same_word(&waits->asked, &edit->asked)};
@@ -78,7 +79,7 @@ static DconfdbNewEdit known_of(Edit *edit, const Edit *waits, guint64 shown, con
                             .is_taken = waits && waits->change->is_taken};
 }
 
-/* What becomes of a change of one edit is what becomes of that. */
+/* Of one edit alone the change was asked just so: it isn't asked once more. */
 static void leave_out(Change *change, uint32_t entry)
 {
     for (size_t i = 0; i < change->count; i++)
@@ -296,7 +297,7 @@ static EditedKeys *edited_of(const Waiting *waiting)
     return keys;
 }
 
-/* Asked once more, by the newest snapshot, of a change that asks: of others it doesn't count. */
+/* Asked once more, by the newest snapshot, of a change that asks: of others it doesn't count, which is proved of dconfdb_waiting_line (nothing_is_lost). */
 static bool is_there_already(const Waiting *waiting, Change *change, const DconfdbSnapshot *now, bool is_open)
 {
     for (size_t i = 0; i < change->count; i++) {
@@ -331,7 +332,7 @@ static DconfdbWaiter known_after_try(const Waiting *waiting, const Change *chang
                            .edit = {edit->number, is_alone(edit)},
                            .newest = {newest ? newest->number : 0, newest && is_alone(newest)},
                            .is_tried = change->is_taken,
-                           .is_refused = change->is_taken && change->is_refused};
+                           .is_refused = change->is_refused};
 }
 
 /* Gives those that no longer wait. */

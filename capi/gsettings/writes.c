@@ -196,15 +196,9 @@ static bool settle(DconfdbBackend *self)
     return is_settled;
 }
 
-/* `turn` is held. Whether the files were looked at since so many looks had begun: the worker does after each write. */
-static bool has_looked_since(const DconfdbBackend *self, guint begun)
-{
-    return (gint)(self->last_look - begun) > 0;
-}
-
 /* A sync, and what it knows. */
 typedef struct {
-    guint begun;
+    uint64_t begun; /* how many looks had, when it was asked for */
     guint64 tries;
     DconfdbPatience patience;
     DconfdbWriter known;
@@ -216,7 +210,7 @@ static bool take_turn(DconfdbBackend *self, Sync *sync)
 {
     if (!mutex_lock_until(&self->turn, (gint64)sync->patience.end))
         return false;
-    sync->known.sync.has_looked = has_looked_since(self, sync->begun);
+    sync->known.sync.has_looked = dconfdb_has_looked_since(sync->begun, self->last_look);
     g_mutex_lock(&self->lock);
     sync->known.sync.is_to_settle = self->is_to_settle;
     g_mutex_unlock(&self->lock);
@@ -247,7 +241,7 @@ static bool carry_out(DconfdbBackend *self, uint32_t task, Sync *sync)
 
 bool store_sync(DconfdbBackend *self)
 {
-    Sync sync = {.begun = (guint)g_atomic_int_get(&self->looks_begun), .patience = patience_of(self, DCONFDB_PATIENCE_ASKED)};
+    Sync sync = {.begun = atomic_load(&self->looks_begun), .patience = patience_of(self, DCONFDB_PATIENCE_ASKED)};
     uint32_t task = DCONFDB_WRITER_BEGINS;
     bool yes = true, has_turn = false;
     sync.known.begun_in = (uint32_t)self->process;

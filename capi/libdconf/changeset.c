@@ -45,7 +45,7 @@ static bool is_directory(const gchar *path)
 static bool is_path(const gchar *path, const GVariant *value)
 {
     DconfdbServed known = {.sets = value != NULL};
-    known.kind = dconfdb_path_kind(bytes_of(path), strlen(path), known.sets ? DCONFDB_KEY_WANTED : DCONFDB_PATH_WANTED, false, &known.is_short);
+    known.kind = dconfdb_path_kind(bytes_of(path), strlen(path), DCONFDB_PATH_WANTED, false, &known.is_short);
     return dconfdb_served_after(DCONFDB_SERVED_PATH, &known) != DCONFDB_SERVED_PASSED;
 }
 

@@ -139,8 +139,8 @@ static bool is_told(const Engine *self)
     return file.fd < 0 || poll(&file, 1, 0) != 0;
 }
 
-/* `lock` is held. Only for who reads the system is asked what was told. A child of fork() shares the descriptor with its parent, who may have
- * taken it. */
+/* `lock` is held. The system is asked what was told for who reads alone: it is proved that it counts for nobody else (told_counts_for_who_reads). A child of
+ * fork() shares the descriptor with its parent, who may have taken it. */
 static uint32_t look_due(const Engine *self, uint32_t looker)
 {
     DconfdbLookKnown known = {
@@ -155,33 +155,37 @@ static uint32_t look_due(const Engine *self, uint32_t looker)
     return dconfdb_look_due(looker, &known);
 }
 
-/* What becomes of a look. */
-static uint32_t begin_look(Engine *self, uint32_t looker, DconfdbStore **store)
+/* What becomes of a look. `number`: of those that have begun. */
+static uint32_t begin_look(Engine *self, uint32_t looker, DconfdbStore **store, uint64_t *number)
 {
     g_mutex_lock(&self->lock);
     uint32_t due = look_due(self, looker);
+    bool begins = due == DCONFDB_LOOK_OPENS || due == DCONFDB_LOOK_NOW;
     self->is_to_look = self->is_to_look || due == DCONFDB_LOOK_LATER;
-    self->looks += due == DCONFDB_LOOK_OPENS || due == DCONFDB_LOOK_NOW;
+    self->looks += begins;
+    self->begun += begins;
+    *number = self->begun;
     *store = self->store;
     g_mutex_unlock(&self->lock);
     return due;
 }
 
-static void end_look(Engine *self, bool is_done)
+static void end_look(Engine *self, bool is_done, uint64_t number)
 {
     g_mutex_lock(&self->lock);
-    self->seen += is_done;
+    if (is_done)
+        self->seen = number;
     if (--self->looks == 0)
         g_cond_broadcast(&self->looked);
     g_mutex_unlock(&self->lock);
 }
 
 /* Messages are logged after it: who gets them may change a setting. False: it failed, by that fault. */
-static bool look_now(Engine *self, DconfdbStore *store, DconfdbError *error)
+static bool look_now(Engine *self, DconfdbStore *store, uint64_t number, DconfdbError *error)
 {
     Looking it = {.store = store, .error = DCONFDB_ERROR_INIT};
     look(self, &it);
-    end_look(self, it.known.is_done);
+    end_look(self, it.known.is_done, number);
     warn_of_faults(self, it.known.is_done ? NULL : &it.error);
     if (!it.known.is_done)
         *error = it.error;
@@ -192,10 +196,11 @@ static bool look_now(Engine *self, DconfdbStore *store, DconfdbError *error)
 static bool look_if_due(Engine *self, uint32_t looker, DconfdbError *error)
 {
     DconfdbStore *store;
-    switch (begin_look(self, looker, &store)) {
+    uint64_t number;
+    switch (begin_look(self, looker, &store, &number)) {
     case DCONFDB_LOOK_OPENS:
     case DCONFDB_LOOK_NOW:
-        return look_now(self, store, error);
+        return look_now(self, store, number, error);
     case DCONFDB_LOOK_LATER:
         return false;
     default:

@@ -122,7 +122,7 @@ static gboolean is_no_value_below(const gchar *path, GVariant *value, gpointer d
     return !value || dconfdb_row_effect(bytes, strlen(directory), false, false, others, strlen(path)) != DCONFDB_ROW_GOES;
 }
 
-/* Whether it sets a key for which the reset of the path stands: a key's for none. */
+/* Whether it sets a key for which the reset of the path stands: a key's for none, as is proved of the call (a_key_stands_for_itself). */
 static bool has_value_below(DConfChangeset *set, const gchar *path)
 {
     return dconf_is_dir(path, NULL) && !dconf_changeset_all(set, is_no_value_below, (gpointer)path);
@@ -216,13 +216,13 @@ gboolean engine_change_fast(Engine *self, DConfChangeset *changes, GError **erro
     return is_done;
 }
 
-/* Tries to write what waits, with what was there already brought to the disk; a thread's own try is over then. `seen`: how many looks there had been. */
-static void try_to_sync(Engine *self, uint64_t seen, DconfdbWriter *known, DconfdbError *fault)
+/* Tries to write what waits, with what was there already brought to the disk; a thread's own try is over then. `begun`: how many looks had. */
+static void try_to_sync(Engine *self, uint64_t begun, DconfdbWriter *known, DconfdbError *fault)
 {
     uint64_t again;
     known->settled = flush(self, FALSE, fault, &again);
     g_mutex_lock(&self->lock);
-    known->sync.has_looked = self->seen != seen;
+    known->sync.has_looked = dconfdb_has_looked_since(begun, self->seen);
     g_mutex_unlock(&self->lock);
 }
 
@@ -234,13 +234,13 @@ void engine_sync(Engine *self)
     g_mutex_lock(&self->lock);
     engine_begins_in(self);
     DconfdbWriter known = known_now(self);
-    uint64_t seen = self->seen;
+    uint64_t begun = self->begun;
     known.sync.has_store = self->place.folder != NULL;
     g_mutex_unlock(&self->lock);
     known.added = 1;
     while ((task = dconfdb_writer_after(DCONFDB_WRITER_SYNC, task, true, &known)) < DCONFDB_SYNC_YES) {
         if (task == DCONFDB_SYNC_WRITE)
-            try_to_sync(self, seen, &known, &fault);
+            try_to_sync(self, begun, &known, &fault);
         else if (task == DCONFDB_SYNC_LOOK)
             engine_refresh(self);
     }

@@ -43,7 +43,7 @@ typedef struct {
     gboolean is_busy;        /* its file is being replaced: nobody looks at the files, which would wait for the disk */
     gboolean is_to_look;     /* somebody wanted to, meanwhile */
     guint looks;             /* how many threads look at the files */
-    uint64_t seen;           /* how many looks succeeded */
+    uint64_t begun, seen;    /* how many looks have begun, and the number of the last one that succeeded */
     GCond looked;            /* none does */
     gboolean has_thread;     /* one writes what waits */
     GHashTable *watched;     /* paths, and how often each is watched */

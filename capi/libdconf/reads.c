@@ -47,7 +47,8 @@ static Reads *reads_of(uint32_t found)
     }
 }
 
-/* What was found. Of a value of any type each is one that is asked for. */
+/* What was found. Of a value of any type each is one that is asked for. What isn't asked doesn't count, which is proved of the call
+ * (what_is_not_asked_is_not_read). */
 static uint32_t find(Engine *self, const gchar *key, DConfReadFlags flags, const DconfdbSnapshot *now, gboolean is_edited, const GVariant *value)
 {
     bool of_user = (flags & DCONF_READ_USER_VALUE) != 0, of_default = (flags & DCONF_READ_DEFAULT_VALUE) != 0;

@@ -15,13 +15,15 @@ typedef struct {
 
 /* ---- the source */
 
-/* The store's files, or, where none can be opened yet, those by which it will be; where nobody knows these they are asked for again. */
+/* The store's files, or, where none can be opened yet, those by which it will be, as the proved call has it; where nobody knows these they are asked for again. */
 static bool watch_what_is_there(FileSource *self)
 {
     DconfdbError error;
     const DconfdbStore *store = engine_store(self->engine, &error);
     const StorePlace *place = engine_place(self->engine);
-    return store ? watch_store(self->watch, store) : place && watch_begin(self->watch, place);
+    if (dconfdb_watches_store(DCONFDB_WATCHER_CLIENT, store != NULL))
+        return watch_store(self->watch, store);
+    return place && watch_begin(self->watch, place);
 }
 
 static void begin(FileSource *self)

@@ -202,7 +202,7 @@ gboolean engine_change_sync(Engine *engine, DConfChangeset *changes, gchar **tag
 {
     Change self = {.engine = engine, .process = engine_begin_here(engine), .changes = changes, .edits = edits_of(changes), .fault = DCONFDB_ERROR_INIT};
     self.known.is_empty = dconf_changeset_is_empty(changes);
-    self.known.is_refused = !self.known.is_empty && is_refused(&self);
+    self.known.is_refused = is_refused(&self);
     self.known.has_store = engine_store(engine, &self.fault);
     self.known.has_user = engine_has_user(engine);
     gboolean is_done = answer(make(&self), &self.fault, error);

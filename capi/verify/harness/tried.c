@@ -120,6 +120,15 @@ size_t dconfdb_shared_within(const uint8_t *path, size_t path_len, size_t most, 
     return most;
 }
 
+/* As the proved call: the first question that counts, behind that one. */
+uint32_t dconfdb_tried_asks(uint32_t asked, const DconfdbTried *edit)
+{
+    CHECK(__CPROVER_r_ok(edit, sizeof *edit) && asked <= DCONFDB_TRIED_THERE, "step: behind a question that was asked");
+    if (!edit->is_written || edit->is_refused || edit->is_left_out || edit->is_now || edit->is_again || asked == DCONFDB_TRIED_THERE)
+        return DCONFDB_TRIED_OVER;
+    return asked + 1;
+}
+
 /* harness tried: unwind 6 */
 int tried(void)
 {
@@ -136,8 +145,9 @@ int tried(void)
     for (size_t i = at + 1; i < TRIED; i++)
         is_again = is_again || paths_meet(edits[at].path, edits[i].path);
     const DconfdbTried found = tried_edit(&batch, at, is_written, tried_last(&batch), (const DconfdbSnapshot *)snapshot);
-    CHECK(found.is_now || found.is_again == is_again, "answer: whether an edit behind it is of its path, or one above or below");
-    CHECK(found.is_now || found.is_again || found.is_there == is_stored, "answer: what is there, where that counts");
+    bool is_asked = is_written && !is_refused && !is_left && !found.is_now;
+    CHECK(found.is_again == (is_asked && is_again), "answer: whether an edit behind it is of its path, or one above or below");
+    CHECK(found.is_there == (is_asked && !is_again && is_stored), "answer: what is there, where that counts");
     CHECK(found.is_refused == is_refused && found.is_left_out == is_left, "answer: what became of it");
     CHECK(found.is_written == is_written && found.is_now == (moments[at] == UINT64_MAX), "answer: whether it is written, and counts as set now");
     if (is_again)
