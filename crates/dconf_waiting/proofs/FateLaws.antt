@@ -70,6 +70,10 @@ of_itself : (a : Bool) (n : ℕ) → (a && (a && nat_lt n n)) ≡ false
 of_itself true n = le-ltb n n (omega arith)
 of_itself false n = refl
 
+there_by : (r wrote taken asks x y o : Bool) → asks ≡ false → by r ((taken && wrote) || (asks && x)) taken o ≡ by r ((taken && wrote) || (asks && y)) taken o
+there_by r wrote taken false x y o e = refl
+there_by r wrote taken true x y o e = absurd (let bad : true ≡ false = e in cc)
+
 pub nothing_is_lost : NothingIsLost
 nothing_is_lost is_written w =
     let m : Bool = is_made is_written w in
@@ -86,6 +90,7 @@ nothing_is_lost is_written w =
             and_left w.newest.is_alone l rest,
             of_itself w.newest.is_alone w.newest.number,
           );
+      there = λ is. there_by w.is_refused is_written w.is_tried w.asks is w.is_there o;
       untried = λ t r a. waits_by w.is_refused m w.is_tried o r (made_by w.is_tried is_written w.asks w.is_there t a) (untaken w.is_tried o t);
       stays = λ made r le.
           waits_by w.is_refused m w.is_tried o r made

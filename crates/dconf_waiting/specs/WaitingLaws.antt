@@ -47,6 +47,8 @@ pub record IsGoodFate (is_written : Bool) (w : Waiter) : Type 0 where
   -- it goes unwritten only where a later one is there, which is alone, too: that one sets its key, and is not overtaken itself
   pub overtaken : fate_of is_written w ≡ Overtaken
       → (w.edit.number < w.newest.number) × (w.edit.is_alone ≡ true) × (w.newest.is_alone ≡ true) × (is_overtaken w.newest w.newest ≡ false)
+  -- whether it is there counts only where nobody knew that when it was set
+  pub there : (is_there : Bool) → w.asks ≡ false → fate_of is_written (record w { is_there = is_there }) ≡ fate_of is_written w
   -- nothing is overtaken that nobody tried to write
   pub untried : w.is_tried ≡ false → w.is_refused ≡ false → (w.asks && w.is_there) ≡ false → fate_of is_written w ≡ Waits
   -- the newest of a key waits until it is written or refused

@@ -16,9 +16,10 @@ minds_much who = (who == 3) || (who == 4)
 abbrev pub keeps_profile : ℕ → Bool
 keeps_profile who = who == 2
 
--- a profile that counts as it was read goes on naming the same files, whatever its file says by now
+-- a profile that counts as it was read goes on naming the same files, whatever its file says by now; and the library's caller is told of the store that it
+-- opened, and of no other
 abbrev pub watches_store : ℕ → Bool → Bool
-watches_store who is_open = is_open && keeps_profile who
+watches_store who is_open = is_open && ((who == 0) || keeps_profile who)
 
 -- A bad file refuses the store of the library's caller alone, unless that asks for a lenient one, or for no more than the names of its files: to all others
 -- it counts as what can be read of it

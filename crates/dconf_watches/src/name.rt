@@ -131,12 +131,12 @@ pub fn keeps_profile(who: u32) -> bool
     who == 2
 }
 
-/// Whether the files are watched that a store has which is open, and else those that the store at its place has now: of a store whose profile counts
-/// as it was read.
+/// Whether the files are watched that a store has which is open, and else those that the store at its place has now, by who watches, of the same numbers:
+/// a store whose profile counts as it was read goes on having the same files, and the library's caller has no other store.
 pub fn watches_store(who: u32, is_open: bool) -> bool
     ensures { result ≡ watches_store who is_open }
 {
-    is_open && keeps_profile(who)
+    is_open && (who == 0 || keeps_profile(who))
 }
 
 /// Whether a store is opened past its bad files, by who opens it: of the same numbers, for all but the library's caller, who asks for that (`is_asked`), or

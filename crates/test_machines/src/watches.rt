@@ -225,6 +225,7 @@ fn names_are_watched_and_heard(rt: HostRuntime) -> Result<(), Fail> {
             && !keeps_profile(1)
             && !keeps_profile(3)
             && !keeps_profile(4)
+            && watches_store(0, true)
             && watches_store(2, true)
             && !watches_store(2, false)
             && !watches_store(1, true)
