@@ -1641,8 +1641,7 @@ typedef struct {
     bool is_behind;                 /* one that came before it is on its way to the main thread */
     bool has_profile;               /* the file that is to be the profile of its database alone says that already */
     bool is_first;                  /* it is the first database */
-    bool is_absolute;               /* the path of a folder that may have that file is absolute, */
-    bool is_last;                   /* .. and no other one is left */
+    bool is_turned;                 /* its bytes are in the other order than the library's */
     bool wants_none;                /* who calls wants no answer */
     bool is_noted;                  /* the environment asks that calls are noted */
 } DconfdbServed;
@@ -1666,7 +1665,7 @@ enum {
     DCONFDB_SERVED_PASSES,   /* it came in another thread than the main one */
     DCONFDB_SERVED_PROFILE,  /* the file was read that is to be the profile of its database alone */
     DCONFDB_SERVED_READS,    /* it waits, and is to be read: in the thread in which it came? */
-    DCONFDB_SERVED_FOLDER,   /* a folder may have that file */
+    DCONFDB_SERVED_FORM,     /* its bytes are to be as the library takes them */
     DCONFDB_SERVED_USED,     /* its database is open, or can't be opened (`is_open`) */
     DCONFDB_SERVED_ANSWERED, /* it is answered */
     DCONFDB_SERVED_CALLED,   /* the service is called */
@@ -1675,8 +1674,8 @@ enum {
 
 /* What becomes of it then. */
 enum {
-    DCONFDB_SERVED_GOES_ON, /* it is read, or waits to be written; or each path is named; or it is made, or told of; or that file is written, or is in that
-                             * folder; or it is answered, or the call is noted; or the thread is waited for */
+    DCONFDB_SERVED_GOES_ON, /* it is read, or waits to be written; or each path is named; or it is made, or told of; or that file is written; or its bytes are
+                             * taken as they were sent; or it is answered, or the call is noted; or the thread is waited for */
     DCONFDB_SERVED_ACKNOWLEDGED,
     DCONFDB_SERVED_FAILED,  /* the fault is answered by which it isn't written */
     DCONFDB_SERVED_CLOSED,  /* .. or why nobody with these rights may write there */
@@ -1690,9 +1689,9 @@ enum {
     DCONFDB_SERVED_ALONE,    /* the store of its database alone has it; or an edit is made, or not, by itself */
     DCONFDB_SERVED_ENDS,     /* the service ends, and takes what it was sent before; or the thread is left, and nothing is said: all are answered */
     DCONFDB_SERVED_TAKEN,    /* another service has the name */
-    DCONFDB_SERVED_PASSED,   /* it says nothing, or nothing is told of it; or that file stays as it is, or is in another folder; or there is no answer, or no note */
+    DCONFDB_SERVED_PASSED,   /* it says nothing, or nothing is told of it; or that file stays as it is; or there is no answer, or no note */
     DCONFDB_SERVED_LEFT_OUT, /* it isn't made, which is told */
-    DCONFDB_SERVED_REPLACES, /* it counts in the place of the one before it */
+    DCONFDB_SERVED_REPLACES, /* it counts in the place of the one before it; or what is made anew of it counts */
     DCONFDB_SERVED_UNSUPPORTED /* no such database is served */
 };
 
@@ -1701,13 +1700,31 @@ uint32_t dconfdb_served_after(uint32_t done, const DconfdbServed *known);
 /* What the service does before it serves, in this order. */
 enum {
     DCONFDB_BEGINS_SERVING,
-    DCONFDB_BEGINS_FOLDERS, /* makes dconf's two: a sandbox is given them only if they are there when it starts */
-    DCONFDB_BEGINS_USER,    /* opens the database `user`: what others change in it is told before anybody writes */
-    DCONFDB_BEGINS_SERVES   /* over */
+    DCONFDB_BEGINS_FOLDER, /* makes the store's: a sandbox is given dconf's two only if they are there when it starts; */
+    DCONFDB_BEGINS_FLAGS,  /* .. and that of the flags of dconf's readers, in the user's runtime folder */
+    DCONFDB_BEGINS_USER,   /* opens the database `user`: what others change in it is told before anybody writes */
+    DCONFDB_BEGINS_SERVES  /* over */
 };
 
-/* The task that is due after that one; `is_dconfs`, the store is of dconf's kind. */
-uint32_t dconfdb_served_begins(uint32_t task, bool is_dconfs);
+/* The task that is due after that one. `is_dconfs`: the store is of dconf's kind. The path of the user's runtime folder has so many bytes: 0, there is none. */
+uint32_t dconfdb_served_begins(uint32_t task, bool is_dconfs, size_t runtime);
+
+/* In which folder the service has the profiles of databases by themselves. */
+enum {
+    DCONFDB_FOLDER_OF_PLACE, /* in the runtime folder of its store's place, if that has an absolute path; */
+    DCONFDB_FOLDER_RUNTIME,  /* .. in that of the user as GLib has it, if that has; */
+    DCONFDB_FOLDER_CACHE     /* .. in the user's cache */
+};
+
+uint32_t dconfdb_served_folder(bool is_places, bool is_runtime);
+
+/* Whether a file that was replaced is kept open for a while, by the number of its file system (statfs): only where nobody else serves it. */
+bool dconfdb_is_kept_open(uint64_t file_system);
+
+/* Where the name of the database begins in the path of a message's object, if it is a call of the method Change(ay) of such an object; else 0. Of what the
+ * message doesn't have the text is empty. */
+size_t dconfdb_changed_database(bool is_call, const uint8_t *object, size_t object_len, const uint8_t *interface, size_t interface_len,
+                                const uint8_t *member, size_t member_len, const uint8_t *signature, size_t signature_len);
 
 /* ---- changes that wait. Each key and each edit has a number; an edit's is 1 or more, and greater than those of older ones. */
 

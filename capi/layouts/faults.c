@@ -167,7 +167,7 @@ enum { SERVED_SIZE = 0, SERVED_WAITING = 8, SERVED_WAITING_SIZE = 16, SERVED_NAM
        SERVED_IS_USED = SERVED_FLAGS, SERVED_IS_NORMAL, SERVED_HAS_EDITS, SERVED_IS_WRITTEN, SERVED_IS_CLOSED, SERVED_ENDS, SERVED_IS_AMID,
        SERVED_IS_SAME, SERVED_IS_OPEN, SERVED_IS_PROFILE_OPEN, SERVED_HAS_SAME_FILE, SERVED_HAD_NAME, SERVED_IS_BUS_CLOSED, SERVED_IS_SHORT,
        SERVED_IS_AGAIN, SERVED_IS_COVERED, SERVED_SETS, SERVED_IS_USERS, SERVED_IS_UNMADE, SERVED_IS_SERVICE_DB, SERVED_IS_BEHIND,
-       SERVED_HAS_PROFILE, SERVED_IS_FIRST, SERVED_IS_ABSOLUTE, SERVED_IS_LAST, SERVED_WANTS_NONE, SERVED_IS_NOTED, SERVED = 96 };
+       SERVED_HAS_PROFILE, SERVED_IS_FIRST, SERVED_IS_TURNED, SERVED_WANTS_NONE, SERVED_IS_NOTED, SERVED = 96 };
 
 static bool is_served(uint32_t done, const uint64_t numbers[7], uint32_t said, unsigned fields, uint32_t next)
 {
@@ -186,7 +186,7 @@ static void finds_sent(const uint64_t none[7])
 {
     enum { WRITTEN = 8, SHORT = 1 << 13, AGAIN = SHORT << 1, COVERED = SHORT << 2, SETS = SHORT << 3, USERS = SHORT << 4, UNMADE = SHORT << 5,
            SERVICE_DB = SHORT << 6, BEHIND = SHORT << 7, HAS_PROFILE = SHORT << 8, IS_FIRST = SHORT << 9, USED = 1, ENDS = 32 };
-    is_so(is_served(9, none, 1, SHORT, 0) && is_served(9, none, 2, SHORT, 14) && is_served(9, none, 1, 0, 15), "DconfdbServed");
+    is_so(is_served(9, none, 1, SHORT, 0) && is_served(9, none, 1, SHORT | SETS, 14) && is_served(9, none, 2, SHORT, 14) && is_served(9, none, 1, 0, 15), "DconfdbServed");
     is_so(is_served(10, none, 0, 0, 0) && is_served(10, none, 0, AGAIN, 16) && is_served(10, none, 0, COVERED, 14) && is_served(10, none, 0, COVERED | SETS, 0),
           "DconfdbServed");
     is_so(is_served(11, none, 0, 0, 14) && is_served(11, none, 0, USERS | IS_FIRST, 0) && is_served(11, none, 0, USERS, 14) && is_served(11, none, 0, IS_FIRST, 14), "DconfdbServed");
@@ -211,16 +211,14 @@ static void finds_sent(const uint64_t none[7])
 /* Of a call, and of where a database is. */
 static void finds_called(const uint64_t none[7])
 {
-    enum { OPEN = 1 << 8, IS_ABSOLUTE = 1 << 23, IS_LAST = IS_ABSOLUTE << 1, WANTS_NONE = IS_ABSOLUTE << 2, IS_NOTED = IS_ABSOLUTE << 3 };
+    enum { USED = 1, NORMAL = 2, OPEN = 1 << 8, IS_TURNED = 1 << 23, WANTS_NONE = IS_TURNED << 1, IS_NOTED = IS_TURNED << 2 };
     is_so(is_served(16, none, 0, 0, 0) && is_served(16, (const uint64_t[7]){4097}, 0, 0, 9), "DconfdbServed");
     is_so(is_served(21, none, 0, 0, 0) && is_served(21, (const uint64_t[7]){[5] = 17}, 0, 0, 9) && is_served(21, (const uint64_t[7]){[6] = 1}, 0, 0, 9), "DconfdbServed");
-    is_so(is_served(17, none, 0, 0, 14) && is_served(17, none, 0, IS_ABSOLUTE, 0) && is_served(17, none, 0, IS_LAST, 0),
-          "DconfdbServed");
+    is_so(is_served(17, none, 0, 0, 16) && is_served(17, none, 0, NORMAL, 0) && is_served(17, none, 0, NORMAL | IS_TURNED, 16), "DconfdbServed");
     is_so(is_served(18, none, 0, 0, 2) && is_served(18, none, 0, OPEN, 0) && is_served(19, none, 0, 0, 0) && is_served(19, none, 0, WANTS_NONE, 14),
           "DconfdbServed");
-    is_so(is_served(20, none, 0, 0, 14) && is_served(20, none, 0, IS_NOTED, 0), "DconfdbServed");
-    lies("DconfdbServed", "is_absolute", SERVED_IS_ABSOLUTE, FLAG);
-    lies("DconfdbServed", "is_last", SERVED_IS_LAST, FLAG);
+    is_so(is_served(20, none, 0, 0, 14) && is_served(20, none, 0, IS_NOTED, 0) && is_served(14, none, 0, USED | IS_NOTED, 9), "DconfdbServed");
+    lies("DconfdbServed", "is_turned", SERVED_IS_TURNED, FLAG);
     lies("DconfdbServed", "wants_none", SERVED_WANTS_NONE, FLAG);
     lies("DconfdbServed", "is_noted", SERVED_IS_NOTED, FLAG);
 }

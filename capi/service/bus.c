@@ -52,20 +52,20 @@ void call_refuse(const Service *service, GDBusMessage *call, uint32_t served, co
 
 /* ---- calls */
 
-static bool is_text(const char *text, const char *wanted)
+static DconfdbBytes bytes_of(const char *text)
 {
-    return text && strcmp(text, wanted) == 0;
+    static const DconfdbBytes nothing = DCONFDB_NOTHING;
+    return text ? (DconfdbBytes){(const uint8_t *)text, strlen(text)} : nothing;
 }
 
 /* The name of the database that a message asks to be changed, where GDBus hands it to call_writer in any case. NULL: it is another one. */
 static const char *changed_name(GDBusMessage *message)
 {
-    static const char above[] = "/ca/desrt/dconf/Writer/";
-    const char *object = g_dbus_message_get_path(message);
-    bool is = g_dbus_message_get_message_type(message) == G_DBUS_MESSAGE_TYPE_METHOD_CALL && object && strncmp(object, above, sizeof above - 1) == 0
-           && is_text(g_dbus_message_get_interface(message), "ca.desrt.dconf.Writer") && is_text(g_dbus_message_get_member(message), "Change")
-           && is_text(g_dbus_message_get_signature(message), "ay");
-    return is && !strchr(object + sizeof above - 1, '/') ? object + sizeof above - 1 : NULL;
+    bool is_call = g_dbus_message_get_message_type(message) == G_DBUS_MESSAGE_TYPE_METHOD_CALL;
+    DconfdbBytes object = bytes_of(g_dbus_message_get_path(message)), interface = bytes_of(g_dbus_message_get_interface(message)),
+                 member = bytes_of(g_dbus_message_get_member(message)), signature = bytes_of(g_dbus_message_get_signature(message));
+    size_t at = dconfdb_changed_database(is_call, object.at, object.len, interface.at, interface.len, member.at, member.len, signature.at, signature.len);
+    return at > 0 ? (const char *)object.at + at : NULL;
 }
 
 /* The message of a call, which is answered by it alone. */
@@ -108,7 +108,7 @@ static void call_writer(GDBusConnection *bus, const char *sender, const char *ob
         return;
     }
     GDBusMessage *message = message_of(call);
-    bool has_passed = !service->blame && changed_name(message);
+    bool has_passed = changed_name(message);
     change(service, strrchr(object, '/') + 1, message);
     if (has_passed)
         service_has_passed(service);
@@ -204,9 +204,7 @@ bool bus_register(Service *service)
     if (service->interfaces && add_subtree(service, "/ca/desrt/dconf/Writer", &writers, &error)
         && add_subtree(service, "/ca/desrt/dconf/shm", &unsupported, &error)
         && add_subtree(service, "/ca/desrt/dconf/keyfile", &unsupported, &error) && add_info(service, &error)) {
-        /* What ran at the time of a call is asked for in the main thread. */
-        if (!service->blame)
-            g_dbus_connection_add_filter(service->bus, take, service, NULL);
+        g_dbus_connection_add_filter(service->bus, take, service, NULL);
         return true;
     }
     g_printerr("dconfdb-service: %s\n", error->message);

@@ -59,7 +59,7 @@ static GVariant *made_anew(GVariant *sent, bool is_turned)
 }
 
 /* The bytes in normal form, in the order that the library takes, and in one block, which all that is in it lends. NULL: they are odd. What is so as it was
- * sent is trusted once GLib has found it normal. */
+ * sent, by the proved call, is trusted once GLib has found it normal. */
 static GVariant *normal_form(Change *change)
 {
     g_autoptr(GBytes) bytes = g_variant_get_data_as_bytes(change->asked);
@@ -67,8 +67,9 @@ static GVariant *normal_form(Change *change)
     change->is_normal = g_variant_is_normal_form(sent);
     if (is_odd(change))
         return NULL;
-    bool is_turned = change->order == G_DBUS_MESSAGE_BYTE_ORDER_BIG_ENDIAN;
-    return is_turned || !change->is_normal ? made_anew(sent, is_turned) : g_steal_pointer(&sent);
+    const DconfdbServed known = {.is_normal = change->is_normal, .is_turned = change->order == G_DBUS_MESSAGE_BYTE_ORDER_BIG_ENDIAN};
+    bool is_as_sent = dconfdb_served_after(DCONFDB_SERVED_FORM, &known) == DCONFDB_SERVED_GOES_ON;
+    return is_as_sent ? g_steal_pointer(&sent) : made_anew(sent, known.is_turned);
 }
 
 /* What is set, or NULL, where the value is taken away. */
@@ -92,7 +93,7 @@ static DconfdbEdit edit_from(const Change *change, const char *path, GVariant *v
 static uint32_t served_of(const char *path, bool sets)
 {
     DconfdbServed known = {.sets = sets};
-    known.kind = dconfdb_path_kind((const uint8_t *)path, strlen(path), sets ? DCONFDB_KEY_WANTED : DCONFDB_PATH_WANTED, false, &known.is_short);
+    known.kind = dconfdb_path_kind((const uint8_t *)path, strlen(path), DCONFDB_PATH_WANTED, false, &known.is_short);
     return dconfdb_served_after(DCONFDB_SERVED_PATH, &known);
 }
 

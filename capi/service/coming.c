@@ -44,6 +44,7 @@ static bool may_wait(const Service *service, const Writer *writer, GDBusMessage 
     known.is_used = writer != NULL;
     known.is_behind = service->passing > 0;
     known.ends = service->ends;
+    known.is_noted = service->blame != NULL;
     return dconfdb_served_after(DCONFDB_SERVED_PASSES, &known) == DCONFDB_SERVED_GOES_ON;
 }
 

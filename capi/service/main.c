@@ -134,7 +134,8 @@ static void clear(Service *service)
 {
     g_clear_handle_id(&service->owner, g_bus_unown_name);
     g_clear_pointer(&service->interfaces, g_dbus_node_info_unref);
-    g_clear_pointer(&service->blame, blame_free);
+    if (service->blame) /* GDBus's own thread may be asking whether there was one */
+        blame_free(service->blame);
     g_clear_object(&service->bus);
     g_hash_table_unref(service->writers);
     g_main_loop_unref(service->loop);
@@ -149,26 +150,25 @@ static void make_folder(const char *path)
         g_printerr("dconfdb-service: %s: %s\n", path, g_strerror(fault));
 }
 
-/* Where there is no runtime folder dconf's readers have no flag. */
-static void make_folders(const StorePlace *place)
+static void make_flags(const StorePlace *place)
 {
-    g_autofree char *flags = place->runtime && *place->runtime ? g_build_filename(place->runtime, "dconf", NULL) : NULL;
-    make_folder(place->folder);
-    if (flags)
-        make_folder(flags);
+    g_autofree char *flags = g_build_filename(place->runtime, "dconf", NULL);
+    make_folder(flags);
 }
 
 /* False: there is no bus. */
 static bool begin(Service *service)
 {
+    const StorePlace *place = &service->place;
     uint32_t task = DCONFDB_BEGINS_SERVING;
     if (!connect_bus(service))
         return false;
-    while ((task = dconfdb_served_begins(task, service->place.is_dconfs)) < DCONFDB_BEGINS_SERVES) {
-        if (task == DCONFDB_BEGINS_FOLDERS)
-            make_folders(&service->place);
-        else
-            open_user(service);
+    while ((task = dconfdb_served_begins(task, place->is_dconfs, place->lent.runtime.len)) < DCONFDB_BEGINS_SERVES) {
+        switch (task) {
+        case DCONFDB_BEGINS_FOLDER: make_folder(place->folder); break;
+        case DCONFDB_BEGINS_FLAGS: make_flags(place); break;
+        default: open_user(service); break;
+        }
     }
     return true;
 }

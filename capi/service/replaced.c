@@ -5,25 +5,23 @@
 #include "service.h"
 
 #include <fcntl.h>
-#include <linux/magic.h>
 #include <sys/vfs.h>
 #include <unistd.h>
 
 static const uint64_t a_second = 1000000; /* in microseconds */
 
-/* On ext4 it takes a while to free a file. A file that NFS serves would get another name first if somebody has it, and for a moment the database none: so
- * it is only had where the files are this machine's own. */
-static bool is_own(int file)
+/* It is only had where the files are this machine's own, as the proved call has it. */
+static bool is_kept(int file)
 {
     struct statfs system;
-    return fstatfs(file, &system) == 0 && (system.f_type == EXT4_SUPER_MAGIC || system.f_type == TMPFS_MAGIC);
+    return fstatfs(file, &system) == 0 && dconfdb_is_kept_open((uint64_t)system.f_type);
 }
 
 int replaced_open(const DconfdbStore *store)
 {
     const char *name = dconfdb_store_user_file(store);
     int file = name ? open(name, O_PATH | O_CLOEXEC) : -1;
-    if (file < 0 || is_own(file))
+    if (file < 0 || is_kept(file))
         return file;
     close(file);
     return -1;

@@ -15,14 +15,18 @@ static bool has_line(const char *path, const char *line)
     return g_file_get_contents(path, &text, NULL, NULL) && strcmp(text, line) == 0;
 }
 
-/* The user's runtime folder, or what stands for it: the first of these that may have the file. */
+static bool is_absolute(const char *folder)
+{
+    return folder && g_path_is_absolute(folder);
+}
+
+/* The user's runtime folder, or what stands for it. */
 static const char *runtime_of(const Service *service)
 {
-    const char *const folders[] = {service->place.runtime, g_get_user_runtime_dir(), g_get_user_cache_dir()};
-    for (size_t at = 0;; at++) {
-        const DconfdbServed known = {.is_absolute = folders[at] && g_path_is_absolute(folders[at]), .is_last = at + 1 == G_N_ELEMENTS(folders)};
-        if (dconfdb_served_after(DCONFDB_SERVED_FOLDER, &known) == DCONFDB_SERVED_GOES_ON)
-            return folders[at];
+    switch (dconfdb_served_folder(is_absolute(service->place.runtime), is_absolute(g_get_user_runtime_dir()))) {
+    case DCONFDB_FOLDER_OF_PLACE: return service->place.runtime;
+    case DCONFDB_FOLDER_RUNTIME: return g_get_user_runtime_dir();
+    default: return g_get_user_cache_dir();
     }
 }
 

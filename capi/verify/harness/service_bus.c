@@ -99,6 +99,16 @@ const char *g_dbus_message_get_interface(GDBusMessage *at) { return text_of(at, 
 const char *g_dbus_message_get_member(GDBusMessage *at) { return text_of(at, of_other_member, "Change"); }
 const char *g_dbus_message_get_signature(GDBusMessage *at) { return text_of(at, of_other_words, "ay"); }
 
+size_t dconfdb_changed_database(bool is_call, const uint8_t *object, size_t object_len, const uint8_t *interface, size_t interface_len,
+                                const uint8_t *member, size_t member_len, const uint8_t *signature, size_t signature_len)
+{
+    CHECK(__CPROVER_r_ok(object, object_len) && __CPROVER_r_ok(interface, interface_len) && __CPROVER_r_ok(member, member_len), "memory: texts that are there");
+    CHECK(__CPROVER_r_ok(signature, signature_len) && is_call == !of_other_kind && (object_len == 0) == (of_path == 3), "answer: what the message says");
+    CHECK((interface_len == 21) == !of_other_interface && (member_len == 6) == !of_other_member && (signature_len == 2) == !of_other_words,
+          "answer: each text in its place");
+    return is_call && of_path == 0 && interface_len == 21 && member_len == 6 && signature_len == 2 ? 23 : 0;
+}
+
 static bool is_some_message(void)
 {
     of_path = any_u32();
@@ -138,7 +148,7 @@ int service_calls(void)
     CHECK(call.references == (int)added && (added == 1) == is_made, "answer: what is made waits");
     CHECK(what != 0 || !call.is_refused, "answer: there is nothing to be made ready");
     CHECK(what <= 0 || what == 2 || is_asked, "answer: what becomes of a change is asked");
-    CHECK(passed == (what == 1 && is_one && !service.blame), "answer: what was on its way has come");
+    CHECK(passed == (what == 1 && is_one), "answer: what was on its way has come");
     if (added == 1)
         REACHED("a change that waits");
     if (what == 1 && call.answers == 1)
@@ -231,7 +241,7 @@ void g_error_free(GError *error)
 guint g_dbus_connection_add_filter(GDBusConnection *bus, GDBusMessageFilterFunction filter, gpointer data, GDestroyNotify frees)
 {
     (void)bus, (void)frees;
-    CHECK(filter == take && data == &service && !service.blame, "step: what runs at a call is known, if that is asked for");
+    CHECK(filter == take && data == &service && registered >= 4, "step: changes are taken once all is there");
     is_filtered = true;
     return 1;
 }
@@ -241,7 +251,7 @@ int service_register(void)
 {
     bool is = bus_register(&service);
     CHECK(is == (registered == (service.blame ? 5 : 4)), "answer: all is registered, or that is told");
-    CHECK(is_filtered == (is && !service.blame), "step: changes are taken once all is there");
+    CHECK(is_filtered == is, "step: changes are taken where all is there");
     if (is && service.blame)
         REACHED("all is registered");
     return 0;

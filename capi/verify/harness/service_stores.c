@@ -72,10 +72,6 @@ static bool is_profile_read, is_to_be_written; /* the file that is to be the pro
 
 uint32_t dconfdb_served_after(uint32_t done, const DconfdbServed *known)
 {
-    if (done == DCONFDB_SERVED_FOLDER) {
-        CHECK(!is_alone_opened, "order: where the profile is, is known before a store is opened by it");
-        return served_given(done, known);
-    }
     if (done == DCONFDB_SERVED_PROFILE) {
         CHECK(!is_alone_opened, "order: the profile is there before a store is opened by it");
         CHECK(is_profile_read || !known->has_profile, "answer: what can't be read says nothing");
@@ -84,6 +80,13 @@ uint32_t dconfdb_served_after(uint32_t done, const DconfdbServed *known)
     }
     CHECK(done == DCONFDB_SERVED_OPENED && known->is_open == is_alone_open && known->is_profile_open == is_profile_open, "answer: which stores are open");
     return served_given(done, known);
+}
+
+uint32_t dconfdb_served_folder(bool is_places, bool is_runtime)
+{
+    CHECK(!is_alone_opened, "order: where the profile is, is known before a store is opened by it");
+    CHECK(!is_places || service.place.runtime, "answer: a folder that there is");
+    return folder_given(is_places, is_runtime);
 }
 
 /* ---- files */

@@ -122,8 +122,14 @@ const char *dconfdb_store_user_file(const DconfdbStore *store)
 int fstatfs(int file, struct statfs *found)
 {
     CHECK(is_open(file), "descriptor: fstatfs() of what is open");
-    found->f_type = any_bool() ? EXT4_SUPER_MAGIC : NFS_SUPER_MAGIC;
+    found->f_type = any_int();
     return any_bool() ? -1 : 0;
+}
+
+bool dconfdb_is_kept_open(uint64_t file_system)
+{
+    (void)file_system;
+    return any_bool();
 }
 
 static void may_keep(void)

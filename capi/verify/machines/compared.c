@@ -199,6 +199,14 @@ static void compare_served_of(DconfdbServed known)
     }
 }
 
+static void compare_folders(void)
+{
+    for (uint32_t i = 0; i < 4; i++) {
+        if (dconfdb_served_folder(i & 1, i & 2) != folder_given(i & 1, i & 2))
+            fail("served_folder", "another folder than is given");
+    }
+}
+
 /* By each bit that is known; and at each bound, and beyond it. */
 static void compare_served(void)
 {
@@ -208,8 +216,8 @@ static void compare_served(void)
                                .is_closed = bits & 16, .ends = bits & 32, .is_amid = bits & 64, .is_same = bits & 128, .is_open = bits & 256,
                                .is_profile_open = bits & 512, .has_same_file = bits & 1024, .had_name = bits & 2048, .is_bus_closed = bits & 1, .kind = bits / 4096, .is_short = bits & 1,
                                .sets = bits & 2, .is_again = bits & 4, .is_covered = bits & 8, .is_users = bits & 16, .is_unmade = bits & 32, .is_service_db = bits & 64,
-                               .is_behind = bits & 2, .has_profile = bits & 8, .is_first = bits & 4, .is_absolute = bits & 1, .is_last = bits & 2, .wants_none = bits & 1,
-                               .is_noted = bits & 1};
+                               .is_behind = bits & 2, .has_profile = bits & 8, .is_first = bits & 4, .is_turned = bits & 1, .wants_none = bits & 1,
+                               .is_noted = bits & 4};
         for (uint32_t i = 0; i < 9 * 8; i++) {
             known.size = sizes[i / 8];
             known.edits = i & 1 ? 16 : i & 2 ? 17 : 0;
@@ -266,6 +274,7 @@ void compare_answers(void)
     compare_brought();
     compare_flags();
     compare_served();
+    compare_folders();
     compare_rounds();
     compare_looks();
     compare_files();

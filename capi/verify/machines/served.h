@@ -36,7 +36,7 @@ static inline uint32_t served_made(const DconfdbServed *known)
 static inline uint32_t served_read(uint32_t done, const DconfdbServed *known)
 {
     if (done == DCONFDB_SERVED_PATH)
-        return known->kind > 1 ? DCONFDB_SERVED_PASSED : known->is_short ? DCONFDB_SERVED_GOES_ON : DCONFDB_SERVED_LEFT_OUT;
+        return known->kind > (known->sets ? 0 : 1) ? DCONFDB_SERVED_PASSED : known->is_short ? DCONFDB_SERVED_GOES_ON : DCONFDB_SERVED_LEFT_OUT;
     if (done == DCONFDB_SERVED_SHOWS)
         return known->is_users && known->is_first ? DCONFDB_SERVED_GOES_ON : DCONFDB_SERVED_PASSED;
     return known->is_again ? DCONFDB_SERVED_REPLACES : known->is_covered && !known->sets ? DCONFDB_SERVED_PASSED : DCONFDB_SERVED_GOES_ON;
@@ -61,17 +61,22 @@ static inline uint32_t served_given(uint32_t done, const DconfdbServed *known)
     case DCONFDB_SERVED_SHOWS: return served_read(done, known);
     case DCONFDB_SERVED_MADE: return served_made(known);
     case DCONFDB_SERVED_BESIDE: return DCONFDB_SERVED_ALONE;
-    case DCONFDB_SERVED_PASSES: return !known->is_used || known->is_behind || known->ends ? DCONFDB_SERVED_LATER : served_came(known);
+    case DCONFDB_SERVED_PASSES: return !known->is_used || known->is_behind || known->ends || known->is_noted ? DCONFDB_SERVED_LATER : served_came(known);
     case DCONFDB_SERVED_PROFILE: return known->has_profile ? DCONFDB_SERVED_PASSED : DCONFDB_SERVED_GOES_ON;
     case DCONFDB_SERVED_READS: return known->size > 4096 ? DCONFDB_SERVED_LATER : DCONFDB_SERVED_GOES_ON;
     case DCONFDB_SERVED_TELLS: return known->resets > 0 || known->edits > 16 ? DCONFDB_SERVED_LATER : DCONFDB_SERVED_GOES_ON;
-    case DCONFDB_SERVED_FOLDER: return known->is_absolute || known->is_last ? DCONFDB_SERVED_GOES_ON : DCONFDB_SERVED_PASSED;
+    case DCONFDB_SERVED_FORM: return known->is_normal && !known->is_turned ? DCONFDB_SERVED_GOES_ON : DCONFDB_SERVED_REPLACES;
     case DCONFDB_SERVED_USED: return known->is_open ? DCONFDB_SERVED_GOES_ON : DCONFDB_SERVED_FAILED;
     case DCONFDB_SERVED_ANSWERED: return known->wants_none ? DCONFDB_SERVED_PASSED : DCONFDB_SERVED_GOES_ON;
     case DCONFDB_SERVED_CALLED: return known->is_noted ? DCONFDB_SERVED_GOES_ON : DCONFDB_SERVED_PASSED;
     case DCONFDB_SERVED_NAMELESS: return known->had_name || known->is_bus_closed ? DCONFDB_SERVED_ENDS : DCONFDB_SERVED_TAKEN;
     default: return served_tried(known);
     }
+}
+
+static inline uint32_t folder_given(bool is_places, bool is_runtime)
+{
+    return is_places ? DCONFDB_FOLDER_OF_PLACE : is_runtime ? DCONFDB_FOLDER_RUNTIME : DCONFDB_FOLDER_CACHE;
 }
 
 /* Of a thread that watches nothing, and is in no line: what the service's is asked by. */

@@ -1,2 +1,3 @@
 pub mod BeginsLaws
 pub mod ServedLaws
+pub mod FolderLaws

@@ -172,15 +172,16 @@ goes_if : (is : Bool) → (if is then GoesOn else PassedOver) ≡ GoesOn → is 
 goes_if true e = refl
 goes_if false e = absurd (let bad : PassedOver ≡ GoesOn = e in cc)
 
-absolute : (absolute last : Bool) → (if absolute || last then GoesOn else PassedOver) ≡ GoesOn → last ≡ false → absolute ≡ true
-absolute true last e l = refl
-absolute false true e l = absurd (let bad : true ≡ false = l in cc)
-absolute false false e l = absurd (let bad : PassedOver ≡ GoesOn = e in cc)
+form : (normal turned : Bool) → (if normal && not turned then GoesOn else Replaces) ≡ GoesOn → (normal ≡ true) × (turned ≡ false)
+form true false e = (refl, refl)
+form true true e = absurd (let bad : Replaces ≡ GoesOn = e in cc)
+form false turned e = absurd (let bad : Replaces ≡ GoesOn = e in cc)
 
-last_folder : (absolute last : Bool) → last ≡ true → (if absolute || last then GoesOn else PassedOver) ≡ GoesOn
-last_folder true last l = refl
-last_folder false true l = refl
-last_folder false false l = absurd (let bad : false ≡ true = l in cc)
+key_if : (key directory sets : Bool) → key || (directory && not sets) ≡ true → sets ≡ true → key ≡ true
+key_if true directory sets e s = refl
+key_if false true true e s = absurd (let bad : false ≡ true = e in cc)
+key_if false true false e s = absurd (let bad : false ≡ true = s in cc)
+key_if false false sets e s = absurd (let bad : false ≡ true = e in cc)
 
 is_open : (is : Bool) → (if is then GoesOn else Failed) ≡ GoesOn → is ≡ true
 is_open true e = refl
@@ -259,8 +260,6 @@ locks_count_where_they_are_known k = record {
   unknown = unknown k.is_open k.is_profile_open k.has_same_file;
   others = others k.is_open k.is_profile_open k.has_same_file;
   profile = says_so k.has_profile;
-  folder = absolute k.is_absolute k.is_last;
-  last = last_folder k.is_absolute k.is_last;
   opened = is_open k.is_open;
 }
 
@@ -268,6 +267,8 @@ pub what_is_sent_counts : WhatIsSentCounts
 what_is_sent_counts k = record {
   path = path_counts (is_path k) k.is_short;
   made = made (is_path k) k.is_short;
+  key = λ e s. zero_if k.kind (key_if (k.kind == 0) (k.kind == 1) k.sets (made (is_path k) k.is_short e).0 s);
+  form = form k.is_normal k.is_turned;
   set = set_stays k.is_again k.is_covered k.sets;
   covered = passed_over k.is_again k.is_covered k.sets;
   once = once k.is_again k.is_covered k.sets;
@@ -282,38 +283,47 @@ what_is_made_is_told k = record {
   alone = refl;
 }
 
--- ---- beside the main thread, by whether its database is in use, it is behind another, and the service ends
+-- ---- beside the main thread, by whether its database is in use, it is behind another, the service ends, and calls are noted
 
-abbrev passed_by : Bool → Bool → Bool → Served → Served
-passed_by used behind ends came = if not used || (behind || ends) then Later else came
+abbrev passed_by : Bool → Bool → Bool → Bool → Served → Served
+passed_by used behind ends noted came = if not used || (behind || (ends || noted)) then Later else came
 
-waits_behind : (used behind ends : Bool) (came : Served) → behind ≡ true → passed_by used behind ends came ≡ Later
-waits_behind false behind ends came b = refl
-waits_behind true true ends came b = refl
-waits_behind true false ends came b = absurd (let bad : false ≡ true = b in cc)
+waits_behind : (used behind ends noted : Bool) (came : Served) → behind ≡ true → passed_by used behind ends noted came ≡ Later
+waits_behind false behind ends noted came b = refl
+waits_behind true true ends noted came b = refl
+waits_behind true false ends noted came b = absurd (let bad : false ≡ true = b in cc)
 
-waits_at_the_end : (used behind ends : Bool) (came : Served) → ends ≡ true → passed_by used behind ends came ≡ Later
-waits_at_the_end false behind ends came e = refl
-waits_at_the_end true true ends came e = refl
-waits_at_the_end true false true came e = refl
-waits_at_the_end true false false came e = absurd (let bad : false ≡ true = e in cc)
+waits_at_the_end : (used behind ends noted : Bool) (came : Served) → ends ≡ true → passed_by used behind ends noted came ≡ Later
+waits_at_the_end false behind ends noted came e = refl
+waits_at_the_end true true ends noted came e = refl
+waits_at_the_end true false true noted came e = refl
+waits_at_the_end true false false noted came e = absurd (let bad : false ≡ true = e in cc)
 
-waits_to_be_open : (used behind ends : Bool) (came : Served) → used ≡ false → passed_by used behind ends came ≡ Later
-waits_to_be_open false behind ends came u = refl
-waits_to_be_open true behind ends came u = absurd (let bad : true ≡ false = u in cc)
+waits_to_be_noted : (used behind ends noted : Bool) (came : Served) → noted ≡ true → passed_by used behind ends noted came ≡ Later
+waits_to_be_noted false behind ends noted came n = refl
+waits_to_be_noted true true ends noted came n = refl
+waits_to_be_noted true false true noted came n = refl
+waits_to_be_noted true false false true came n = refl
+waits_to_be_noted true false false false came n = absurd (let bad : false ≡ true = n in cc)
 
-fits_by : (used behind ends : Bool) (came : Served) → passed_by used behind ends came ≡ GoesOn → came ≡ GoesOn
-fits_by false behind ends came g = absurd (let bad : Later ≡ GoesOn = g in cc)
-fits_by true true ends came g = absurd (let bad : Later ≡ GoesOn = g in cc)
-fits_by true false true came g = absurd (let bad : Later ≡ GoesOn = g in cc)
-fits_by true false false came g = g
+waits_to_be_open : (used behind ends noted : Bool) (came : Served) → used ≡ false → passed_by used behind ends noted came ≡ Later
+waits_to_be_open false behind ends noted came u = refl
+waits_to_be_open true behind ends noted came u = absurd (let bad : true ≡ false = u in cc)
+
+fits_by : (used behind ends noted : Bool) (came : Served) → passed_by used behind ends noted came ≡ GoesOn → came ≡ GoesOn
+fits_by false behind ends noted came g = absurd (let bad : Later ≡ GoesOn = g in cc)
+fits_by true true ends noted came g = absurd (let bad : Later ≡ GoesOn = g in cc)
+fits_by true false true noted came g = absurd (let bad : Later ≡ GoesOn = g in cc)
+fits_by true false false true came g = absurd (let bad : Later ≡ GoesOn = g in cc)
+fits_by true false false false came g = g
 
 pub what_came_first_is_first : WhatCameFirstIsFirst
 what_came_first_is_first k = record {
-  behind = waits_behind k.is_used k.is_behind k.ends (came k);
-  ends = waits_at_the_end k.is_used k.is_behind k.ends (came k);
-  used = waits_to_be_open k.is_used k.is_behind k.ends (came k);
-  fits = fits_by k.is_used k.is_behind k.ends (came k);
+  behind = waits_behind k.is_used k.is_behind k.ends k.is_noted (came k);
+  ends = waits_at_the_end k.is_used k.is_behind k.ends k.is_noted (came k);
+  noted = waits_to_be_noted k.is_used k.is_behind k.ends k.is_noted (came k);
+  used = waits_to_be_open k.is_used k.is_behind k.ends k.is_noted (came k);
+  fits = fits_by k.is_used k.is_behind k.ends k.is_noted (came k);
 }
 
 wants_none : (none : Bool) → none ≡ true → (if none then PassedOver else GoesOn) ≡ PassedOver

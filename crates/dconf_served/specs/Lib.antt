@@ -1,2 +1,4 @@
 pub mod Begins
 pub mod Served
+pub mod Calls
+pub mod Folders

@@ -16,9 +16,9 @@ came k =
     if k.is_service_db then Unsupported else if nat_lt 67108864 k.size then TooLarge else
     if not k.is_used && nat_le 64 k.names then TooManyNames else if has_room k then GoesOn else TooMuch
 
--- beside the main thread, which alone opens a database, and ends the service: behind all that came before
+-- beside the main thread, which alone opens a database, ends the service, and notes calls: behind all that came before
 abbrev pub passed : ServedKnown → Served
-passed k = if not k.is_used || (k.is_behind || k.ends) then Later else came k
+passed k = if not k.is_used || (k.is_behind || (k.ends || k.is_noted)) then Later else came k
 
 -- ---- when it is read
 
@@ -33,10 +33,15 @@ read k = if is_odd k then Odd else GoesOn
 abbrev pub read_where_it_came : ServedKnown → Served
 read_where_it_came k = if nat_lt 4096 k.size then Later else GoesOn
 
+-- its bytes, as the library takes them: as they were sent, if they are in its order and in normal form, or made anew
+abbrev pub formed : ServedKnown → Served
+formed k = if k.is_normal && not k.is_turned then GoesOn else Replaces
+
 -- ---- what it says: each path that was sent, in the order of their bytes, and of those of one path as they were sent
 
+-- a key's; or a directory's, whose keys are reset
 abbrev pub is_path : ServedKnown → Bool
-is_path k = (k.kind == 0) || (k.kind == 1)
+is_path k = (k.kind == 0) || ((k.kind == 1) && not k.sets)
 
 -- as dconf has it, what is no path is passed over; a path that is too long to be a key's is left out, which is told
 abbrev pub entered : ServedKnown → Served
@@ -117,10 +122,6 @@ placed k = if not k.is_open || not k.is_profile_open then Failed else if k.has_s
 abbrev pub profiled : ServedKnown → Served
 profiled k = if k.has_profile then PassedOver else GoesOn
 
--- in the first of the folders that has an absolute path, or in the last
-abbrev pub based : ServedKnown → Served
-based k = if k.is_absolute || k.is_last then GoesOn else PassedOver
-
 -- a database that can't be opened isn't changed
 abbrev pub used : ServedKnown → Served
 used k = if k.is_open then GoesOn else Failed
@@ -130,7 +131,7 @@ served_after done k = if done == 0 then came k else if done == 1 then read k els
     if done == 4 then ended k else if done == 5 then joined k else if done == 6 then placed k else if done == 7 then left k else
     if done == 8 then named k else if done == 9 then entered k else if done == 10 then ordered k else if done == 11 then shown k else
     if done == 12 then made k else if done == 13 then beside k else if done == 14 then passed k else
-    if done == 15 then profiled k else if done == 16 then read_where_it_came k else if done == 17 then based k else if done == 18 then used k else
+    if done == 15 then profiled k else if done == 16 then read_where_it_came k else if done == 17 then formed k else if done == 18 then used k else
     if done == 19 then answered k else if done == 20 then noted k else if done == 21 then told_in_turn k else tried k
 
 abbrev pub served_number : Served → ℕ
@@ -203,9 +204,6 @@ pub record IsPlacedSafely (k : ServedKnown) : Type 0 where
   pub others : served_after 6 k ≡ Profiles → k.has_same_file ≡ true
   -- one by itself has a profile that says so: what is there stays only if it does
   pub profile : served_after 15 k ≡ PassedOver → k.has_profile ≡ true
-  -- in a folder that has an absolute path, unless none has one
-  pub folder : served_after 17 k ≡ GoesOn → k.is_last ≡ false → k.is_absolute ≡ true
-  pub last : k.is_last ≡ true → served_after 17 k ≡ GoesOn
   -- nothing is written to what can't be opened
   pub opened : served_after 18 k ≡ GoesOn → k.is_open ≡ true
 
@@ -217,6 +215,10 @@ pub record CountsAsSent (k : ServedKnown) : Type 0 where
   -- a path's is made, or left out, which is told
   pub path : is_path k ≡ true → served_after 9 k ≢ PassedOver
   pub made : served_after 9 k ≡ GoesOn → (is_path k ≡ true) × (k.is_short ≡ true)
+  -- no value is set at a directory
+  pub key : served_after 9 k ≡ GoesOn → k.sets ≡ true → k.kind ≡ 0
+  -- it is read as it was sent only if the library reads it so
+  pub form : served_after 17 k ≡ GoesOn → (k.is_normal ≡ true) × (k.is_turned ≡ false)
   -- a set stays unless a later one has its path
   pub set : k.sets ≡ true → k.is_again ≡ false → served_after 10 k ≡ GoesOn
   -- what is passed over is a reset that a directory's stands for
@@ -244,6 +246,7 @@ WhatIsMadeIsTold = (k : ServedKnown) → IsToldAsMade k
 pub record KeepsItsPlace (k : ServedKnown) : Type 0 where
   pub behind : k.is_behind ≡ true → served_after 14 k ≡ Later
   pub ends : k.ends ≡ true → served_after 14 k ≡ Later
+  pub noted : k.is_noted ≡ true → served_after 14 k ≡ Later
   pub used : k.is_used ≡ false → served_after 14 k ≡ Later
   pub fits : served_after 14 k ≡ GoesOn → came k ≡ GoesOn
 

@@ -1,16 +1,21 @@
 //! What the D-Bus service answers to a call that changes settings, and when: once it came, once it is read, after each try to write it, and
-//! at the service's end; which store has the database that a call names; and what it does before it serves.
+//! at the service's end; which database a call is of, and which store has that; which file stays open that was replaced; and what it does before it serves.
 //!
 //! Nothing is kept here: each call is told what is known, and says what becomes of the change.
 #![tactic(auto)]
 
 ghost use Rattle.dconf_served.specs.Begins.{OthersAreToldOfFromTheStart};
+ghost use Rattle.dconf_served.specs.Folders.{ProfilesHaveAFolder};
 ghost use Rattle.dconf_served.specs.Served.{LocksCountWhereTheyAreKnown, NothingIsAnsweredUnwritten, WhatCameFirstIsFirst, WhatIsAskedIsSaid, WhatIsMadeIsTold, WhatIsSentCounts, WhatWaitsIsBounded, WhoWaitsIsToldAtTheEnd};
 
 mod begins;
+mod calls;
+mod folders;
 mod served;
 
 pub use begins::{Begins, begins_after, begins_number};
+pub use calls::changed_database;
+pub use folders::{Folder, folder_for, folder_number, is_kept_open};
 pub use served::{Served, ServedKnown, served_after, served_number};
 
 /// A change is acknowledged only if all that can be made of it is on the disk, or nothing of it was to be made; and once it is written, or
@@ -37,7 +42,7 @@ pub fn locks_count_where_they_are_known()
     ensures { LocksCountWhereTheyAreKnown }
 {}
 
-/// What is sent of a path is made, or left out, which is told; a set stays unless a later one has its path, and a reset unless a directory's stands
+/// What is sent of a path is made, or left out, which is told, and no value is set at a directory; a set stays unless a later one has its path, and a reset unless a directory's stands
 /// for it; and who listens is told of no site's database.
 pub fn what_is_sent_counts()
     ensures { WhatIsSentCounts }
@@ -48,7 +53,7 @@ pub fn what_is_made_is_told()
     ensures { WhatIsMadeIsTold }
 {}
 
-/// Whichever thread takes a change, it is made behind all that came before it, and is refused for the same.
+/// Whichever thread takes a change, it is made behind all that came before it, and is refused for the same; and the main thread takes each that is noted.
 pub fn what_came_first_is_first()
     ensures { WhatCameFirstIsFirst }
 {}
@@ -58,7 +63,12 @@ pub fn what_is_asked_is_said()
     ensures { WhatIsAskedIsSaid }
 {}
 
-/// Before it serves anybody the database `user` is open, and dconf's folders are there, where the store is of dconf's kind.
+/// Before it serves anybody the database `user` is open, and dconf's folders are there, where the store is of dconf's kind, that of flags if the user has a runtime folder.
 pub fn others_are_told_of_from_the_start()
     ensures { OthersAreToldOfFromTheStart }
+{}
+
+/// The profile of a database by itself is in a folder that has an absolute path, if there is one.
+pub fn profiles_have_a_folder()
+    ensures { ProfilesHaveAFolder }
 {}

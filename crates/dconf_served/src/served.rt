@@ -1,6 +1,6 @@
 //! What becomes of a call that changes settings, and of the service that takes it.
 ghost use Rattle.std.specs.Prelude.{◌≡◌};
-ghost use Rattle.dconf_served.specs.Served.{answered, based, came, ended, entered, has_room, is_odd, is_path, is_settled, joined, lasts, left, made, named, noted, ordered, passed, placed, profiled, read, read_where_it_came, served_after, served_number, shown, told, told_in_turn, tried, used};
+ghost use Rattle.dconf_served.specs.Served.{answered, came, ended, entered, formed, has_room, is_odd, is_path, is_settled, joined, lasts, left, made, named, noted, ordered, passed, placed, profiled, read, read_where_it_came, served_after, served_number, shown, told, told_in_turn, tried, used};
 
 /// A change has so many bytes at most.
 const LARGEST: u64 = 67_108_864;
@@ -60,7 +60,7 @@ pub enum Served {
     PassedOver,
     /// It isn't made, which is told.
     LeftOut,
-    /// It counts in the place of the one before it.
+    /// It counts in the place of the one before it; or what is made anew of it counts.
     Replaces,
     /// It is refused: no such database is served.
     Unsupported,
@@ -127,20 +127,19 @@ pub struct ServedKnown {
     pub has_profile: bool,
     /// It is the first database.
     pub is_first: bool,
-    /// The path of a folder that may have that file is absolute; and no other one is left.
-    pub is_absolute: bool,
-    pub is_last: bool,
+    /// Its bytes are in the other order than the library's.
+    pub is_turned: bool,
     /// Who calls wants no answer.
     pub wants_none: bool,
     /// The environment asks that calls are noted.
     pub is_noted: bool,
 }
 
-/// What becomes of a change: 0 it came, 14 it came in another thread than the main one, 1 it is read, 3 what is seen otherwise by it is told, 4 the service ends before it is answered, 5 it
+/// What becomes of a change: 0 it came, 14 it came in another thread than the main one, 1 it is read, 17 its bytes are to be as the library takes them, 3 what is seen otherwise by it is told, 4 the service ends before it is answered, 5 it
 /// waits behind those that are taken, 6 the stores were opened that may have its database, and else it was tried to write it. Of what it says: 9 a
 /// path is read, 10 it comes behind those before it in the order of their bytes, 12 an edit was tried, and is told of, 13 it stands beside others
-/// of its change; and 19 it is answered. Of its database 15: the file was read that is to be the profile of that alone, 17 a folder may have that file, 18
-/// it was to be opened, unless it is in use. And of the service: 7 each caller is answered who can be at its end, 8 it hasn't its name, 11 it tells of a
+/// of its change; and 19 it is answered. Of its database 15: the file was read that is to be the profile of that alone, 18 it was to
+/// be opened, unless it is in use. And of the service: 7 each caller is answered who can be at its end, 8 it hasn't its name, 11 it tells of a
 /// database, 20 it was called. In which thread, and when: 16 one that waits is to be read, 21 those that are written are to be told.
 pub fn served_after(done: u32, known: &ServedKnown) -> Served
     ensures { result ≡ served_after done known.now }
@@ -162,7 +161,7 @@ pub fn served_after(done: u32, known: &ServedKnown) -> Served
         14 => passed(known),
         15 => profiled(known),
         16 => read_where_it_came(known),
-        17 => based(known),
+        17 => formed(known),
         18 => used(known),
         19 => answered(known),
         20 => noted(known),
@@ -248,6 +247,16 @@ fn is_odd(known: &ServedKnown) -> bool
     !known.is_normal && known.size > MOST_ODD
 }
 
+/// In the library's order, and in normal form, it is taken as it was sent; any other one is made anew.
+fn formed(known: &ServedKnown) -> Served
+    ensures { result ≡ formed known.now }
+{
+    if known.is_normal && !known.is_turned {
+        return Served::GoesOn;
+    }
+    Served::Replaces
+}
+
 /// What is no path, and a value at a directory, is passed over.
 fn entered(known: &ServedKnown) -> Served
     ensures { result ≡ entered known.now }
@@ -261,10 +270,11 @@ fn entered(known: &ServedKnown) -> Served
     Served::LeftOut
 }
 
+/// A key's; or a directory's, whose keys are reset.
 fn is_path(known: &ServedKnown) -> bool
     ensures { result ≡ is_path known.now }
 {
-    known.kind == 0 || known.kind == 1
+    known.kind == 0 || known.kind == 1 && !known.sets
 }
 
 /// There may be very many resets in a directory that is reset; what is set there is set after that.
@@ -303,11 +313,11 @@ fn shown(known: &ServedKnown) -> Served
     Served::PassedOver
 }
 
-/// The main thread alone opens a database, and takes what comes at the end; and what came before it stays before it.
+/// The main thread alone opens a database, takes what comes at the end, and notes calls; and what came before it stays before it.
 fn passed(known: &ServedKnown) -> Served
     ensures { result ≡ passed known.now }
 {
-    if !known.is_used || (known.is_behind || known.ends) {
+    if !known.is_used || (known.is_behind || (known.ends || known.is_noted)) {
         return Served::Later;
     }
     came(known)
@@ -428,16 +438,6 @@ fn profiled(known: &ServedKnown) -> Served
         return Served::PassedOver;
     }
     Served::GoesOn
-}
-
-/// A folder without an absolute path is none; but one has the file.
-fn based(known: &ServedKnown) -> Served
-    ensures { result ≡ based known.now }
-{
-    if known.is_absolute || known.is_last {
-        return Served::GoesOn;
-    }
-    Served::PassedOver
 }
 
 /// What can't be opened can't be changed.

@@ -1,5 +1,7 @@
 //! What the D-Bus service answers to a call that changes settings.
-use dconf_served::{ServedKnown, begins_number, served_number};
+use dconf_served::{
+    ServedKnown, begins_number, changed_database, folder_number, is_kept_open, served_number,
+};
 use std::test::Fail;
 
 /// A change of a few bytes, which nothing is in the way of.
@@ -36,8 +38,7 @@ const PLAIN: ServedKnown = ServedKnown {
     is_behind: false,
     has_profile: false,
     is_first: true,
-    is_absolute: false,
-    is_last: false,
+    is_turned: false,
     wants_none: false,
     is_noted: false,
 };
@@ -188,7 +189,12 @@ fn who_has_no_name_ends() -> bool {
 }
 
 fn each_path_counts() -> bool {
-    let directory = ServedKnown { kind: 1, ..PLAIN };
+    let directory = ServedKnown {
+        kind: 1,
+        sets: false,
+        ..PLAIN
+    };
+    let value = ServedKnown { kind: 1, ..PLAIN };
     let none = ServedKnown { kind: 2, ..PLAIN };
     let long = ServedKnown {
         is_short: false,
@@ -196,6 +202,7 @@ fn each_path_counts() -> bool {
     };
     served_number(9, &PLAIN) == 0
         && served_number(9, &directory) == 0
+        && served_number(9, &value) == 14
         && served_number(9, &none) == 14
         && served_number(9, &long) == 15
 }
@@ -273,23 +280,55 @@ fn nobody_waits_for_long() -> bool {
 }
 
 fn a_database_has_its_place() -> bool {
-    let absolute = ServedKnown {
-        is_absolute: true,
-        ..PLAIN
-    };
-    let last = ServedKnown {
-        is_last: true,
-        ..PLAIN
-    };
     let closed = ServedKnown {
         is_open: false,
         ..PLAIN
     };
-    served_number(17, &PLAIN) == 14
-        && served_number(17, &absolute) == 0
-        && served_number(17, &last) == 0
-        && served_number(18, &PLAIN) == 0
+    served_number(18, &PLAIN) == 0
         && served_number(18, &closed) == 2
+        && folder_number(true, true) == 0
+        && folder_number(true, false) == 0
+        && folder_number(false, true) == 1
+        && folder_number(false, false) == 2
+}
+
+fn bytes_are_read_as_the_library_takes_them() -> bool {
+    let odd = ServedKnown {
+        is_normal: false,
+        ..PLAIN
+    };
+    let turned = ServedKnown {
+        is_turned: true,
+        ..PLAIN
+    };
+    served_number(17, &PLAIN) == 0
+        && served_number(17, &odd) == 16
+        && served_number(17, &turned) == 16
+}
+
+/// Of ext4, tmpfs, NFS, btrfs and FUSE.
+fn what_is_served_by_others_is_closed() -> bool {
+    is_kept_open(0xEF53)
+        && is_kept_open(0x0102_1994)
+        && !is_kept_open(0x6969)
+        && !is_kept_open(0x9123_683E)
+        && !is_kept_open(0x6573_5546)
+}
+
+fn is_of_user(is_call: bool, object: &[u8], interface: &[u8], member: &[u8]) -> bool {
+    changed_database(is_call, object, interface, member, b"ay") == 23
+}
+
+fn a_change_is_of_its_object() -> bool {
+    let object = b"/ca/desrt/dconf/Writer/user";
+    let writer = b"ca.desrt.dconf.Writer";
+    is_of_user(true, object, writer, b"Change")
+        && !is_of_user(false, object, writer, b"Change")
+        && !is_of_user(true, object, writer, b"Init")
+        && !is_of_user(true, object, b"", b"Change")
+        && !is_of_user(true, b"/ca/desrt/dconf/Writer/a/b", writer, b"Change")
+        && !is_of_user(true, b"/ca/desrt/dconf/Writer", writer, b"Change")
+        && changed_database(true, object, writer, b"Change", b"s") == 0
 }
 
 fn each_edit_is_told_of() -> bool {
@@ -344,7 +383,12 @@ fn what_came_first_is_first() -> bool {
         size: 67_108_865,
         ..PLAIN
     };
+    let noted = ServedKnown {
+        is_noted: true,
+        ..PLAIN
+    };
     served_number(14, &PLAIN) == 0
+        && served_number(14, &noted) == 9
         && served_number(14, &behind) == 9
         && served_number(14, &last) == 9
         && served_number(14, &unopened) == 9
@@ -352,11 +396,13 @@ fn what_came_first_is_first() -> bool {
 }
 
 fn it_serves_at_last() -> bool {
-    begins_number(0, true) == 1
-        && begins_number(0, false) == 2
-        && begins_number(1, true) == 2
-        && begins_number(2, true) == 3
-        && begins_number(2, false) == 3
+    begins_number(0, true, 9) == 1
+        && begins_number(0, false, 9) == 3
+        && begins_number(1, true, 9) == 2
+        && begins_number(1, true, 0) == 3
+        && begins_number(2, true, 9) == 3
+        && begins_number(3, true, 9) == 4
+        && begins_number(3, false, 0) == 4
 }
 
 #[test]
@@ -373,6 +419,11 @@ fn calls_are_answered_once_they_are_written(rt: HostRuntime) -> Result<(), Fail>
             && a_call_is_answered()
             && nobody_waits_for_long()
             && a_database_has_its_place()
+    );
+    assert!(rt;
+        bytes_are_read_as_the_library_takes_them()
+            && what_is_served_by_others_is_closed()
+            && a_change_is_of_its_object()
     );
     Ok(())
 }
