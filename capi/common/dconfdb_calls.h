@@ -1927,6 +1927,17 @@ enum {
     DCONFDB_PATH_NO_DIRECTORY /* a key's, where a directory's is wanted */
 };
 
+/* Why a text is neither a key's path nor a directory's: of several faults the first. */
+enum {
+    DCONFDB_REFUSED_NOT, /* it is one */
+    DCONFDB_REFUSED_NOT_ABSOLUTE,
+    DCONFDB_REFUSED_HAS_NUL,
+    DCONFDB_REFUSED_DOUBLE_SLASH,
+    DCONFDB_REFUSED_TOO_LONG
+};
+
+uint32_t dconfdb_refused_as(const uint8_t *text, size_t len);
+
 /* Which path is wanted. */
 enum {
     DCONFDB_PATH_WANTED, /* any, as of what is reset */
@@ -2206,9 +2217,49 @@ bool dconfdb_begins_sources(uint32_t within);
 /* Whether a file that can't be read as a text, by that errno, is read as a database. */
 bool dconfdb_reads_on(uint32_t fault);
 
-/* Any bytes as a string of JSON, in its quotation marks, with U+FFFD for each byte that is no part of a character. `len` as dconfdb_list has it.
- * MEMORY, and then nothing is written. */
-uint32_t dconfdb_json_string(const uint8_t *bytes, size_t bytes_len, uint8_t *room, size_t room_len, size_t *len);
+/* What is found, by the word that JSON has for it. */
+enum {
+    DCONFDB_FOUND_NO_KEY,
+    DCONFDB_FOUND_NO_LOCKED_KEY,
+    DCONFDB_FOUND_NO_LOCKED_DIRECTORY,
+    DCONFDB_FOUND_OTHER_TYPE,
+    DCONFDB_FOUND_NOT_TAKEN,
+    DCONFDB_FOUND_NO_VALUE,
+    DCONFDB_FOUND_DOUBLE,
+    DCONFDB_FOUND_SET_TWICE,
+    DCONFDB_FOUND_NOT_SET,
+    DCONFDB_FOUND_LINE,
+    DCONFDB_FOUND_UNREAD,
+    DCONFDB_FOUND_NO_SOURCE,
+    DCONFDB_FOUND_NO_FILE,
+    DCONFDB_FOUND_NAME,
+    DCONFDB_FOUND_IN_THE_WAY,
+    DCONFDB_FOUND_PROFILE_LINE,
+    DCONFDB_FOUND_NO_DATABASE,
+    DCONFDB_FOUND_UNSOUND
+};
+
+/* What is printed of a finding, with its line feed: FILE:LINE: TEXT, in which a control character is `\` and three octal digits; or an object of JSON, in which
+ * each byte that is no part of a character is U+FFFD, and a file's name that has one is there as hexadecimal digits, too. What is missing may have a
+ * `nearest`, which stands behind the text. `len` as dconfdb_list has it. MEMORY, and then nothing is written. */
+uint32_t dconfdb_finding_line(bool is_json, uint32_t kind, const uint8_t *file, size_t file_len, uint64_t line, const uint8_t *text, size_t text_len,
+                              bool has_nearest, const uint8_t *nearest, size_t nearest_len, uint8_t *room, size_t room_len, size_t *len);
+
+/* The number of the line that begins behind these bytes of a text, or goes on there, counted from 1. */
+size_t dconfdb_line_behind(const uint8_t *before, size_t len);
+
+/* Whether GLib is asked for the value of a text that dconfdb_parse_value refuses by this number. */
+bool dconfdb_is_glibs(uint32_t fault);
+
+/* Why a text is no value that a database has. */
+enum {
+    DCONFDB_CAUSE_OF_GLIB,    /* what GLib says of it */
+    DCONFDB_CAUSE_OF_READING, /* the number of dconfdb_parse_value */
+    DCONFDB_CAUSE_OF_STORING  /* that of dconfdb_change: no database holds such a value */
+};
+
+/* By the number of dconfdb_parse_value, and whether GLib was asked, and refused the text. */
+uint32_t dconfdb_text_cause(uint32_t fault, bool is_refused);
 
 /* The folder of the sources and databases that `update` takes if none is named, by the kind of store that the machine has. */
 void dconfdb_machines_folder(bool is_dconfs, DconfdbBytes *folder);
@@ -2347,11 +2398,15 @@ enum {
     DCONFDB_SAID_TOO_MANY,
     DCONFDB_SAID_LACKING,
     DCONFDB_SAID_NO_NAME,
-    DCONFDB_SAID_JSON /* the findings are wanted as JSON */
+    DCONFDB_SAID_JSON, /* the findings are wanted as JSON */
+    DCONFDB_SAID_MACHINES /* at the end: no FILE came, and the folder is looked at that `update` takes then */
 };
 
 /* The next word, or the end of all. What it has begins at `from`. */
 uint32_t dconfdb_option(DconfdbWords *read, bool is_end, const uint8_t *word, size_t len, size_t *from);
+
+/* With which status `lint` ends, by how much was found, and whether all of that was written. */
+uint32_t dconfdb_lint_status(size_t found, bool is_written);
 
 /* What is said of an argument of `--schema`. */
 enum {

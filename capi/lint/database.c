@@ -4,11 +4,9 @@
 #include "dconfdb_calls.h"
 #include "repair.h"
 
-#include <stdlib.h>
 #include <string.h>
 
-/* Texts that a proved call lists, a zero byte after each, and one more: to be freed; or NULL, where nothing
- * could be listed, or memory is not left. */
+/* Texts that a proved call lists, a zero byte after each, and one more: to be freed. */
 typedef uint32_t Lists(const DconfdbLayer *layers, uint8_t *room, size_t room_len, size_t *len);
 
 static uint32_t lists_keys(const DconfdbLayer *layers, uint8_t *room, size_t room_len, size_t *len)
@@ -24,19 +22,13 @@ static uint32_t lists_locks(const DconfdbLayer *layers, uint8_t *room, size_t ro
 static char *listed(Lists *lists, const DconfdbLayer *layers)
 {
     size_t len = 4096, room_len;
-    uint32_t number = DCONFDB_MEMORY;
     char *room = NULL;
     do {
-        free(room);
         room_len = len;
-        room = malloc(room_len + 1);
-        if (room)
-            number = lists(layers, (uint8_t *)room, room_len, &len);
-    } while (room && number == DCONFDB_OK && len > room_len);
-    if (!room || number != DCONFDB_OK) {
-        free(room);
-        return NULL;
-    }
+        room = g_realloc(room, room_len + 1);
+        if (lists(layers, (uint8_t *)room, room_len, &len) != DCONFDB_OK) /* of an opened layer, and `/`, nothing else is refused */
+            g_error("no memory is left");
+    } while (len > room_len);
     room[len] = 0;
     return room;
 }
@@ -53,19 +45,15 @@ static GVariant *value_of(const DconfdbLayer *layer, const char *path)
 /* layers[1] is the database; the first is empty, since a first database's locks don't count. */
 static void check_layer(const Lint *lint, Place at, const DconfdbLayer *layers)
 {
-    char *keys = listed(lists_keys, layers), *locks = listed(lists_locks, layers);
-    if (!keys || !locks)
-        find(UNSOUND, at, "no memory is left");
-    for (const char *path = keys; path && *path; path += strlen(path) + 1) {
+    g_autofree char *keys = listed(lists_keys, layers), *locks = listed(lists_locks, layers);
+    for (const char *path = keys; *path; path += strlen(path) + 1) {
         GVariant *value = value_of(&layers[1], path);
         check_row(lint, at, path, value);
         if (value)
             g_variant_unref(value);
     }
-    for (const char *path = locks; path && *path; path += strlen(path) + 1)
+    for (const char *path = locks; *path; path += strlen(path) + 1)
         check_lock(lint, at, path);
-    free(keys);
-    free(locks);
 }
 
 static void find_fault(Place at, uint32_t number, const DconfdbUnsound *broken)
@@ -80,11 +68,11 @@ static void find_fault(Place at, uint32_t number, const DconfdbUnsound *broken)
     dconfdb_sentence(&met, &sentence);
     switch (sentence.says) {
     case DCONFDB_SAYS_RULE_AT:
-        find(UNSOUND, at, "unsound: S%u item %u; what 'repair' keeps is looked at", (unsigned)broken->rule, (unsigned)broken->item);
+        find(DCONFDB_FOUND_UNSOUND, at, "unsound: S%u item %u; what 'repair' keeps is looked at", (unsigned)broken->rule, (unsigned)broken->item);
         break;
-    case DCONFDB_SAYS_RULE: find(UNSOUND, at, "unsound: S%u; what 'repair' keeps is looked at", (unsigned)broken->rule); break;
-    case DCONFDB_SAYS_TEXT: find(UNSOUND, at, "%.*s", (int)text.len, (const char *)text.at); break;
-    default: find(UNSOUND, at, "fault %u", (unsigned)number);
+    case DCONFDB_SAYS_RULE: find(DCONFDB_FOUND_UNSOUND, at, "unsound: S%u; what 'repair' keeps is looked at", (unsigned)broken->rule); break;
+    case DCONFDB_SAYS_TEXT: find(DCONFDB_FOUND_UNSOUND, at, "%.*s", (int)text.len, (const char *)text.at); break;
+    default: find(DCONFDB_FOUND_UNSOUND, at, "fault %u", (unsigned)number);
     }
 }
 

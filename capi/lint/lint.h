@@ -15,36 +15,14 @@ typedef struct {
     size_t line;
 } Place;
 
-/* What is found, by the word that JSON has for it. */
-typedef enum {
-    NO_KEY,
-    NO_LOCKED_KEY,
-    NO_LOCKED_DIRECTORY,
-    OTHER_TYPE,
-    NOT_TAKEN,
-    NO_VALUE,
-    DOUBLE,
-    SET_TWICE,
-    NOT_SET,
-    LINE,
-    UNREAD,
-    NO_SOURCE,
-    NO_FILE,
-    NAME,
-    IN_THE_WAY,
-    PROFILE_LINE,
-    NO_DATABASE,
-    UNSOUND
-} Kind;
-
 /* From here on findings are printed as objects of JSON, one a line. */
 void findings_as_json(void);
 
-/* Prints a finding: FILE:LINE: TEXT. Control characters are printed as `\` and three octal digits. */
-void find(Kind kind, Place at, const char *format, ...) G_GNUC_PRINTF(3, 4);
+/* Prints a finding, DCONFDB_FOUND_NO_KEY and so on. */
+void find(uint32_t kind, Place at, const char *format, ...) G_GNUC_PRINTF(3, 4);
 
 /* The same of a path that is missing, and of the nearest one, if any is (NULL: none is). */
-void find_near(Kind kind, Place at, const char *near, const char *what, const char *path);
+void find_near(uint32_t kind, Place at, const char *near, const char *what, const char *path);
 
 size_t findings_count(void);
 

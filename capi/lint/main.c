@@ -22,10 +22,10 @@ void find_no_file(const char *file, int fault)
     Place at = {file, 0};
     const DconfdbFinding known = {.what = DCONFDB_OF_FILE, .errnum = (uint32_t)fault};
     switch (finding_alone(&known, file)) {
-    case DCONFDB_FINDING_NO_FILE: find(NO_FILE, at, "NoFile: there is no such file"); break;
-    case DCONFDB_FINDING_ODD_FILE: find(NO_FILE, at, "Device: it is no regular file"); break;
-    case DCONFDB_FINDING_LARGE_FILE: find(NO_FILE, at, "TooBig: it has more than 4,294,967,295 bytes"); break;
-    default: find(NO_FILE, at, "Device: %s", g_strerror(fault)); break;
+    case DCONFDB_FINDING_NO_FILE: find(DCONFDB_FOUND_NO_FILE, at, "NoFile: there is no such file"); break;
+    case DCONFDB_FINDING_ODD_FILE: find(DCONFDB_FOUND_NO_FILE, at, "Device: it is no regular file"); break;
+    case DCONFDB_FINDING_LARGE_FILE: find(DCONFDB_FOUND_NO_FILE, at, "TooBig: it has more than 4,294,967,295 bytes"); break;
+    default: find(DCONFDB_FOUND_NO_FILE, at, "Device: %s", g_strerror(fault)); break;
     }
 }
 
@@ -55,10 +55,10 @@ static void check_bytes(const Lint *lint, const Asked *asked, FileBytes *bytes, 
     case DCONFDB_READ_LOCKS: check_locks(lint, asked->file, text, bytes->len); break;
     case DCONFDB_READ_PROFILE: check_profile(lint, asked, text, bytes->len); break;
     case DCONFDB_READ_DATABASE: check_database(lint, asked->file, bytes); break;
-    case DCONFDB_READ_NO_SOURCE: find(NO_SOURCE, at, "it is a database, and no source of one"); break;
-    case DCONFDB_READ_TOO_BIG: find(NO_FILE, at, "TooBig: it has more than 16,777,216 bytes"); break;
-    case DCONFDB_READ_NEITHER: find(NO_SOURCE, at, "it is neither a keyfile, nor a file of locks, nor a profile, nor a database"); break;
-    case DCONFDB_READ_STRAY: find(UNREAD, at, "nobody reads it: 'update' reads what is in folders NAME.d"); break;
+    case DCONFDB_READ_NO_SOURCE: find(DCONFDB_FOUND_NO_SOURCE, at, "it is a database, and no source of one"); break;
+    case DCONFDB_READ_TOO_BIG: find(DCONFDB_FOUND_NO_FILE, at, "TooBig: it has more than 16,777,216 bytes"); break;
+    case DCONFDB_READ_NEITHER: find(DCONFDB_FOUND_NO_SOURCE, at, "it is neither a keyfile, nor a file of locks, nor a profile, nor a database"); break;
+    case DCONFDB_READ_STRAY: find(DCONFDB_FOUND_UNREAD, at, "nobody reads it: 'update' reads what is in folders NAME.d"); break;
     default: break;
     }
 }
@@ -78,7 +78,7 @@ void check_file(const Lint *lint, const Asked *asked)
 static void find_unread(const Asked *asked)
 {
     const char *end = asked->folder + asked->sources_len, *name = (const char *)memrchr(asked->folder, '/', asked->sources_len) + 1;
-    find(UNREAD, (Place){asked->file, 0}, "'update' does not read it: it is in a folder inside %.*s", (int)(end - name), name);
+    find(DCONFDB_FOUND_UNREAD, (Place){asked->file, 0}, "'update' does not read it: it is in a folder inside %.*s", (int)(end - name), name);
 }
 
 /* Of what `update` doesn't read, nothing is read here. */
@@ -123,15 +123,17 @@ static void check_files(const Schemas *schemas, char *const *files, size_t count
 
 static const char usage[] = "dconfdb lint [OPTIONS] [FILE]...";
 
-static int finish(int status)
+static int finish(void)
 {
-    return fflush(stdout) == 0 && !ferror(stdout) ? status : 1;
+    bool is_written = fflush(stdout) == 0 && !ferror(stdout);
+    return (int)dconfdb_lint_status(findings_count(), is_written);
 }
 
 /* What the words ask for. */
 typedef struct {
     const char *folder;
     GPtrArray *placed, *files, *folders;
+    bool is_machines; /* what `update` takes without a name */
 } Wanted;
 
 static void keep_name(const Wanted *wanted, const char *name)
@@ -148,6 +150,7 @@ static void keep(void *it, uint32_t said, const char *text)
     case DCONFDB_SAID_FOLDER: wanted->folder = text; break;
     case DCONFDB_SAID_SCHEMA: g_ptr_array_add(wanted->placed, (gpointer)text); break;
     case DCONFDB_SAID_JSON: findings_as_json(); break;
+    case DCONFDB_SAID_MACHINES: wanted->is_machines = true; break;
     default: keep_name(wanted, text); break;
     }
 }
@@ -162,19 +165,17 @@ static int place_all(Schemas *schemas, const GPtrArray *placed)
     return GOES_ON;
 }
 
-/* Without a name, what `update` takes without one. */
 static int check_all(const Schemas *schemas, const Wanted *wanted)
 {
-    bool is_named = wanted->files->len + wanted->folders->len > 0;
-    g_autofree char *found = is_named ? NULL : found_folder();
-    if (!is_named && !found)
+    g_autofree char *found = wanted->is_machines ? found_folder() : NULL;
+    if (wanted->is_machines && !found)
         return 1;
     check_files(schemas, (char *const *)wanted->files->pdata, wanted->files->len);
     for (guint i = 0; i < wanted->folders->len; i++)
         check_site(schemas, g_ptr_array_index(wanted->folders, i));
     if (found)
         check_site(schemas, found);
-    return findings_count() > 0;
+    return finish();
 }
 
 static int lint_with(const Wanted *wanted)
@@ -191,12 +192,12 @@ static int lint_with(const Wanted *wanted)
         status = check_all(schemas, wanted);
     values_end();
     schemas_close(schemas);
-    return finish(status);
+    return status;
 }
 
 int main(int count, char **words)
 {
-    Wanted wanted = {NULL, g_ptr_array_new(), g_ptr_array_new(), g_ptr_array_new()};
+    Wanted wanted = {NULL, g_ptr_array_new(), g_ptr_array_new(), g_ptr_array_new(), false};
     int status = words_read(&(Words){true, help, usage, "FILE", keep, &wanted}, count, words);
     if (status == GOES_ON)
         status = lint_with(&wanted);

@@ -7,14 +7,6 @@
 
 enum { SYSTEMS = 1 };
 
-static size_t line_of(const char *text, const uint8_t *at)
-{
-    size_t line = 1;
-    for (const char *before = text; before < (const char *)at; before++)
-        line += *before == '\n';
-    return line;
-}
-
 /* What is known of its file. */
 static DconfdbFinding known_of(const Lint *lint, const Asked *asked, const DconfdbName *database, const char *file)
 {
@@ -31,7 +23,7 @@ static DconfdbFinding known_of(const Lint *lint, const Asked *asked, const Dconf
 /* As `update` says it, of the profile that lies in its folder: in any other one the line is of a file in each user's store. */
 static void check_named(const Lint *lint, const Asked *asked, const char *text, const DconfdbName *database)
 {
-    Place at = {asked->file, line_of(text, database->name.at)};
+    Place at = {asked->file, dconfdb_line_behind((const uint8_t *)text, (size_t)(database->name.at - (const uint8_t *)text))};
     DconfdbPath path = DCONFDB_NO_PATH, flag = DCONFDB_NO_PATH;
     const DconfdbBytes nothing = DCONFDB_NOTHING, folder = {(const uint8_t *)asked->folder, strlen(asked->folder)};
     const DconfdbPlace place = {folder, nothing, nothing, nothing, nothing, nothing, true, false, false};
@@ -39,7 +31,7 @@ static void check_named(const Lint *lint, const Asked *asked, const char *text, 
     char *file = path_of(&path);
     const DconfdbFinding known = known_of(lint, asked, database, file);
     if (finding_alone(&known, asked->name) == DCONFDB_FINDING_NO_DATABASE)
-        find(NO_DATABASE, at, "it names system-db:%.*s, and there is no %s", (int)database->name.len, (const char *)database->name.at, file);
+        find(DCONFDB_FOUND_NO_DATABASE, at, "it names system-db:%.*s, and there is no %s", (int)database->name.len, (const char *)database->name.at, file);
     g_free(file);
 }
 
@@ -47,7 +39,7 @@ static void find_fault(const Asked *asked, uint32_t fault, size_t line)
 {
     DconfdbBytes said = DCONFDB_NOTHING;
     if (fault != DCONFDB_OK && dconfdb_fault_text(fault, &said))
-        find(PROFILE_LINE, (Place){asked->file, line}, "%.*s", (int)said.len, (const char *)said.at);
+        find(DCONFDB_FOUND_PROFILE_LINE, (Place){asked->file, line}, "%.*s", (int)said.len, (const char *)said.at);
 }
 
 void check_profile(const Lint *lint, const Asked *asked, const char *text, size_t len)

@@ -9,7 +9,7 @@ uint32_t finding_alone(const DconfdbFinding *known, const char *name)
     return dconfdb_finding(known, (const uint8_t *)name, strlen(name), &nothing, 0);
 }
 
-static void find_missing(const Lint *lint, Kind kind, Place at, const char *what, const char *path)
+static void find_missing(const Lint *lint, uint32_t kind, Place at, const char *what, const char *path)
 {
     char *near = schemas_nearest(lint->schemas, path);
     find_near(kind, at, near, what, path);
@@ -24,7 +24,7 @@ static void check_first(const Lint *lint, Place at, const char *path)
     const Place *first = g_hash_table_lookup(lint->set, path);
     const DconfdbFinding known = {.what = DCONFDB_OF_KEY_AGAIN, .is_known = first != NULL};
     if (finding_alone(&known, path) == DCONFDB_FINDING_SET_TWICE)
-        find(SET_TWICE, at, "%s is set already, at %s:%zu", path, first ? first->file : "", first ? first->line : 0);
+        find(DCONFDB_FOUND_SET_TWICE, at, "%s is set already, at %s:%zu", path, first ? first->file : "", first ? first->line : 0);
     if (first)
         return;
     Place *kept = g_new(Place, 1);
@@ -36,10 +36,10 @@ static void check_first(const Lint *lint, Place at, const char *path)
 static bool find_it(const Lint *lint, Place at, const char *path, const DconfdbFinding *known, const GPtrArray *keys, GVariant *value)
 {
     switch (schemas_finding(lint->schemas, path, known)) {
-    case DCONFDB_FINDING_NO_KEY: find_missing(lint, NO_KEY, at, "no schema has the key", path); return false;
-    case DCONFDB_FINDING_NO_LOCKED_KEY: find_missing(lint, NO_LOCKED_KEY, at, "no schema has the locked key", path); return false;
+    case DCONFDB_FINDING_NO_KEY: find_missing(lint, DCONFDB_FOUND_NO_KEY, at, "no schema has the key", path); return false;
+    case DCONFDB_FINDING_NO_LOCKED_KEY: find_missing(lint, DCONFDB_FOUND_NO_LOCKED_KEY, at, "no schema has the locked key", path); return false;
     case DCONFDB_FINDING_NO_LOCKED_DIRECTORY:
-        find_missing(lint, NO_LOCKED_DIRECTORY, at, "no schema has a key below the locked directory", path);
+        find_missing(lint, DCONFDB_FOUND_NO_LOCKED_DIRECTORY, at, "no schema has a key below the locked directory", path);
         return false;
     case DCONFDB_FINDING_OTHER_TYPE: find_other_type(at, path, keys, value); return false;
     case DCONFDB_FINDING_NOT_TAKEN: find_not_taken(at, path, keys, value); return false;

@@ -54,7 +54,7 @@ static void check_locks_alone(const Site *site)
         const DconfdbFinding known = {
             .what = DCONFDB_OF_LOCK_ALONE, .is_known = g_hash_table_contains(site->set, lock->path), .is_taken = lock->is_fine};
         if (finding_alone(&known, lock->path) == DCONFDB_FINDING_NOT_SET)
-            find(NOT_SET, lock->at, "%s is locked, and nothing here sets it", lock->path);
+            find(DCONFDB_FOUND_NOT_SET, lock->at, "%s is locked, and nothing here sets it", lock->path);
     }
 }
 
@@ -176,11 +176,11 @@ static void find_unread(const Walked *it, const char *path, uint32_t as)
 {
     const Place at = {path, 0};
     switch (as) {
-    case DCONFDB_READ_UNREAD: find(UNREAD, at, "'update' does not read it: it is a folder inside %s", it->path); break;
-    case DCONFDB_READ_ODD: find(UNREAD, at, "'update' does not read it: it is no regular file"); break;
-    case DCONFDB_READ_STRAY: find(UNREAD, at, "nobody reads it: 'update' reads what is in folders NAME.d"); break;
-    case DCONFDB_READ_NOT_UTF8: find(NAME, at, "'update' refuses the folder: the name is not UTF-8"); break;
-    case DCONFDB_READ_BARRED: find(IN_THE_WAY, at, "it is in the way of a file that 'update' writes"); break;
+    case DCONFDB_READ_UNREAD: find(DCONFDB_FOUND_UNREAD, at, "'update' does not read it: it is a folder inside %s", it->path); break;
+    case DCONFDB_READ_ODD: find(DCONFDB_FOUND_UNREAD, at, "'update' does not read it: it is no regular file"); break;
+    case DCONFDB_READ_STRAY: find(DCONFDB_FOUND_UNREAD, at, "nobody reads it: 'update' reads what is in folders NAME.d"); break;
+    case DCONFDB_READ_NOT_UTF8: find(DCONFDB_FOUND_NAME, at, "'update' refuses the folder: the name is not UTF-8"); break;
+    case DCONFDB_READ_BARRED: find(DCONFDB_FOUND_IN_THE_WAY, at, "it is in the way of a file that 'update' writes"); break;
     default: break;
     }
 }

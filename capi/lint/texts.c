@@ -14,11 +14,11 @@ static void find_no_value(Place at, const char *path, uint32_t number, size_t st
     DconfdbBytes said = DCONFDB_NOTHING;
     dconfdb_sentence(&met, &sentence);
     switch (sentence.says) {
-    case DCONFDB_SAYS_NO_VALUE: find(NO_VALUE, at, "%s: the text is no value: %s", path, text_cause(number)); break;
-    case DCONFDB_SAYS_NO_VALUE_AT: find(NO_VALUE, at, "%s: the text is no value: %s at %zu..%zu", path, text_cause(number), start, end); break;
+    case DCONFDB_SAYS_NO_VALUE: find(DCONFDB_FOUND_NO_VALUE, at, "%s: the text is no value: %s", path, text_cause(number)); break;
+    case DCONFDB_SAYS_NO_VALUE_AT: find(DCONFDB_FOUND_NO_VALUE, at, "%s: the text is no value: %s at %zu..%zu", path, text_cause(number), start, end); break;
     default:
         dconfdb_fault_text(number, &said);
-        find(NO_VALUE, at, "%s: the text is no value: %.*s", path, (int)said.len, (const char *)said.at);
+        find(DCONFDB_FOUND_NO_VALUE, at, "%s: the text is no value: %.*s", path, (int)said.len, (const char *)said.at);
     }
 }
 
@@ -63,7 +63,7 @@ static Reading read_text(const DconfdbBytes *text)
     } while (it.parsed == DCONFDB_OK && len > room_len);
     if (it.parsed == DCONFDB_OK)
         read_stored(&it, room, size, len);
-    else if (it.parsed == DCONFDB_DOUBLE_TEXT)
+    else if (dconfdb_is_glibs(it.parsed))
         it.value = g_variant_parse(NULL, (const char *)text->at, (const char *)text->at + text->len, NULL, &it.error);
     g_free(room);
     return it;
@@ -71,12 +71,11 @@ static Reading read_text(const DconfdbBytes *text)
 
 static void say_no_value(Place at, const char *path, const Reading *it)
 {
-    if (it->error)
-        find(NO_VALUE, at, "%s: the text is no value: %s", path, it->error->message);
-    else if (it->parsed != DCONFDB_OK)
-        find_no_value(at, path, it->parsed, it->start, it->end);
-    else
-        find_no_value(at, path, it->stored, 0, 0);
+    switch (dconfdb_text_cause(it->parsed, it->error)) {
+    case DCONFDB_CAUSE_OF_GLIB: find(DCONFDB_FOUND_NO_VALUE, at, "%s: the text is no value: %s", path, it->error->message); break;
+    case DCONFDB_CAUSE_OF_READING: find_no_value(at, path, it->parsed, it->start, it->end); break;
+    default: find_no_value(at, path, it->stored, 0, 0); break;
+    }
 }
 
 /* NULL: it is no value, and then it is said why; or none of GLib's. */
@@ -88,10 +87,10 @@ static GVariant *value_of(const Lint *lint, Place at, const char *path, const Dc
                                   .has_value = it.value != NULL,
                                   .is_taken = it.stored == DCONFDB_OK,
                                   .is_system = lint->site != NULL,
-                                  .has_double = it.parsed == DCONFDB_DOUBLE_TEXT};
+                                  .has_double = dconfdb_is_glibs(it.parsed)};
     switch (finding_alone(&known, path)) {
     case DCONFDB_FINDING_NO_VALUE: say_no_value(at, path, &it); break;
-    case DCONFDB_FINDING_DOUBLE: find(DOUBLE, at, "%s: DoubleText at %zu..%zu: 'update' refuses a double", path, it.start, it.end); break;
+    case DCONFDB_FINDING_DOUBLE: find(DCONFDB_FOUND_DOUBLE, at, "%s: DoubleText at %zu..%zu: 'update' refuses a double", path, it.start, it.end); break;
     default: break;
     }
     g_clear_error(&it.error);
@@ -123,7 +122,7 @@ static void check_line(const Lint *lint, Place at, const DconfdbLine *line)
     switch (line->kind) {
     case DCONFDB_LINE_SETS: check_set(lint, at, path, &line->text); break;
     case DCONFDB_LINE_LOCKS: check_lock(lint, at, path); break;
-    case DCONFDB_LINE_WRONG: find(LINE, at, "%.*s", (int)line->text.len, (const char *)line->text.at); break;
+    case DCONFDB_LINE_WRONG: find(DCONFDB_FOUND_LINE, at, "%.*s", (int)line->text.len, (const char *)line->text.at); break;
     default: break;
     }
     g_free(path);

@@ -141,7 +141,7 @@ void find_not_taken(Place at, const char *path, const GPtrArray *keys, GVariant 
     if (!first->takes)
         first->takes = words_of_range(first->key);
     char *text = shown(value);
-    find(NOT_TAKEN, at, "%s: %s is not %s", path, text, first->takes);
+    find(DCONFDB_FOUND_NOT_TAKEN, at, "%s: %s is not %s", path, text, first->takes);
     g_free(text);
 }
 
@@ -149,7 +149,7 @@ void find_other_type(Place at, const char *path, const GPtrArray *keys, GVariant
 {
     const Known *first = g_ptr_array_index(keys, 0);
     char *text = g_variant_type_dup_string(g_settings_schema_key_get_value_type(first->key));
-    find(OTHER_TYPE, at, "%s: the value is of type %s, and the key of type %s", path, g_variant_get_type_string(value), text);
+    find(DCONFDB_FOUND_OTHER_TYPE, at, "%s: the value is of type %s, and the key of type %s", path, g_variant_get_type_string(value), text);
     g_free(text);
 }
 

@@ -256,12 +256,12 @@ static int start_at(const char *folder, Watching *watch)
 /* Why a text is no path, or NULL. */
 static const char *fault_of_path(const char *path)
 {
-    bool is_short = false;
-    switch (dconfdb_path_kind((const uint8_t *)path, strlen(path), DCONFDB_PATH_WANTED, false, &is_short)) {
-    case DCONFDB_PATH_NOT_ABSOLUTE: return "NotAbsolute";
-    case DCONFDB_PATH_DOUBLE_SLASH: return "DoubleSlash";
-    default: return is_short ? NULL : "TooLong";
-    }
+    static const char *const faults[] = {[DCONFDB_REFUSED_NOT] = NULL,
+                                         [DCONFDB_REFUSED_NOT_ABSOLUTE] = "NotAbsolute",
+                                         [DCONFDB_REFUSED_HAS_NUL] = "HasNul",
+                                         [DCONFDB_REFUSED_DOUBLE_SLASH] = "DoubleSlash",
+                                         [DCONFDB_REFUSED_TOO_LONG] = "TooLong"};
+    return faults[dconfdb_refused_as((const uint8_t *)path, strlen(path))];
 }
 
 /* What the words ask for. */

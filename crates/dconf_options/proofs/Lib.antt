@@ -1,2 +1,3 @@
 pub mod OptionProofs
 pub mod ProgramProofs
+pub mod StatusProofs

@@ -166,17 +166,24 @@ one r word l h = of_four (r.wants == 1) (r.wants == 2) r.is_over _ _ _ _ folder_
 -- ---- at the end
 
 abbrev end_by : Bool → Bool → Bool → Said
-end_by is lint has = if not is then Said.Lacking else if not lint && not has then Said.NoName else Said.Nothing
+end_by is lint has = if not is then Said.Lacking else if not lint && not has then Said.NoName else if not has then Said.Machines else Said.Nothing
 
 done_by : (is lint has : Bool) → end_by is lint has ≡ Said.Nothing → is ≡ true
 done_by false lint has e = absurd (let bad : Said.Lacking ≡ Said.Nothing = e in cc)
 done_by true lint has e = refl
 
-named_by : (is lint has : Bool) → end_by is lint has ≡ Said.Nothing → lint ≡ false → has ≡ true
-named_by is lint true e l = refl
-named_by is true false e l = absurd (let bad : true ≡ false = l in cc)
-named_by false false false e l = absurd (let bad : Said.Lacking ≡ Said.Nothing = e in cc)
-named_by true false false e l = absurd (let bad : Said.NoName ≡ Said.Nothing = e in cc)
+named_by : (is lint has : Bool) → end_by is lint has ≡ Said.Nothing → has ≡ true
+named_by is lint true e = refl
+named_by false lint false e = absurd (let bad : Said.Lacking ≡ Said.Nothing = e in cc)
+named_by true true false e = absurd (let bad : Said.Machines ≡ Said.Nothing = e in cc)
+named_by true false false e = absurd (let bad : Said.NoName ≡ Said.Nothing = e in cc)
+
+machines_by : (is lint has : Bool) → end_by is lint has ≡ Said.Machines → (lint ≡ true) × (has ≡ false)
+machines_by false lint has e = absurd (let bad : Said.Lacking ≡ Said.Machines = e in cc)
+machines_by true true false e = (refl, refl)
+machines_by true true true e = absurd (let bad : Said.Nothing ≡ Said.Machines = e in cc)
+machines_by true false false e = absurd (let bad : Said.NoName ≡ Said.Machines = e in cc)
+machines_by true false true e = absurd (let bad : Said.Nothing ≡ Said.Machines = e in cc)
 
 done : (r : OptionsRead) → options_end r ≡ Said.Nothing → r.wants ≡ 0
 done r e = zero_if r.wants (done_by (r.wants == 0) r.is_lint r.has_name e)
@@ -190,4 +197,5 @@ no_word_is_lost r word argument = record {
   one = one r word;
   done = done r;
   named = named_by (r.wants == 0) r.is_lint r.has_name;
+  machines = machines_by (r.wants == 0) r.is_lint r.has_name;
 }

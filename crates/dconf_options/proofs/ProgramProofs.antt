@@ -2,7 +2,7 @@
 use Rattle.std.proofs.Common.{ℕ, List, ◌≡◌, ◌≢◌, ◌<◌, Bool, true, false, refl, nat_lt, arith}
 use Rattle.std.specs.Prelude.{codes, not, ◌&&◌, ◌||◌, ◌==◌, if◌then◌else◌}
 use Rattle.std.specs.Str.{bytes_eq}
-use Rattle.dconf_options.specs.Programs.{OneProgramRuns, asks_home, changes, dconfs_program, forgets, helped, is_dconf, is_proved, own_program, program_of}
+use Rattle.dconf_options.specs.Programs.{OneProgramRuns, changes, dconfs_program, helped, is_dconf, is_proved, own_program, program_of}
 use Rattle.dconf_options.specs.declared.programs.Line.{Line}
 use Rattle.dconf_options.specs.declared.programs.Program.{Program}
 

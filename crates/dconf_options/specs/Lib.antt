@@ -3,3 +3,4 @@ pub mod Options
 pub mod OptionLaws
 pub mod Placings
 pub mod Programs
+pub mod Statuses

@@ -19,9 +19,11 @@ pub record IsReadOnce (r : OptionsRead) (word argument : List ℕ) : Type 0 wher
   pub name : r.wants ≡ 0 → r.is_over ≡ true → r.is_lint ≡ true → (option_after r word).said ≡ Said.Name
   -- `watch` has one PATH
   pub one : r.is_lint ≡ false → r.has_name ≡ true → (option_after r word).said ≢ Said.Name
-  -- it is done only if no option waits for its argument, and, for `watch`, there is a name
+  -- it is done only if no option waits for its argument, and there is a name
   pub done : options_end r ≡ Said.Nothing → r.wants ≡ 0
-  pub named : options_end r ≡ Said.Nothing → r.is_lint ≡ false → r.has_name ≡ true
+  pub named : options_end r ≡ Said.Nothing → r.has_name ≡ true
+  -- the machine's folder is for `lint` alone, and only if nothing is named
+  pub machines : options_end r ≡ Said.Machines → (r.is_lint ≡ true) × (r.has_name ≡ false)
 
 abbrev pub NoWordIsLost : Type 0
 NoWordIsLost = (r : OptionsRead) (word argument : List ℕ) → IsReadOnce r word argument

@@ -5,7 +5,7 @@ use Rattle.dconf_options.specs.declared.words.Word.{Word}
 use Rattle.dconf_options.specs.declared.options.OptionsRead.{OptionsRead}
 use Rattle.dconf_options.specs.declared.options.Taken.{Taken}
 use Rattle.dconf_options.specs.declared.options.Said.{Said}
-use Rattle.dconf_options.specs.declared.options.Said.TheVariants.{Nothing, Folder, Schema, Name, Help, Unknown, Twice, Excluded, TooMany, Lacking, NoName, Json}
+use Rattle.dconf_options.specs.declared.options.Said.TheVariants.{Nothing, Folder, Schema, Name, Help, Unknown, Twice, Excluded, TooMany, Lacking, NoName, Json, Machines}
 
 abbrev pub read_with : OptionsRead → ℕ → Bool → Bool → Bool → Bool → OptionsRead
 read_with r wants over folder user name =
@@ -56,7 +56,7 @@ option_after r word =
 
 -- when there is no further word; without a name `lint` looks at what `update` would make
 abbrev pub options_end : OptionsRead → Said
-options_end r = if not (r.wants == 0) then Lacking else if not r.is_lint && not r.has_name then NoName else Nothing
+options_end r = if not (r.wants == 0) then Lacking else if not r.is_lint && not r.has_name then NoName else if not r.has_name then Machines else Nothing
 
 abbrev pub said_number : Said → ℕ
 said_number Nothing = 0
@@ -71,3 +71,4 @@ said_number TooMany = 8
 said_number Lacking = 9
 said_number NoName = 10
 said_number Json = 11
+said_number Machines = 12

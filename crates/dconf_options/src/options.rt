@@ -49,6 +49,8 @@ pub enum Said {
     NoName,
     /// Findings are to be written as JSON.
     Json,
+    /// `lint` looks at the folder that `update` takes if none is named.
+    Machines,
 }
 
 /// What is said of a word, and what the words up to it say.
@@ -82,10 +84,14 @@ pub fn options_end(read: &OptionsRead) -> Said
     if !read.is_lint && !read.has_name {
         return Said::NoName;
     }
+    if !read.has_name {
+        return Said::Machines;
+    }
     Said::Nothing
 }
 
-/// The same as a number: 0 nothing, 1 a folder, 2 a schema, 3 a name, 4 help, 5 unknown, 6 twice, 7 excluded, 8 too many, 9 lacking, 10 no name, 11 JSON.
+/// The same as a number: 0 nothing, 1 a folder, 2 a schema, 3 a name, 4 help, 5 unknown, 6 twice, 7 excluded, 8 too many, 9 lacking, 10 no name, 11 JSON, 12 the
+/// machine's folder.
 pub fn said_number(said: Said) -> u32
     ensures { result ≡ said_number said }
 {
@@ -102,6 +108,7 @@ pub fn said_number(said: Said) -> u32
         Said::Lacking => 9,
         Said::NoName => 10,
         Said::Json => 11,
+        Said::Machines => 12,
     }
 }
 

@@ -6,7 +6,6 @@ use Rattle.dconf_model.specs.Paths.{ends_with_slash, has_two_slashes, has_zero_b
 use Rattle.dconf_model.proofs.ParentLaws.{by_bool}
 use Rattle.dconf_model.proofs.PathMaps.{no_truth}
 use Rattle.dconf_texts.specs.Kinds.{end_of, kind_below, kind_of}
-use Rattle.dconf_texts.specs.declared.kinds.PathKind.{PathKind}
 use Rattle.dconf_texts.specs.declared.kinds.PathKind.TheVariants.{Key, Directory, HasNul, DoubleSlash}
 
 abbrev pub begins_in_slash : List ℕ → Bool

@@ -1,3 +1,5 @@
 pub mod KindLaws
+pub mod ReadingLaws
+pub mod RefusedLaws
 pub mod StringLaws
 pub mod WantedLaws

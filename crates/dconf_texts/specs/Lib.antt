@@ -1,2 +1,5 @@
+pub mod Findings
 pub mod Kinds
+pub mod Readings
+pub mod Refused
 pub mod Strings

@@ -1,9 +1,6 @@
--- Bytes as a string of JSON. RFC 8259, section 7, by the kit's `json`; which bytes are a character: Table 3-7 of the Unicode Standard, by the kit's `bstr`.
-use Rattle.std.specs.Prelude.{◌≡◌, ℕ, zero, suc, List, [], ◌∷◌, Option, Some, None, length, drop, encode_utf8_all}
+-- Bytes as characters: which bytes are one, Table 3-7 of the Unicode Standard, by the kit's `bstr`.
+use Rattle.std.specs.Prelude.{ℕ, zero, suc, List, [], ◌∷◌, Option, Some, None, length, drop, encode_utf8_all}
 use Rattle.bstr.specs.Utf8.{decoded, or_replacement}
-use Rattle.json.specs.Lex.{tokens}
-use Rattle.json.specs.Print.{print}
-use Rattle.json.specs.Token.{string}
 
 -- how many bytes are read at once: a character's, or one that is no part of any
 abbrev pub read_at_once : Option ℕ → ℕ → ℕ
@@ -23,8 +20,3 @@ chars_of bs = chars_from (length bs) bs
 -- as UTF-8
 abbrev pub as_utf8 : List ℕ → List ℕ
 as_utf8 bs = encode_utf8_all (chars_of bs)
-
--- a string of that, in quotation marks, and with the escapes that it needs; whoever reads it finds that
-pub record IsStringOf (bytes text : List ℕ) : Type 0 where
-  pub is : text ≡ print (string (as_utf8 bytes) ∷ [])
-  pub reads_back : tokens text ≡ string (as_utf8 bytes) ∷ []

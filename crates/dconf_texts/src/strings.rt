@@ -1,28 +1,18 @@
-//! Bytes as a string.
+//! Bytes as characters.
 ghost use Rattle.std.specs.Prelude.{◌≡◌, ◌<◌, ◌≤◌, IfOk, length, string_bytes};
 ghost use Rattle.bstr.specs.Utf8.{decoded, or_replacement};
-ghost use Rattle.dconf_texts.specs.Strings.{IsStringOf, as_utf8, read_at_once};
+ghost use Rattle.dconf_texts.specs.Strings.{as_utf8, read_at_once};
 
 use bstr::decode_utf8;
-use json::Writer;
 use std::alloc::{AllocError, Global};
 
 /// What stands for a byte that is no part of a character.
 const NO_CHARACTER: char = '\u{FFFD}';
 
-/// Any bytes, as a string in quotation marks: its characters, and U+FFFD for each byte that is no part of one.
+/// The characters of any bytes, and U+FFFD for each byte that is no part of one.
 ///
 /// The error is a failed allocation.
-pub fn string_of(alloc: Global, bytes: &[u8]) -> Result<String, AllocError>
-    ensures { IfOk result (λ text. IsStringOf bytes.now (string_bytes text)) }
-{
-    let read = read_all(alloc, bytes)?;
-    let mut writer = Writer::new(Vec::new(alloc));
-    writer.string(read.as_str())?;
-    Ok(String::from_utf8(writer.into_inner()).unwrap())
-}
-
-fn read_all(alloc: Global, bytes: &[u8]) -> Result<String, AllocError>
+pub(crate) fn read_all(alloc: Global, bytes: &[u8]) -> Result<String, AllocError>
     ensures { IfOk result (λ text. string_bytes text ≡ as_utf8 bytes.now) }
 {
     let mut text = String::new(alloc);

@@ -3,15 +3,16 @@ ghost use Rattle.std.specs.Prelude.{◌≡◌, false, true};
 ghost use Rattle.dconf_options.specs.Options.{option_after, options_end, said_number};
 ghost use Rattle.dconf_options.specs.Placings.{placing_number, placing_of};
 ghost use Rattle.dconf_options.specs.Programs.{asks_home, forgets, program_number, program_of};
+ghost use Rattle.dconf_options.specs.Statuses.{lint_status};
 
 use dconf_options::{
-    Line, OptionsRead, asks_home, forgets, option_after, options_end, placing_number, placing_of,
-    program_number, program_of, said_number,
+    Line, OptionsRead, asks_home, forgets, lint_status, option_after, options_end, placing_number,
+    placing_of, program_number, program_of, said_number,
 };
 
 /// What is said of the next word, or at the end of all: 0 nothing, 1 a folder is given, 2 a schema, 3 a name, 4 the help is asked for; or why it is
 /// refused: 5 there is no such option, 6 it is given twice, 7 two exclude each other, 8 there is a name too many, 9 an option has no argument, 10
-/// no name is given; 11 the findings are wanted as JSON. What is given begins so many bytes behind the start of the word.
+/// no name is given; 11 the findings are wanted as JSON; 12 the folder is looked at that `update` takes if none is named. What is given begins so many bytes behind the start of the word.
 #[unsafe(no_mangle)]
 pub extern "C" fn dconfdb_option(
     read: &mut OptionsRead,
@@ -32,6 +33,14 @@ pub extern "C" fn dconfdb_option(
     *read = taken.read;
     *from = taken.from;
     said_number(taken.said)
+}
+
+/// With which status `lint` ends, by how much was found, and whether all that was written.
+#[unsafe(no_mangle)]
+pub extern "C" fn dconfdb_lint_status(found: usize, is_written: bool) -> u32
+    ensures { result ≡ lint_status found is_written }
+{
+    lint_status(found, is_written)
 }
 
 /// What is said of an argument of `--schema`, by whether it has a `:`, the path behind that is a directory's, there is the schema before it, and that has

@@ -1,7 +1,7 @@
 //! Which program a command line is for; and the words of `watch` and of `lint`.
 use dconf_options::{
-    Line, OptionsRead, asks_home, forgets, option_after, options_end, placing_number, placing_of,
-    program_number, program_of, said_number,
+    Line, OptionsRead, asks_home, forgets, lint_status, option_after, options_end, placing_number,
+    placing_of, program_number, program_of, said_number,
 };
 use std::test::Fail;
 
@@ -63,7 +63,11 @@ fn watch_refuses_the_others() -> bool {
 
 fn lint_takes_its_words() -> bool {
     said(LINT, &["k", "l"]) == 0
-        && said(LINT, &[]) == 0
+        && said(LINT, &[]) == 12
+        && said(LINT, &["--"]) == 12
+        && lint_status(0, true) == 0
+        && lint_status(1, true) == 1
+        && lint_status(0, false) == 1
         && said(LINT, &["--schemas"]) == 9
         && said(LINT, &["--json"]) == 11
         && said(LINT, &["--json=x"]) == 5

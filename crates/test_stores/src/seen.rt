@@ -6,7 +6,8 @@ use dconf_seen::{
     shown_as,
 };
 use dconf_texts::{
-    PathKind, is_short, kind_at, kind_below, kind_of, number_of_kind, string_of, wanted_kind,
+    PathKind, cause_number, finding_line, is_glibs, is_short, kind_at, kind_below, kind_of,
+    line_behind, number_of_kind, refused_as, wanted_kind,
 };
 use dconf_told::{
     DconfdbFileSeen, DconfdbKeyAsked, DconfdbView, DconfdbWaits, are_seen_alike, is_changed,
@@ -287,15 +288,59 @@ fn are_kinds() -> bool {
 /// A character of three bytes whose last one is missing, a byte that begins none, and what must be escaped.
 const NOT_ALL_UTF8: &[u8] = b"\xe2\x82\xff\xe2\x82\xac\"\n";
 
+/// What is printed of a finding of kind 3 at line 7 of a file, without what is nearest, or with `n`.
+fn is_printed(
+    alloc: Global,
+    is_json: bool,
+    file: &[u8],
+    text: &[u8],
+    near: bool,
+    wanted: &str,
+) -> Result<bool, AllocError> {
+    let line = finding_line(alloc, is_json, 3, file, 7, text, near, b"n")?;
+    Ok(*line == *wanted.as_bytes())
+}
+
 #[test]
-fn makes_strings_of_json(rt: HostRuntime) -> Result<(), Fail> {
+fn prints_findings(rt: HostRuntime) -> Result<(), Fail> {
     let alloc = rt.alloc();
-    let read = string_of(alloc, NOT_ALL_UTF8)?;
-    let wanted = "\"\u{fffd}\u{fffd}\u{fffd}\u{20ac}\\\"\\n\"";
-    if read.as_str() != wanted || string_of(alloc, b"")?.as_str() != "\"\"" {
-        return Err(Fail::new("bytes are another string"));
-    }
+    let object = "{\"file\":\"f\",\"line\":7,\"kind\":\"type\",\"text\":\"t\",\"nearest\":null}\n";
+    let near =
+        "{\"file\":\"f\",\"line\":7,\"kind\":\"type\",\"text\":\"t; the nearest is n\",\"nearest\":\"n\"}\n";
+    let odd =
+        "{\"file\":\"\u{fffd}\u{fffd}\u{fffd}\u{20ac}\\\"\\n\",\"line\":7,\"kind\":\"type\",\"text\":\"t\",\"nearest\":null,\"bytes\":\"e282ffe282ac220a\"}\n";
+    assert!(rt; is_printed(alloc, true, b"f", b"t", false, object)?);
+    assert!(rt; is_printed(alloc, true, b"f", b"t", true, near)?);
+    assert!(rt; is_printed(alloc, true, NOT_ALL_UTF8, b"t", false, odd)?);
+    assert!(rt;
+        is_printed(
+            alloc,
+            false,
+            b"f",
+            b"t\x1b\x7f\n",
+            false,
+            "f:7: t\\033\\177\\012\n"
+        )?
+    );
+    assert!(rt; is_printed(alloc, false, b"f", b"t", true, "f:7: t; the nearest is n\n")?);
+    assert!(rt; are_read());
     Ok(())
+}
+
+fn are_read() -> bool {
+    line_behind(b"") == 1
+        && line_behind(b"a\nb\r\n") == 3
+        && is_glibs(19)
+        && !is_glibs(0)
+        && !is_glibs(32)
+        && cause_number(19, true) == 0
+        && cause_number(32, false) == 1
+        && cause_number(0, false) == 2
+        && refused_as(b"/") == 0
+        && refused_as(b"/a") == 0
+        && refused_as(b"a//") == 1
+        && refused_as(b"/\0//") == 2
+        && refused_as(b"//") == 3
 }
 
 #[test]

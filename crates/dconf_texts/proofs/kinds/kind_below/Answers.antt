@@ -1,6 +1,6 @@
-use Rattle.std.proofs.Common.{rules, ◌≡◌, ◌∙◌, [], ◌∷◌, ap, cond, false, sym, List, ℕ, length}
+use Rattle.std.proofs.Common.{rules, ◌≡◌, ◌∙◌, [], ◌∷◌, ap, cond, false, sym}
 use Rattle.dconf_model.specs.Paths.{starts_with_slash}
-use Rattle.dconf_texts.specs.Kinds.{kind_below, kind_of}
+use Rattle.dconf_texts.specs.Kinds.{kind_of}
 use Rattle.dconf_texts.specs.declared.kinds.PathKind.TheVariants.{Absolute}
 use Rattle.dconf_texts.proofs.KindLaws.{behind_slash, empty_below, is_empty}
 use Rattle.dconf_texts.proofs.kinds.kind_below.Goals as goal
