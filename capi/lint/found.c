@@ -8,10 +8,13 @@
 /* As `update` says it. */
 static void say_unknown(const char *file, int fault)
 {
-    if (fault != 0)
-        fprintf(stderr, "error: Device %s\n", file);
-    else
-        fprintf(stderr, "error: %s:1: BadLine\n", file);
+    const DconfdbFaultMet met = {.of = DCONFDB_FAULT_OF_KIND, .number = (uint32_t)fault};
+    DconfdbSentence sentence;
+    dconfdb_sentence(&met, &sentence);
+    switch (sentence.says) {
+    case DCONFDB_SAYS_NO_KIND: fprintf(stderr, "error: %s:1: BadLine\n", file); break;
+    default: fprintf(stderr, "error: Device %s\n", file); break;
+    }
 }
 
 char *found_folder(void)
