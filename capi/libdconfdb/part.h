@@ -26,6 +26,7 @@ typedef struct {
     DconfdbLayer layer;
     Fault *fault;    /* NULL: there is none */
     bool is_settled; /* this store knows that it is on the disk; under its `refreshing` */
+    bool is_known;   /* the proved call has said that a file of the same state is kept; under the same */
     char name[];
 } Part;
 
@@ -94,6 +95,7 @@ static inline uint32_t part_sameness(const Part *part, const FileState *state)
 /* What was read is what the part is of. */
 static inline void part_was_read(Part *part, uint64_t opened)
 {
+    part->is_known = false;
     atomic_store_explicit(&part->opened, opened, memory_order_relaxed);
 }
 

@@ -38,12 +38,28 @@ static bool __attribute__((noinline)) may_still_be_read(Part *old, const FileSta
     return is_same;
 }
 
-/* Whether the old part is of what has the file's name, as far as stat() says. */
+/* Eight numbers of 64 bits; of the last, whether it is there, but one byte counts. A ninth has to be compared, too. */
+_Static_assert(sizeof(FileState) == 8 * sizeof(uint64_t), "each field of a state is compared");
+
+static bool are_same(const FileState *one, const FileState *other)
+{
+    return one->touched.nanoseconds == other->touched.nanoseconds && one->touched.seconds == other->touched.seconds &&
+           one->written.nanoseconds == other->written.nanoseconds && one->written.seconds == other->written.seconds &&
+           one->inode == other->inode && one->size == other->size && one->device == other->device && one->is_there == other->is_there;
+}
+
+/* Whether the old part is of what has the file's name, as far as stat() says. The call answers by these states and by what is known of the part, so its
+ * answer is kept while all of that is the same: each read ends it (part_was_read). */
 static bool is_as_said(const Look *look, Part *old, size_t at)
 {
     FileState state;
     int fault = file_look(look->store->files[at], &state);
-    switch (part_beside(old, DCONFDB_PART_KEEP, &state, fault)) {
+    bool is_same = fault == 0 && are_same(&old->state, &state);
+    if (is_same && old->is_known)
+        return true;
+    uint32_t beside = part_beside(old, DCONFDB_PART_KEEP, &state, fault);
+    old->is_known = is_same && beside == DCONFDB_BESIDE_SAME;
+    switch (beside) {
     case DCONFDB_BESIDE_SAME: return true;
     case DCONFDB_BESIDE_IF_READABLE: return may_still_be_read(old, &state);
     default: return false;
