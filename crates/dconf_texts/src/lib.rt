@@ -9,13 +9,13 @@ ghost use Rattle.dconf_texts.specs.Readings.{CausesAreThere};
 mod findings;
 mod kinds;
 mod readings;
-mod refused;
+mod refusals;
 mod strings;
 
 pub use findings::finding_line;
 pub use kinds::{PathKind, is_short, kind_at, kind_below, kind_of, number_of_kind, wanted_kind};
 pub use readings::{TextCause, cause_number, cause_of, is_glibs, line_behind};
-pub use refused::{refused_as, the_first_fault_is_told};
+pub use refusals::{refused_as, the_first_fault_is_told};
 
 /// A text is the path of a key exactly if it is of a key's kind and not too long, and so is a directory's.
 pub fn kinds_are_paths()
