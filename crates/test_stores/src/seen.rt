@@ -323,11 +323,11 @@ fn prints_findings(rt: HostRuntime) -> Result<(), Fail> {
         )?
     );
     assert!(rt; is_printed(alloc, false, b"f", b"t", true, "f:7: t; the nearest is n\n")?);
-    assert!(rt; are_read());
+    assert!(rt; are_lines_and_causes());
     Ok(())
 }
 
-fn are_read() -> bool {
+fn are_lines_and_causes() -> bool {
     line_behind(b"") == 1
         && line_behind(b"a\nb\r\n") == 3
         && is_glibs(19)
