@@ -134,7 +134,7 @@ int part_faults(void)
         return 0;
     bool is_bad = any_bool() && part_blame(part, &fault, &error);
     CHECK((part->fault != NULL) == is_bad, "answer: a fault is kept, or no memory is left");
-    CHECK(part_is_readable(part) == (!is_bad || fault.errnum == 0), "answer: what could be opened");
+    CHECK(part_errnum(part) == (is_bad ? (uint32_t)fault.errnum : 0), "answer: why it can't be read");
     CHECK(part_ref(part) == part, "answer: it is the same, had once more");
     char *name = malloc(2), *was = name;
     bool is_gone = any_bool();
