@@ -54,18 +54,17 @@ DconfdbTried tried_edit(const Batch *batch, size_t number, bool is_written, GTre
         .is_left_out = batch_is_left_out(batch, number),
         .is_now = batch->moments[number] == UINT64_MAX,
     };
-    uint32_t ask = DCONFDB_TRIED_BEGINS;
-    while ((ask = dconfdb_tried_asks(ask, &tried)) != DCONFDB_TRIED_OVER) {
-        switch (ask) {
-        case DCONFDB_TRIED_AGAIN:
-            tried.is_again = is_said_again(last, edit->path, number);
-            break;
-        case DCONFDB_TRIED_ABOVE:
-            tried.is_again = is_said_above(last, edit->path, number);
-            break;
-        default: /* DCONFDB_TRIED_THERE */
-            tried.is_there = dconfdb_snapshot_has_edit(then, edit);
-        }
+    /* In the order in which the call asks. */
+    uint32_t ask = dconfdb_tried_asks(DCONFDB_TRIED_BEGINS, &tried);
+    if (ask == DCONFDB_TRIED_AGAIN) {
+        tried.is_again = is_said_again(last, edit->path, number);
+        ask = dconfdb_tried_asks(ask, &tried);
     }
+    if (ask == DCONFDB_TRIED_ABOVE) {
+        tried.is_again = is_said_above(last, edit->path, number);
+        ask = dconfdb_tried_asks(ask, &tried);
+    }
+    if (ask == DCONFDB_TRIED_THERE)
+        tried.is_there = dconfdb_snapshot_has_edit(then, edit);
     return tried;
 }

@@ -1,16 +1,16 @@
 /* What inotify tells of a store's files; when they are looked at, a proved machine decides. */
 #define _GNU_SOURCE
 #include "watched.h"
-#include "clocks.h"
 #include "held.h"
 
 #include <stdlib.h>
 #include <string.h>
 #include <sys/inotify.h>
 #include <sys/ioctl.h>
+#include <time.h>
 #include <unistd.h>
 
-enum { NANOSECONDS = 1000 };
+enum { SECOND = 1000000, NANOSECONDS = 1000 };
 
 Watch *watch_new(uint32_t who)
 {
@@ -103,7 +103,9 @@ int watch_descriptor(const Watch *watch)
 /* Microseconds of the monotonic clock. */
 static uint64_t time_now(void)
 {
-    return clock_nanoseconds(CLOCK_MONOTONIC) / NANOSECONDS;
+    struct timespec now = {0, 0};
+    clock_gettime(CLOCK_MONOTONIC, &now);
+    return (uint64_t)now.tv_sec * SECOND + (uint64_t)now.tv_nsec / NANOSECONDS;
 }
 
 /* As far as timers go. */
