@@ -129,7 +129,7 @@ uint32_t dconfdb_tried_asks(uint32_t asked, const DconfdbTried *edit)
     return asked + 1;
 }
 
-/* harness tried: unwind 6 */
+/* harness tried: unwind 5 */
 int tried(void)
 {
     const size_t at = 0; /* the last one has none behind it */
