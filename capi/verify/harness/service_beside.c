@@ -14,7 +14,7 @@ static void main_ends(const void *mutex)
     is_amid = false;
 }
 
-/* harness service_try_beside: unwind 5, with glib.c */
+/* harness service_try_beside: unwind 3, loops made_of.0:2 made_of.1:2 is_held.0:4 pthread_mutex_unlock.0:4 take.0:4 is_answered.0:4 all_are_answered_or_wait.0:4 change_free.0:4 tell_change.0:2 tell_change.1:4 tell_others.0:5, sliced, with glib.c */
 int service_try_beside(void)
 {
     at_mutex = main_ends;

@@ -3,7 +3,7 @@
 
 /* narrows libdconfdb/dconfdb.h: char text[512]; => char text[8]; */
 
-/* harness service_try: unwind 5, with glib.c */
+/* harness service_try: unwind 3, loops made_of.0:2 made_of.1:2 is_held.0:4 pthread_mutex_unlock.0:4 take.0:4 is_answered.0:4 all_are_answered_or_wait.0:4 change_free.0:4 tell_change.0:2 tell_change.1:4 tell_others.0:5, sliced, with glib.c */
 int service_try(void)
 {
     tries_once();
