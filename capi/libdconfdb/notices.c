@@ -127,31 +127,39 @@ static char *differences(Notices *it, DconfdbStore *store, uint32_t *handed, siz
     return paths;
 }
 
-/* Takes what happened, as who dispatches asks for a look, and looks. The clock comes first: if it can't be set nothing is taken, so
- * that the file stays readable. */
-static char *look(Notices *it, DconfdbStore *store, size_t *size, DconfdbError *error)
+/* Takes what happened, as who dispatches asks for a look. The clock comes first: if it can't be set nothing is taken, so that the file stays readable. */
+static bool begin_look(Notices *it, DconfdbStore *store, DconfdbError *error)
 {
+    if (!it->watch)
+        return true;
     if (!set_clock(it, 0, a_second)) {
         refuse_file(error, errno, dconfdb_store_folder(store), nowhere);
-        return NULL;
+        return false;
     }
     if (watch_ask(it->watch) == WATCH_FILES)
         watch_anew(it, store);
-    uint32_t handed;
-    char *paths = differences(it, store, &handed, size, error);
-    /* If it can't be set for that it is readable after the second. */
-    (void)set_clock_at(it, watch_answer(it->watch, handed == DCONFDB_HANDED_WHOLE));
-    return paths;
+    return true;
+}
+
+/* If the clock can't be set for that it is readable after the second. */
+static void end_look(Notices *it, uint32_t handed)
+{
+    if (it->watch)
+        (void)set_clock_at(it, watch_answer(it->watch, handed == DCONFDB_HANDED_WHOLE));
 }
 
 char *dconfdb_store_dispatch(DconfdbStore *store, size_t *size, DconfdbError *error)
 {
     Notices *it = notices_of(store);
+    char *paths = NULL;
+    uint32_t handed;
     pthread_mutex_lock(&it->lock);
     if (!it->told)
         it->told = dconfdb_store_snapshot(store);
-    uint32_t handed;
-    char *paths = it->watch ? look(it, store, size, error) : differences(it, store, &handed, size, error);
+    if (begin_look(it, store, error)) {
+        paths = differences(it, store, &handed, size, error);
+        end_look(it, handed);
+    }
     pthread_mutex_unlock(&it->lock);
     return paths;
 }
